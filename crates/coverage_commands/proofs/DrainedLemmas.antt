@@ -15,7 +15,7 @@ use Rattle.session_book.specs.JobView.{IsJob, IsTaskOf}
 use Rattle.task_run.specs.Meaning.{Walk, solo}
 use Rattle.task_run.specs.Ran.{walk_from}
 use Rattle.job_run.specs.Outcomes.{AreExtras, HasEnded, IsOutcomeBy}
-use Rattle.job_run.specs.Meaning.{solo_result, walk_by, no_finals, HasRun}
+use Rattle.job_run.specs.Meaning.{solo_result, walk_by, no_finals}
 use Rattle.job_run.specs.Sets.{SetsView}
 use Rattle.job_run.specs.Tasks.{done_result, no_result}
 use Rattle.job_run.specs.declared.outcome.Done.{Done}
@@ -29,10 +29,15 @@ use Rattle.early_report.specs.declared.drains.Stage.{Stage}
 use Rattle.brk_table.specs.Meaning.{TablesView}
 use Rattle.job_text.specs.Meaning.{lines_of}
 use Rattle.job_text.proofs.WholeJob.{job_keeps}
-use Rattle.coverage_commands.specs.Meaning.{IsWritten, Answers, ReportedEarly, SinkChange, AreasChange, AreDrained, IsDrained, closing_of, other_tasks, Reports}
-use Rattle.job_input.specs.Meaning.{SourceChange, CameJob, to_end}
+use Rattle.refusals.specs.Meaning.{no_memory_line}
+use Rattle.coverage_commands.proofs.AnswerLemmas.{ran, ready_alone, wanting_run}
+use Rattle.coverage_commands.proofs.ReadyLemmas.{unnamed}
+use Rattle.coverage_commands.proofs.WordLemmas.{any_job}
+use Rattle.coverage_commands.specs.Meaning.{IsWritten, Answers, SinkChange, AreasChange, AreDrained, IsDrained, closing_of, other_tasks, Reports}
+use Rattle.job_input.specs.Meaning.{SourceChange}
+use Rattle.job_input.specs.Inputs.{CameJob, to_end}
 use Rattle.job_tables.specs.Meaning.{Match}
-use Rattle.coverage_commands.specs.declared.words.Command.TheVariants.{Early}
+use Rattle.command_words.specs.declared.words.Command.TheVariants.{Early}
 
 -- ---- a session and its drain
 
@@ -211,13 +216,13 @@ are_drained items j places tasks sets lists job outcome extras = record { each =
 -- ---- the answer
 
 pub reported_early : (s : SourceChange) (j : JobView) (tables : TablesView) (a : AreasChange) (k : SinkChange) (answer : ℕ) (drained : ℕ → Option ℕ) (text : List ℕ) → CameJob to_end s j → Match j tables →
-    (run : HasRun j tables.places a.before a.after) → AreDrained j tables.places drained → Reports solo j tables run.sets (λ results sets. early_of j tables results sets drained) text → IsWritten 0 text k answer → Answers Early s a k answer
-reported_early s j tables a k answer drained text came match' ran are reps told = record {
-  status = 0;
-  text = text;
-  cause = ReportedEarly (refl, refl) (record { job = j; tables = tables; drained = drained; came = record { came = came; match = match' }; ran = ran; are_drained = are; reports = reps });
-  told = told;
-}
+    AreDrained j tables.places drained → Reports solo j tables a (λ results sets. early_of j tables results sets drained) text → IsWritten 0 text k answer → Answers Early s a k answer
+reported_early s j tables a k answer drained text came match' are reps told =
+    ran Early s a k answer text came.bytes _ came.came (ready_alone Early s j tables 0 came refl refl (any_job j) (unnamed j 0) match') (record { drained = drained; are_drained = are; reports = reps }) told
+
+pub wanting_early : (s : SourceChange) (j : JobView) (tables : TablesView) (a : AreasChange) (k : SinkChange) (answer : ℕ) → CameJob to_end s j → Match j tables → IsWritten 7 no_memory_line k answer → Answers Early s a k answer
+wanting_early s j tables a k answer came match' told =
+    wanting_run Early s a k answer came.bytes _ came.came (ready_alone Early s j tables 0 came refl refl (any_job j) (unnamed j 0) match') refl told
 
 -- the values of a job that came keep its rules
 pub job_came : (s : SourceChange) (j : JobView) → CameJob to_end s j → IsJob j

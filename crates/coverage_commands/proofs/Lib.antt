@@ -2,13 +2,9 @@ pub mod AnswerLemmas
 pub mod CountLemmas
 pub mod DrainedLemmas
 pub mod CheckedLemmas
-pub mod CompleteLemmas
-pub mod ExactLemmas
-pub mod VerdictLemmas
 pub mod FileLemmas
-pub mod UntouchedLemmas
-pub mod StopLemmas
-pub mod BehindLemmas
+pub mod OneAnswer
+pub mod ReadyLemmas
+pub mod ServedLemmas
 pub mod TrialLemmas
-pub mod NumberLemmas
 pub mod WordLemmas

@@ -1,5 +1,5 @@
 -- What the program makes of marks files: the union of several, and the listings that one of them marks.
-use Rattle.std.specs.Prelude.{◌≡◌, ℕ, Some, List}
+use Rattle.std.specs.Prelude.{◌≡◌, ℕ, Some, List, length}
 use Rattle.brk_table.specs.Meaning.{TablesView}
 use Rattle.marks_file.specs.Meaning.{MarkedView, rows}
 use Rattle.session_book.specs.Meaning.{JobView}
@@ -8,7 +8,8 @@ use Rattle.table_combine.specs.Meaning.{Difference, first_difference}
 use Rattle.table_combine.specs.Combine.{difference_of}
 use Rattle.table_combine.specs.declared.files.CombineFault.{CombineFault}
 use Rattle.table_combine.specs.declared.files.CombineFault.TheVariants as fault
-use Rattle.coverage_commands.specs.Meaning.{RefusalView, refusal, no_memory_line, bad_marks_line, other_table_line, IsFile, IsNoFile}
+use Rattle.coverage_commands.specs.Meaning.{BeginsWith, IsNoFile}
+use Rattle.refusals.specs.Meaning.{RefusalView, refusal, no_memory_line, bad_marks_line, other_table_line}
 
 -- how files that are not united are told
 abbrev pub combine_refusal : CombineFault → RefusalView
@@ -24,4 +25,4 @@ pub data IsFileRefusal (rest : List ℕ) (r : RefusalView) : Type 0 where
 -- why the bytes behind a job are no file of the session of that number, or want of memory
 pub data IsShowRefusal (j : JobView) (tables : TablesView) (number : ℕ) (rest : List ℕ) (r : RefusalView) : Type 0 where
   NoFile : IsFileRefusal rest r → IsShowRefusal j tables number rest r
-  Other : (modules : List MarkedView) (d : Difference) → IsFile rest modules → first_difference 0 (session_rows j tables number) (rows modules) ≡ Some d → r ≡ refusal 11 (other_table_line d) → IsShowRefusal j tables number rest r
+  Other : (modules : List MarkedView) (d : Difference) → BeginsWith rest modules (length rest) → first_difference 0 (session_rows j tables number) (rows modules) ≡ Some d → r ≡ refusal 11 (other_table_line d) → IsShowRefusal j tables number rest r

@@ -3,8 +3,6 @@ pub mod Changes
 pub mod Checked
 pub mod Files
 pub mod Meaning
-pub mod MeaningOfStatuses
 pub mod Named
 pub mod Ready
-pub mod Refusals
 pub mod Words

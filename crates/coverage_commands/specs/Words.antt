@@ -1,14 +1,17 @@
--- The words of a command, what it reads and makes, and the lines that a refusal is told by.
-use Rattle.std.specs.Prelude.{◌≤◌, if◌then◌else◌}
-use Rattle.coverage_commands.specs.declared.words.Command.{Command}
-use Rattle.coverage_commands.specs.declared.words.Command.TheVariants.{Trial, Unknown}
-use Rattle.coverage_commands.specs.Meaning.{way_of}
+-- Which commands run threads.
+use Rattle.std.specs.Prelude.{Bool, true, false, if◌then◌else◌}
+use Rattle.command_words.specs.declared.words.Command.{Command}
+use Rattle.command_words.specs.declared.words.Command.TheVariants.{Run, Exits, Early, Count, Marks, Trial, Unknown}
 
--- a generated job has 1 to 64 tasks
-abbrev pub HasFewTasks : Command → Type 0
-HasFewTasks (Trial number tasks) = (1 ≤ tasks) × (tasks ≤ 64)
-HasFewTasks c = Unit {0}
+abbrev pub runs_threads : Command → Bool
+runs_threads Run = true
+runs_threads Exits = true
+runs_threads Early = true
+runs_threads Count = true
+runs_threads (Marks name) = true
+runs_threads (Trial number tasks) = true
+runs_threads c = false
 
 -- as it is served without threads
 abbrev pub without_threads : Command → Command
-without_threads c = if (way_of c).runs_threads then Unknown else c
+without_threads c = if runs_threads c then Unknown else c

@@ -1,35 +1,37 @@
 //! The program over any source, sink and areas.
 ghost use Rattle.std.specs.Prelude.{◌≡◌, ◌+◌, ◌<◌, ◌^◌, ◌≤◌, false, true, Some, All, map, length, string_bytes};
 ghost use Rattle.job_tables.specs.Tables.{IsReadyJob};
-ghost use Rattle.job_input.specs.Meaning.{SourceChange, source_change, CameJob, to_end, to_go_on};
-ghost use Rattle.job_input.specs.Inputs.{CameWith};
-ghost use Rattle.coverage_commands.specs.Meaning.{Answers, sink_change, areas_change, command_of, way_of};
+ghost use Rattle.job_input.specs.Meaning.{SourceChange, source_change};
+ghost use Rattle.job_input.specs.Inputs.{CameJob, to_end, to_go_on, CameWith};
+ghost use Rattle.coverage_commands.specs.Meaning.{Answers, IsServed, sink_change, areas_change};
+ghost use Rattle.command_words.specs.Meaning.{command_of};
+ghost use Rattle.coverage_commands.specs.Answers.{reports_of};
 ghost use Rattle.coverage_commands.specs.Changes.{no_change};
 ghost use Rattle.coverage_commands.specs.Named.{IsSessionOf};
-ghost use Rattle.coverage_commands.specs.MeaningOfStatuses.{IsServed};
 ghost use Rattle.job_run.specs.Meaning.{Account};
 ghost use Rattle.report_text.specs.Conditions.{HasFewLines};
-ghost use Rattle.coverage_commands.specs.Words.{without_threads, HasFewTasks};
+ghost use Rattle.command_words.specs.Words.{HasFewTasks};
+ghost use Rattle.coverage_commands.specs.Words.{without_threads};
 
 use crate::combining::answer_combine;
 use crate::counting::answer_count;
 use crate::early::answer_early;
 use crate::ending::answer_ends;
-use crate::lines::{NO_MEMORY, USAGE, bad_schedule_line};
 use crate::proving::answer_prove;
 use crate::ready::{make_named, make_ready};
 use crate::showing::answer_show;
 use crate::status::{Status, status_of, told};
 use crate::trial::answer_trial;
 use crate::verifying::answer_verify;
-use crate::words::{Command, command_of};
 use brk_table::Tables;
 use check_exits::ExitRunner;
+use command_words::{Command, command_of};
 use cov_base::{Name, SessNo};
 use cov_outside::{Gate, Sink, Source};
 use job_run::{run_job, run_job_with};
 use marks_file::write;
 use module_area::Areas;
+use refusals::{NO_MEMORY, USAGE, bad_schedule_line};
 use report_text::{report, table};
 use schedule_play::{ScheduleFault, replay, replay_text};
 use session_book::Job;
@@ -59,7 +61,7 @@ fn answer_tables<
 ) -> Status
     requires ready { IsReadyJob job.now tables.now }
     requires room { A.made areas.old < 2 ^ 61 }
-    ensures { (c : Command) (s : SourceChange) → (way_of c).reports ≡ Some R.course → CameJob to_end s job.now →
+    ensures { (c : Command) (s : SourceChange) → reports_of c ≡ Some R.course → CameJob to_end s job.now →
         Answers c s (areas_change A.ledger A.finals A.made areas.old areas.new) (sink_change K.written K.faults sink.old sink.new) result.0 }
 {
     let (outcome, _) = match run_job_with(rt, alloc, areas, gate, runner, job, tables) {
@@ -87,7 +89,7 @@ fn answer_run<
     gate: &G,
 ) -> Status
     requires { A.made areas.old < 2 ^ 61 }
-    ensures { (c : Command) → (way_of c).reports ≡ Some R.course →
+    ensures { (c : Command) → reports_of c ≡ Some R.course →
         Answers c (source_change S.left S.faults source.old source.new)
         (areas_change A.ledger A.finals A.made areas.old areas.new) (sink_change K.written K.faults sink.old sink.new) result.0 }
 {

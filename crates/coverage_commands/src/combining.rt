@@ -6,13 +6,12 @@ ghost use Rattle.coverage_commands.specs.Changes.{no_change};
 ghost use Rattle.coverage_commands.specs.Files.{combine_refusal};
 ghost use Rattle.job_run.specs.Meaning.{Account};
 
-use crate::lines::NO_MEMORY;
-use crate::refusals::{Refusal, bad_marks, other_table, plain_refusal, read_refusal};
 use crate::status::{Status, status_of, told};
-use crate::words::Command;
+use command_words::Command;
 use cov_outside::{Sink, Source};
 use job_input::read_input;
 use marks_file::write;
+use refusals::{NO_MEMORY, Refusal, bad_marks, other_table, plain_refusal, read_refusal};
 use std::alloc::Global;
 use table_combine::{CombineFault, combine_files};
 

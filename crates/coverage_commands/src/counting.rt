@@ -1,19 +1,20 @@
 //! The counts of a job's sessions.
 ghost use Rattle.std.specs.Prelude.{◌≡◌, None};
 ghost use Rattle.job_tables.specs.Tables.{IsReadyJob};
-ghost use Rattle.job_input.specs.Meaning.{SourceChange, source_change, CameJob, to_end};
+ghost use Rattle.job_input.specs.Meaning.{SourceChange, source_change};
+ghost use Rattle.job_input.specs.Inputs.{CameJob, to_end};
 ghost use Rattle.coverage_commands.specs.Meaning.{Answers, sink_change, first_controlled};
 ghost use Rattle.coverage_commands.specs.Changes.{no_change};
 ghost use Rattle.job_run.specs.Meaning.{Account};
 ghost use Rattle.report_text.specs.Conditions.{HasFewLines};
 
-use crate::lines::NO_MEMORY;
 use crate::ready::make_whole;
 use crate::status::{Status, status_of, told};
-use crate::words::Command;
 use brk_table::Tables;
+use command_words::Command;
 use count_session::count_job;
 use cov_outside::{Gate, Sink, Source};
+use refusals::NO_MEMORY;
 use report_text::count_text;
 use session_book::Job;
 use std::alloc::Global;

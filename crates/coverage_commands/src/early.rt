@@ -1,19 +1,20 @@
 //! The report of a job whose controllers drain the sessions that they have closed.
 ghost use Rattle.std.specs.Prelude.{◌≡◌, ◌<◌, ◌^◌};
 ghost use Rattle.job_tables.specs.Tables.{IsReadyJob};
-ghost use Rattle.job_input.specs.Meaning.{SourceChange, source_change, CameJob, to_end};
+ghost use Rattle.job_input.specs.Meaning.{SourceChange, source_change};
+ghost use Rattle.job_input.specs.Inputs.{CameJob, to_end};
 ghost use Rattle.coverage_commands.specs.Meaning.{Answers, sink_change, areas_change};
 ghost use Rattle.report_text.specs.Conditions.{HasFewLines};
 
-use crate::lines::NO_MEMORY;
 use crate::ready::make_ready;
 use crate::status::{Status, status_of, told};
-use crate::words::Command;
 use brk_table::Tables;
+use command_words::Command;
 use cov_outside::{Gate, Sink, Source};
 use early_report::{EarlyRunner, early};
 use job_run::run_job_with;
 use module_area::Areas;
+use refusals::NO_MEMORY;
 use session_book::Job;
 use std::alloc::Global;
 use std::sync::Wait;

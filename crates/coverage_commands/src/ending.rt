@@ -4,11 +4,11 @@ ghost use Rattle.coverage_commands.specs.Meaning.{Answers, sink_change};
 ghost use Rattle.coverage_commands.specs.Changes.{no_change};
 ghost use Rattle.job_run.specs.Meaning.{Account};
 
-use crate::lines::NO_MEMORY;
 use crate::ready::make_ready;
 use crate::status::{Status, status_of, told};
-use crate::words::Command;
+use command_words::Command;
 use cov_outside::{Sink, Source};
+use refusals::NO_MEMORY;
 use std::alloc::Global;
 use task_ends::{find_ends, write_ends};
 

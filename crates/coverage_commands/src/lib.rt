@@ -6,16 +6,13 @@ mod combining;
 mod counting;
 mod early;
 mod ending;
-mod lines;
 mod named;
 mod proving;
 mod ready;
-mod refusals;
 mod showing;
 mod status;
 mod trial;
 mod verifying;
-mod words;
 
 pub use answering::{cover, cover_one};
 pub use ready::{Ready, make_ready};

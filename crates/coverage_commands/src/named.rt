@@ -2,13 +2,13 @@
 ghost use Rattle.std.specs.Prelude.{◌≡◌, ◌<◌, ◌≤◌, ◌+◌, true, Some, None, length, option_map, IfSome, IfOk, IfErr};
 ghost use Rattle.cov_base.specs.declared.numbers.SessNo.{SessNo as Number};
 ghost use Rattle.coverage_commands.specs.Answers.{StopsJob};
-ghost use Rattle.coverage_commands.specs.Meaning.{HasAsked, first_controlled, session_number, refusal, AllWhole, controlled_line, with_session};
+ghost use Rattle.coverage_commands.specs.Meaning.{HasAsked, first_controlled, session_number, AllWhole, with_session};
+ghost use Rattle.refusals.specs.Meaning.{refusal, controlled_line};
 ghost use Rattle.coverage_commands.specs.Named.{IsSessionOf};
 ghost use Rattle.session_book.specs.Meaning.{session_of};
 
-use crate::lines::{controlled_line, no_session_line};
-use crate::refusals::Refusal;
 use cov_base::{Name, SessNo};
+use refusals::{Refusal, controlled_line, no_session_line};
 use session_book::Job;
 
 /// The number of the session of the name; none exactly where no session of the job has it.

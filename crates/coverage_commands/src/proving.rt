@@ -1,21 +1,22 @@
 //! The evidence of a session's facts.
 ghost use Rattle.std.specs.Prelude.{◌≡◌, ◌<◌, ◌≤◌, Some, None, length};
 ghost use Rattle.job_tables.specs.Tables.{IsReadyJob};
-ghost use Rattle.job_input.specs.Meaning.{SourceChange, source_change, CameJob, to_end};
+ghost use Rattle.job_input.specs.Meaning.{SourceChange, source_change};
+ghost use Rattle.job_input.specs.Inputs.{CameJob, to_end};
 ghost use Rattle.coverage_commands.specs.Meaning.{Answers, sink_change};
 ghost use Rattle.coverage_commands.specs.Changes.{no_change};
 ghost use Rattle.coverage_commands.specs.Named.{IsSessionOf};
 ghost use Rattle.job_run.specs.Meaning.{Account};
 ghost use Rattle.session_book.specs.Meaning.{session_of};
 
-use crate::lines::NO_MEMORY;
 use crate::ready::make_named;
 use crate::status::{Status, told};
-use crate::words::Command;
 use brk_table::Tables;
+use command_words::Command;
 use cov_base::{Name, SessNo};
 use cov_outside::{Sink, Source};
 use evidence_check::{ProveFault, prove};
+use refusals::NO_MEMORY;
 use session_book::Job;
 use std::alloc::Global;
 

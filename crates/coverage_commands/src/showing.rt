@@ -2,9 +2,10 @@
 ghost use Rattle.std.specs.Prelude.{◌≡◌, ◌<◌, ◌≤◌, ℕ, true, Some, length, IfOk, IfErr};
 ghost use Rattle.cov_outside.specs.Writes.{Writes};
 ghost use Rattle.job_tables.specs.Tables.{IsReadyJob};
-ghost use Rattle.job_input.specs.Meaning.{SourceChange, source_change, to_go_on};
-ghost use Rattle.job_input.specs.Inputs.{CameWith};
-ghost use Rattle.coverage_commands.specs.Meaning.{Answers, sink_change, IsFile, show_text, refusal};
+ghost use Rattle.job_input.specs.Meaning.{SourceChange, source_change};
+ghost use Rattle.job_input.specs.Inputs.{to_go_on, CameWith};
+ghost use Rattle.coverage_commands.specs.Meaning.{Answers, sink_change, BeginsWith, show_text};
+ghost use Rattle.refusals.specs.Meaning.{refusal};
 ghost use Rattle.coverage_commands.specs.Changes.{no_change};
 ghost use Rattle.coverage_commands.specs.Files.{IsFileRefusal, IsShowRefusal};
 ghost use Rattle.coverage_commands.specs.Named.{IsSessionOf};
@@ -14,15 +15,14 @@ ghost use Rattle.session_book.specs.Sets.{HasSetsOf};
 ghost use Rattle.session_marks.specs.FromFile.{set_at, sets_of_one};
 ghost use Rattle.session_marks.specs.Meaning.{session_marks};
 
-use crate::lines::NO_MEMORY;
 use crate::ready::make_named;
-use crate::refusals::{Refusal, bad_marks, other_table, plain_refusal};
 use crate::status::{Status, status_of, told};
-use crate::words::Command;
 use brk_table::Tables;
+use command_words::Command;
 use cov_base::{Name, SessNo};
 use cov_outside::{Failed, Sink, Source};
 use marks_file::{Marks, MarksFault, read};
+use refusals::{NO_MEMORY, Refusal, bad_marks, other_table, plain_refusal};
 use report_text::{put, session_part, words_line};
 use session_book::{FactSets, Job};
 use session_marks::{FileSets, SetsFault, file_sets};
@@ -30,7 +30,7 @@ use std::alloc::Global;
 
 /// The one marks file that the bytes are.
 fn one_file(alloc: Global, rest: &[u8]) -> Result<Marks, Refusal>
-    ensures file { IfOk result (λ m. IsFile rest.now m.modules) }
+    ensures file { IfOk result (λ m. BeginsWith rest.now m.modules (length rest.now)) }
     ensures refused { IfErr result (IsFileRefusal rest.now) }
 {
     match read(alloc, rest, 0) {
@@ -58,7 +58,7 @@ fn sets_behind(
     requires from { 0 < s.0 }
     requires to { s.0 ≤ length job.now.sessions }
     requires ready { IsReadyJob job.now tables.now }
-    ensures file { IfOk result (λ f. IsFile rest.now (session_marks job.now tables.now (set_at f.sets) s.0)) }
+    ensures file { IfOk result (λ f. BeginsWith rest.now (session_marks job.now tables.now (set_at f.sets) s.0) (length rest.now)) }
     ensures sets { IfOk result (λ f. HasSetsOf job.now tables.now f.session (length f.sets) (sets_of_one f) s.0) }
     ensures refused { IfErr result (IsShowRefusal job.now tables.now s.0 rest.now) }
 {

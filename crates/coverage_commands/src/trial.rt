@@ -7,16 +7,16 @@ ghost use Rattle.coverage_commands.specs.Meaning.{Answers, sink_change, areas_ch
 ghost use Rattle.job_gen.specs.Meaning.{trial_job};
 ghost use Rattle.report_text.specs.Conditions.{HasFewLines};
 
-use crate::lines::NO_MEMORY;
 use crate::status::{Status, status_of, told};
-use crate::words::Command;
 use brk_table::Tables;
+use command_words::Command;
 use cov_base::NoMemory;
 use cov_outside::{Gate, Sink};
 use job_gen::trial;
 use job_run::run_job;
 use job_tables::{TablesFault, tables_of};
 use module_area::Areas;
+use refusals::NO_MEMORY;
 use report_text::trial_text;
 use session_book::Job;
 use std::alloc::Global;

@@ -1,26 +1,28 @@
 //! Marks and evidence of a session, checked by another run of its tasks.
 ghost use Rattle.std.specs.Prelude.{◌≡◌, ◌<◌, ◌≤◌, ℕ, true, Some, None, length, OnOk, IfOk, IfErr};
 ghost use Rattle.job_tables.specs.Tables.{IsReadyJob};
-ghost use Rattle.job_input.specs.Meaning.{SourceChange, source_change, to_go_on};
-ghost use Rattle.job_input.specs.Inputs.{CameWith};
-ghost use Rattle.coverage_commands.specs.Meaning.{Answers, sink_change, Verified, IsVerdict, HasVerified};
+ghost use Rattle.job_input.specs.Meaning.{SourceChange, source_change};
+ghost use Rattle.job_input.specs.Inputs.{to_go_on, CameWith};
+ghost use Rattle.coverage_commands.specs.Meaning.{Answers, sink_change, HasVerified};
 ghost use Rattle.coverage_commands.specs.Changes.{no_change};
-ghost use Rattle.coverage_commands.specs.Checked.{verify_refusal, IsStartRefusal, IsCheckRefusal};
+ghost use Rattle.coverage_commands.specs.Checked.{verify_refusal, IsStartRefusal, IsCheckRefusal, IsPassed};
 ghost use Rattle.coverage_commands.specs.Named.{IsSessionOf};
 ghost use Rattle.job_run.specs.Meaning.{Account};
 ghost use Rattle.marks_file.specs.Meaning.{HasFile};
 ghost use Rattle.session_book.specs.Meaning.{session_of};
 
-use crate::lines::{NO_MEMORY, bad_evidence_line, refuted_line, verified_line};
 use crate::ready::make_named;
-use crate::refusals::{Refusal, bad_marks, other_table, plain_refusal};
 use crate::status::{Status, told};
-use crate::words::Command;
 use brk_table::Tables;
+use command_words::Command;
 use cov_base::{Name, SessNo};
 use cov_outside::{Sink, Source};
 use evidence_check::{VerifyFault, verify};
 use marks_file::{Marks, MarksFault, read};
+use refusals::{
+    NO_MEMORY, Refusal, bad_evidence_line, bad_marks, other_table, plain_refusal, refuted_line,
+    verified_line,
+};
 use session_book::Job;
 use session_marks::{SetsFault, file_sets};
 use std::alloc::Global;
@@ -67,7 +69,7 @@ fn facts_behind(
     requires to { s.0 ≤ length job.now.sessions }
     requires whole { (session_of job.now s.0).by ≡ None }
     requires ready { IsReadyJob job.now tables.now }
-    ensures verdict { IfOk result (λ n. IsVerdict job.now tables.now s.0 rest.now (Verified n)) }
+    ensures verdict { IfOk result (IsPassed job.now tables.now s.0 rest.now) }
     ensures verified { OnOk result (HasVerified job.now tables.now s.0 rest.now) }
     ensures refused { IfErr result (IsCheckRefusal job.now tables.now s.0 rest.now) }
 {

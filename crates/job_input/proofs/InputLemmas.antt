@@ -10,8 +10,8 @@ use Rattle.job_text.specs.declared.jobs.ReadJob.{ReadJob}
 use Rattle.job_text.proofs.Excluded.{IsFew, listings_few, never_bad}
 use Rattle.job_text.proofs.Spans.{lines_count}
 use Rattle.report_text.specs.Conditions.{HasFewLines}
-use Rattle.job_input.specs.Meaning.{SourceChange, CameWhole, CameJobless, HasJob}
-use Rattle.job_input.specs.Inputs.{IsInput}
+use Rattle.job_input.specs.Meaning.{SourceChange, CameWhole, HasJob}
+use Rattle.job_input.specs.Inputs.{CameJobless, IsInput}
 use Rattle.job_input.specs.declared.reading.Input.{Input}
 
 few_of : (lines : List LineView) (j : JobView) → length lines ≤ 16777216 → Spells Present lines j → HasFewLines j

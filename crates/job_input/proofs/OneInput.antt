@@ -8,8 +8,8 @@ use Rattle.cov_outside.specs.declared.whole.ReadFault.TheVariants as read
 use Rattle.session_book.specs.Meaning.{JobView}
 use Rattle.job_text.specs.Meaning.{LineView, lines_of, put_on, Present, Spells}
 use Rattle.job_text.proofs.Spelled.{one_first}
-use Rattle.job_input.specs.Meaning.{SourceChange, HasJob, CameWhole, CameJob, CameJobless, IsJobFault, IsReadFault, input_limit}
-use Rattle.job_input.specs.Inputs.{CameWith}
+use Rattle.job_input.specs.Meaning.{SourceChange, HasJob, CameWhole, IsJobFault, IsReadFault, input_limit}
+use Rattle.job_input.specs.Inputs.{CameJob, CameJobless, CameWith}
 use Rattle.job_text.specs.declared.jobs.JobFault.{JobFault}
 
 all_of : (b bytes : List ℕ) (rest : Option (List ℕ)) → IsWhole (Some b) rest bytes → b ≡ bytes

@@ -1,5 +1,5 @@
 -- What the claim of the program says by this crate's clauses.
-use Rattle.std.specs.Prelude.{◌≡◌, ℕ, ◌≤◌, Bool, true, false, Option, List, length, take}
+use Rattle.std.specs.Prelude.{◌≡◌, ℕ, ◌≤◌, Bool, false, Option, List, length, take}
 use Rattle.cov_outside.specs.Meaning.{Rose, IsWhole, HasMoreThan}
 use Rattle.cov_outside.specs.declared.whole.ReadFault.{ReadFault}
 use Rattle.cov_outside.specs.declared.whole.ReadFault.TheVariants as read
@@ -36,13 +36,6 @@ IsReadFault s read.Failed = Rose s.faults s.later
 IsReadFault s read.TooLarge = HasMoreThan s.left input_limit × (s.later ≡ s.faults)
 IsReadFault s read.NoMemory = Unit {0}
 
--- how an input with a job is read: whether more than a job may stand in it
-abbrev pub to_end : Bool
-to_end = false
-
-abbrev pub to_go_on : Bool
-to_go_on = true
-
 -- The first lines of an input, so many, spell this job, which is within the limits. Others stand behind them only where
 -- more than a job may.
 pub record HasJob (more : Bool) (all : List LineView) (j : JobView) : Type 0 where
@@ -52,19 +45,7 @@ pub record HasJob (more : Bool) (all : List LineView) (j : JobView) : Type 0 whe
   pub within : IsWithin j
   pub over : more ≡ false → count ≡ length all
 
--- the bytes that came have this job
-pub record CameJob (more : Bool) (s : SourceChange) (j : JobView) : Type 0 where
-  pub bytes : List ℕ
-  pub came : CameWhole s bytes
-  pub has : HasJob more (lines_of bytes) j
-
 -- why bytes have no job; where they have one it is want of memory
 pub record IsJobFault (more : Bool) (bytes : List ℕ) (e : JobFault) : Type 0 where
   pub first : IsRefusal (lines_of bytes) e
   pub jobless : (j : JobView) → HasJob more (lines_of bytes) j → e ≡ fault.NoMemory
-
--- and why those that came have none
-pub record CameJobless (more : Bool) (s : SourceChange) (e : JobFault) : Type 0 where
-  pub bytes : List ℕ
-  pub came : CameWhole s bytes
-  pub is : IsJobFault more bytes e

@@ -2,8 +2,8 @@
 ghost use Rattle.std.specs.Prelude.{◌≡◌, ◌≤◌, ◌<◌, ◌+◌, ◌++◌, [], ℕ, List, true, length, IfOk, IfErr, OnOk};
 ghost use Rattle.job_text.specs.Taken.{fed_size};
 ghost use Rattle.job_input.specs.Incoming.{HasCome, HasAll};
-ghost use Rattle.job_input.specs.Meaning.{SourceChange, IsReadFault, CameJobless, source_change};
-ghost use Rattle.job_input.specs.Inputs.{IsInput};
+ghost use Rattle.job_input.specs.Meaning.{SourceChange, IsReadFault, source_change};
+ghost use Rattle.job_input.specs.Inputs.{CameJobless, IsInput};
 
 use crate::reading::Input;
 use cov_base::{INPUT_LIMIT, NoMemory};

@@ -137,22 +137,9 @@ pub record HasRunBy (course : Course) (j : JobView) (places : List Place) (befor
   pub in_finals : after.finals ≡ before.finals ++ sets
   pub in_made : after.made ≡ before.made + length j.phases
 
--- the same where each task runs as it does alone
-
+-- where each task runs as it does alone
 abbrev pub solo_result : JobView → List Place → ℕ → ResultView
 solo_result j places t = result_by solo j places t
-
-abbrev pub solo_set : JobView → List Place → ℕ → ℕ → FactSet
-solo_set j places s p = set_by solo j places s p
-
-abbrev pub solo_least : JobView → List Place → ℕ → ℕ → ℕ → FactSet
-solo_least j places by s p = least_by solo j places by s p
-
-abbrev pub solo_most : JobView → List Place → ℕ → ℕ → ℕ → FactSet
-solo_most j places by s p = most_by solo j places by s p
-
-abbrev pub HasRun : JobView → List Place → Account → Account → Type 0
-HasRun j places before after = HasRunBy solo j places before after
 
 -- The sets of a job's sessions, in the areas of their phases.
 

@@ -99,11 +99,6 @@ play_of j places count lines =
     let w : World = record { job = j; places = places } in
     if nat_eq (length j.phases) 1 then play_from w (count + 1) lines (run_on w (first_parts w) (plants w)) else Bad 0
 
--- the status of a play
-abbrev pub play_status : Play → ℕ
-play_status (Bad n) = 9
-play_status (Whole c played) = 0
-
 -- The events of a schedule that was played.
 
 abbrev pub one_event : Option Event → List Event

@@ -1,7 +1,7 @@
 use Rattle.job_input.proofs.OneInput.{came_job}
 use Rattle.coverage_commands.proofs.AnswerLemmas.{listed_places, written_as, stopped}
 use Rattle.std.proofs.Common.{refl}
-use Rattle.coverage_commands.specs.declared.words.Command.TheVariants.{Table}
+use Rattle.command_words.specs.declared.words.Command.TheVariants.{Table}
 use Rattle.coverage_commands.proofs.FileLemmas.{told_as}
 use Rattle.coverage_commands.proofs.answering.answer_table.Goals as goal
 
@@ -13,5 +13,5 @@ returns g c a =
 pub returns-in-Err : goal.returns-in-Err
 returns-in-Err g c a =
     let r = c.refusal in
-    stopped Table _ a _ _ c.in-Err.refusal refl c.in-Err.ensures.stopped
+    stopped Table _ a _ _ c.in-Err.refusal refl refl c.in-Err.ensures.stopped
     (told_as r.inside.status r.inside.line.items c.deref.result.now c.in-Err.refusal _ _ r.view_is c.deref.ensures.0 c.told.ensures)

@@ -1,7 +1,7 @@
 use Rattle.std.proofs.Common.{refl, ◌∙◌}
-use Rattle.coverage_commands.specs.Meaning.{Unread, read_refusal}
-use Rattle.coverage_commands.specs.declared.words.Command.TheVariants.{Combine}
-use Rattle.coverage_commands.proofs.AnswerLemmas.{stopped}
+use Rattle.refusals.specs.Meaning.{read_refusal}
+use Rattle.command_words.specs.declared.words.Command.TheVariants.{Combine}
+use Rattle.coverage_commands.proofs.AnswerLemmas.{unread}
 use Rattle.coverage_commands.proofs.FileLemmas.{told_as}
 use Rattle.coverage_commands.proofs.combining.answer_combine.Goals as goal
 
@@ -9,5 +9,5 @@ pub returns-in-Err : goal.returns-in-Err
 returns-in-Err g c a =
     let r = c.refusal in
     let e = c.in-Err.fault in
-    stopped Combine _ a _ _ (read_refusal e) refl (Unread e c.in-Err.ensures.fault refl)
+    unread Combine _ a _ _ e refl c.in-Err.ensures.fault
     (told_as r.inside.status r.inside.line.items c.deref-in-Err.result.now (read_refusal e) _ _ (r.view_is ∙ c.read_refusal-refusal.ensures) c.deref-in-Err.ensures.0 c.told.ensures)

@@ -1,7 +1,7 @@
 use Rattle.coverage_commands.proofs.AnswerLemmas.{written_as, wanting_told}
 use Rattle.coverage_commands.proofs.CountLemmas.{are_whole, counted}
 use Rattle.std.proofs.Common.{refl}
-use Rattle.coverage_commands.specs.declared.words.Command.TheVariants.{Count}
+use Rattle.command_words.specs.declared.words.Command.TheVariants.{Count}
 use Rattle.coverage_commands.proofs.counting.answer_counts.Goals as goal
 
 pub count_job-requires-clause-whole : goal.count_job-requires-clause-whole

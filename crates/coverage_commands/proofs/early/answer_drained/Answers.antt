@@ -4,7 +4,7 @@ use Rattle.early_report.specs.Text.{drained_of}
 use Rattle.task_run.specs.Meaning.{solo}
 use Rattle.coverage_commands.specs.Meaning.{areas_change}
 use Rattle.coverage_commands.proofs.AnswerLemmas.{reports, written_as}
-use Rattle.coverage_commands.proofs.DrainedLemmas.{are_drained, job_came, reported_early}
+use Rattle.coverage_commands.proofs.DrainedLemmas.{are_drained, job_came, reported_early, wanting_early}
 use Rattle.coverage_commands.proofs.early.answer_drained.Goals as goal
 
 pub returns : goal.returns
@@ -15,7 +15,12 @@ returns g c s came =
     let o = c.in-Ok.ran.0 in
     let lists = c.in-Ok.ran.1.items in
     let drained = drained_of j (map (λ v. v.items) lists) in
-    reported_early s j tables a _ _ drained _ came c.requires.ready.matching c.in-Ok.ensures.left.ran
+    reported_early s j tables a _ _ drained _ came c.requires.ready.matching
     (are_drained (λ v. v.items) j tables.places o.tasks.items o.sets lists (job_came s j came) c.in-Ok.ensures.outcome c.in-Ok.ensures.extras)
-    (reports solo j tables a.before a.after o.tasks.items o.sets (λ results sets. early_of j tables results sets drained) c.in-Ok.ensures.left c.in-Ok.ensures.outcome)
+    (reports solo j tables a o.tasks.items o.sets (λ results sets. early_of j tables results sets drained) c.in-Ok.ensures.left c.in-Ok.ensures.outcome)
     (written_as _ _ _ (rw c.deref.ensures.value at c.early.ensures) c.status_of.ensures.whole c.status_of.ensures.failed)
+
+pub returns-in-Err : goal.returns-in-Err
+returns-in-Err g c s came =
+    let a = areas_change g.A.Areas.ledger g.A.Areas.finals g.A.Areas.made c.args.areas.now c.run_job_with.new.areas in
+    wanting_early s c.args.job.now c.args.tables.now a _ _ came c.requires.ready.matching c.told.ensures

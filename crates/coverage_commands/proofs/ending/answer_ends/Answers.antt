@@ -1,7 +1,7 @@
 use Rattle.job_input.proofs.OneInput.{came_job}
 use Rattle.coverage_commands.proofs.AnswerLemmas.{told_ends, written_as, stopped, wanting_told}
 use Rattle.std.proofs.Common.{refl}
-use Rattle.coverage_commands.specs.declared.words.Command.TheVariants.{Ends}
+use Rattle.command_words.specs.declared.words.Command.TheVariants.{Ends}
 use Rattle.coverage_commands.proofs.FileLemmas.{told_as}
 use Rattle.coverage_commands.proofs.ending.answer_ends.Goals as goal
 
@@ -13,7 +13,7 @@ returns g c a =
 pub returns-in-Err : goal.returns-in-Err
 returns-in-Err g c a =
     let r = c.refusal in
-    stopped Ends _ a _ _ c.in-Err.refusal refl c.in-Err.ensures.stopped
+    stopped Ends _ a _ _ c.in-Err.refusal refl refl c.in-Err.ensures.stopped
     (told_as r.inside.status r.inside.line.items c.deref.result.now c.in-Err.refusal _ _ r.view_is c.deref.ensures.0 c.told.ensures)
 
 pub returns-in-Err-find_ends : goal.returns-in-Err-find_ends

@@ -1,7 +1,9 @@
 use Rattle.std.proofs.Common.{◌≡◌, true, is_some, sym, rules, None, refl, ap}
 use Rattle.session_book.specs.Meaning.{session_of}
-use Rattle.coverage_commands.proofs.StopLemmas.{is_controlled}
-use Rattle.coverage_commands.specs.Meaning.{NoSession, refusal, session_number}
+use Rattle.coverage_commands.specs.Answers.{NoJob}
+use Rattle.coverage_commands.proofs.AnswerLemmas.{is_controlled}
+use Rattle.coverage_commands.specs.Meaning.{NoSession, session_number}
+use Rattle.refusals.specs.Meaning.{refusal}
 use Rattle.coverage_commands.proofs.named.named_session.Goals as goal
 
 pub returns-then-is_some-clause-stopped : goal.returns-then-is_some-clause-stopped
@@ -12,4 +14,4 @@ returns-then-is_some-clause-stopped c =
 pub returns-in_default-clause-stopped : goal.returns-in_default-clause-stopped
 returns-in_default-clause-stopped c =
     let missing : session_number c.args.job.now c.args.name.now ≡ None = search rules in
-    λ more s came. NoSession c.args.job.now (record { name = c.args.name.now; whole = c.args.whole }) refl came refl missing (ap (refusal 13) c.no_session_line.ensures)
+    λ more s came. NoJob came.bytes came.came (NoSession c.args.job.now (record { name = c.args.name.now; whole = c.args.whole }) came.has refl missing (ap (refusal 13) c.no_session_line.ensures))

@@ -1,8 +1,9 @@
 use Rattle.std.proofs.Common.{inl, inr, refl, subst}
 use Rattle.coverage_commands.proofs.CheckedLemmas.{proved}
-use Rattle.coverage_commands.specs.declared.words.Command.TheVariants.{Prove}
+use Rattle.command_words.specs.declared.words.Command.TheVariants.{Prove}
 use Rattle.coverage_commands.proofs.AnswerLemmas.{wanting_told}
-use Rattle.coverage_commands.specs.Meaning.{IsWritten, sink_change, no_memory_line}
+use Rattle.coverage_commands.specs.Meaning.{IsWritten, sink_change}
+use Rattle.refusals.specs.Meaning.{no_memory_line}
 use Rattle.coverage_commands.proofs.proving.answer_evidence.Goals as goal
 
 pub returns-in-Ok : goal.returns-in-Ok

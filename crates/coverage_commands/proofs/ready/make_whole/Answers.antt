@@ -1,5 +1,5 @@
 use Rattle.std.proofs.lemmas.Result.{err_from_is_err_and}
-use Rattle.job_input.specs.Meaning.{to_end}
+use Rattle.job_input.specs.Inputs.{to_end}
 use Rattle.job_input.proofs.OneInput.{came_job}
 use Rattle.coverage_commands.specs.Meaning.{AllWhole}
 use Rattle.coverage_commands.proofs.ready.make_whole.Goals as goal

@@ -1,7 +1,7 @@
 use Rattle.std.proofs.Common.{List, ℕ, subst, sym, refl}
-use Rattle.job_input.specs.Meaning.{SourceChange, source_change, to_go_on}
-use Rattle.job_input.specs.Inputs.{CameWith}
-use Rattle.coverage_commands.specs.declared.words.Command.TheVariants.{Show}
+use Rattle.job_input.specs.Meaning.{SourceChange, source_change}
+use Rattle.job_input.specs.Inputs.{to_go_on, CameWith}
+use Rattle.command_words.specs.declared.words.Command.TheVariants.{Show}
 use Rattle.coverage_commands.proofs.AnswerLemmas.{stopped}
 use Rattle.coverage_commands.proofs.FileLemmas.{told_as}
 use Rattle.coverage_commands.proofs.showing.answer_show.Goals as goal
@@ -15,5 +15,5 @@ returns g c a =
 pub returns-in-Err : goal.returns-in-Err
 returns-in-Err g c a =
     let r = c.refusal in
-    stopped (Show c.args.name.now) _ a _ _ c.in-Err.refusal refl c.in-Err.ensures.stopped
+    stopped (Show c.args.name.now) _ a _ _ c.in-Err.refusal refl refl c.in-Err.ensures.stopped
     (told_as r.inside.status r.inside.line.items c.deref.result.now c.in-Err.refusal _ _ r.view_is c.deref.ensures.0 c.told.ensures)

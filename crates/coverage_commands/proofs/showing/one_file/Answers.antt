@@ -1,6 +1,7 @@
-use Rattle.std.proofs.Common.{◌≡◌, true, Some, inl, subst, rules, arith}
+use Rattle.std.proofs.Common.{◌≡◌, true, Some, subst, rules, arith}
 use Rattle.marks_file.specs.Meaning.{MarksView, keeps_rules, first_bad, file_fields}
 use Rattle.coverage_commands.specs.Files.{Bad}
+use Rattle.coverage_commands.specs.Meaning.{BadField}
 use Rattle.coverage_commands.proofs.FileLemmas.{past, alone}
 use Rattle.coverage_commands.proofs.showing.one_file.Goals as goal
 
@@ -13,7 +14,7 @@ pub returns-in-Err-BadMarks-clause-refused : goal.returns-in-Err-BadMarks-clause
 returns-in-Err-BadMarks-clause-refused c =
     let e = c.in-Err-BadMarks in
     let bad : first_bad (file_fields 0 c.args.rest.now) ≡ Some e.offset = search rules in
-    Bad e.offset (inl bad) c.bad_marks-in-Err-BadMarks.ensures
+    Bad e.offset (BadField bad) c.bad_marks-in-Err-BadMarks.ensures
 
 pub returns-else-end-rest-clause-file : goal.returns-else-end-rest-clause-file
 returns-else-end-rest-clause-file c =

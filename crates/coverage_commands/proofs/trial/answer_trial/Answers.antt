@@ -1,8 +1,9 @@
 use Rattle.std.proofs.Common.{◌≡◌, None, sym, subst}
 use Rattle.report_text.specs.Conditions.{HasFewLines}
 use Rattle.session_book.specs.Meaning.{JobView}
+use Rattle.coverage_commands.specs.Meaning.{areas_change}
 use Rattle.job_tables.specs.Meaning.{job_fault}
-use Rattle.coverage_commands.proofs.TrialLemmas.{trial_faultless, trial_few_lines}
+use Rattle.coverage_commands.proofs.TrialLemmas.{trial_faultless, trial_few_lines, unmade}
 use Rattle.coverage_commands.proofs.trial.answer_trial.Goals as goal
 
 pub faultless_tables-requires-clause-few : goal.faultless_tables-requires-clause-few
@@ -10,3 +11,13 @@ faultless_tables-requires-clause-few g c = subst (λ (j : JobView). HasFewLines 
 
 pub faultless_tables-requires-clause-faultless : goal.faultless_tables-requires-clause-faultless
 faultless_tables-requires-clause-faultless g c = subst (λ (j : JobView). job_fault j ≡ None) (sym c.in-Ok.ensures) (trial_faultless c.args.number c.args.tasks)
+
+pub returns-in_default : goal.returns-in_default
+returns-in_default g c s unread =
+    let a = areas_change g.A.Areas.ledger g.A.Areas.finals g.A.Areas.made c.args.areas.now c.args.areas.now in
+    unmade c.args.number c.args.tasks s a.before _ _ unread c.told.ensures
+
+pub returns-in_default-faultless_tables : goal.returns-in_default-faultless_tables
+returns-in_default-faultless_tables g c s unread =
+    let a = areas_change g.A.Areas.ledger g.A.Areas.finals g.A.Areas.made c.args.areas.now c.args.areas.now in
+    unmade c.args.number c.args.tasks s a.before _ _ unread c.told-in_default-faultless_tables.ensures

@@ -1,15 +1,15 @@
 use Rattle.std.proofs.Common.{refl, List, ℕ, subst, sym}
-use Rattle.coverage_commands.specs.declared.words.Command.TheVariants.{Verify}
+use Rattle.command_words.specs.declared.words.Command.TheVariants.{Verify}
 use Rattle.coverage_commands.proofs.AnswerLemmas.{stopped}
 use Rattle.coverage_commands.proofs.FileLemmas.{told_as}
-use Rattle.job_input.specs.Meaning.{SourceChange, source_change, to_go_on}
-use Rattle.job_input.specs.Inputs.{CameWith}
+use Rattle.job_input.specs.Meaning.{SourceChange, source_change}
+use Rattle.job_input.specs.Inputs.{to_go_on, CameWith}
 use Rattle.coverage_commands.proofs.verifying.answer_verify.Goals as goal
 
 pub returns-in-Err : goal.returns-in-Err
 returns-in-Err g c a =
     let r = c.refusal in
-    stopped (Verify c.args.name.now) _ a _ _ c.in-Err.refusal refl c.in-Err.ensures.stopped
+    stopped (Verify c.args.name.now) _ a _ _ c.in-Err.refusal refl refl c.in-Err.ensures.stopped
     (told_as r.inside.status r.inside.line.items c.deref.result.now c.in-Err.refusal _ _ r.view_is c.deref.ensures.0 c.told.ensures)
 
 pub returns : goal.returns

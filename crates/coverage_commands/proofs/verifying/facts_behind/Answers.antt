@@ -1,4 +1,4 @@
-use Rattle.std.proofs.Common.{◌≡◌, ◌-◌, IfErr, true, subst, take, drop, length, length-drop, rules, arith}
+use Rattle.std.proofs.Common.{◌≡◌, ◌-◌, IfErr, true, refl, ap, ◌∙◌, subst, take, drop, length, length-drop, rules, arith}
 use Rattle.std.proofs.lemmas.List.{take_all}
 use Rattle.std.proofs.lemmas.Result.{IfErr-weaker}
 use Rattle.evidence_check.specs.Meaning.{IsVerified}
@@ -6,7 +6,8 @@ use Rattle.evidence_check.specs.Verified.{Passes, IsVerifyFault}
 use Rattle.marks_file.specs.Meaning.{MarksView, keeps_rules}
 use Rattle.session_marks.specs.FromFile.{IsOwn, set_at}
 use Rattle.table_combine.specs.Combine.{difference_of}
-use Rattle.coverage_commands.specs.Meaning.{OfFile, refusal, other_table_line}
+use Rattle.coverage_commands.specs.Meaning.{OfFile}
+use Rattle.refusals.specs.Meaning.{refusal, other_table_line, verified_line}
 use Rattle.coverage_commands.specs.Checked.{IsStartRefusal}
 use Rattle.coverage_commands.proofs.CheckedLemmas.{judged_verified, own_of, no_start, other_start, not_verified}
 use Rattle.coverage_commands.proofs.verifying.facts_behind.Goals as goal
@@ -36,7 +37,8 @@ returns-in-Ok-verify-clause-verdict c =
     let all : take (length rest - end) (drop end rest) ≡ drop end rest = take_all (length rest - end) (drop end rest) (omega (arith, length-drop end rest)) in
     let verified : IsVerified j tables c.args.s.0 marks.modules (drop end rest) = subst (λ b. IsVerified j tables c.args.s.0 marks.modules b) all v.ensures.verified in
     let passes : Passes j tables c.args.s.0 marks.modules (drop end rest) = subst (λ b. Passes j tables c.args.s.0 marks.modules b) all (v.ensures.passes v.ensures.verified) in
-    OfFile marks end rules_kept c.in_ok-marks.ensures.file (judged_verified j tables c.args.s.0 marks.modules (drop end rest) v.facts (own_of j tables c.args.s.0 marks.modules (drop end rest) verified) passes v.ensures.facts)
+    λ name. OfFile marks.modules end (record { marks = marks; rules = rules_kept; file = c.in_ok-marks.ensures.file; are = refl })
+    (ap (λ n. refusal 0 (verified_line name n)) v.ensures.facts ∙ judged_verified name j tables c.args.s.0 marks.modules (drop end rest) (own_of j tables c.args.s.0 marks.modules (drop end rest) verified) passes)
 
 pub returns-clause-refused : goal.returns-clause-refused
 returns-clause-refused c =

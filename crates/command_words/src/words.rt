@@ -1,8 +1,8 @@
 //! The words of the command line.
 ghost use Rattle.std.specs.Prelude.{◌≡◌, map, string_bytes};
 ghost use Rattle.cov_base.specs.Meaning.{name_at};
-ghost use Rattle.coverage_commands.specs.Meaning.{number_at, command_alone, command_named, command_numbered, command_of};
-ghost use Rattle.coverage_commands.specs.Words.{HasFewTasks};
+ghost use Rattle.command_words.specs.Meaning.{number_at, command_alone, command_named, command_numbered, command_of};
+ghost use Rattle.command_words.specs.Words.{HasFewTasks};
 
 use annotator::text::add_number;
 use arrayvec::ArrayVec;

@@ -1,8 +1,7 @@
-use Rattle.std.proofs.Common.{◌≡◌, ◌<◌, ◌^◌, decimal, sym, ◌∙◌, rules}
+use Rattle.std.proofs.Common.{◌≡◌, ◌<◌, ◌^◌, true, false, decimal, sym, ◌∙◌, rules}
 use Rattle.std.proofs.lemmas.Slice.Eq.{bytes_eq-Decides}
-use Rattle.coverage_commands.proofs.NumberLemmas.{number_found, not_parsed, parsed_otherwise}
-use Rattle.coverage_commands.proofs.StopLemmas.{not_both}
-use Rattle.coverage_commands.proofs.words.number_of.Goals as goal
+use Rattle.command_words.proofs.NumberLemmas.{number_found, not_parsed, parsed_otherwise}
+use Rattle.command_words.proofs.words.number_of.Goals as goal
 
 pub returns-in_default : goal.returns-in_default
 returns-in_default c = sym (not_parsed c.args.word.now c.parse.result c.in_default.field-0 c.parse.ensures.value.0 c.in_default.is)
@@ -18,4 +17,7 @@ pub returns-else-eq : goal.returns-else-eq
 returns-else-eq c =
     let digits : c.as_slice.result.now ≡ decimal c.in-Ok.number = search rules in
     sym (parsed_otherwise c.args.word.now c.parse.result c.in-Ok.number c.parse.ensures.value.0 c.in-Ok.is
-    (λ is. not_both c.eq.result (c.eq.ensures ∙ (bytes_eq-Decides c.as_slice.result.now c.as_bytes.result.now).1 (digits ∙ (sym is ∙ sym c.as_bytes.ensures.value))) c.if-eq.false))
+    (λ is.
+    let equal : true ≡ c.eq.result = sym (c.eq.ensures ∙ (bytes_eq-Decides c.as_slice.result.now c.as_bytes.result.now).1 (digits ∙ (sym is ∙ sym c.as_bytes.ensures.value))) in
+    let clash : true ≡ false = equal ∙ c.if-eq.false in
+    absurd cc))

@@ -1,7 +1,7 @@
 -- How faults are told: each by a status and a line.
 use Rattle.job_input.specs.declared.faults.InputFault.{InputFault}
 use Rattle.job_input.specs.declared.faults.InputFault.TheVariants.{Source, Job}
-use Rattle.coverage_commands.specs.Meaning.{RefusalView, read_refusal, jobless_refusal}
+use Rattle.refusals.specs.Meaning.{RefusalView, read_refusal, jobless_refusal}
 
 abbrev pub input_refusal : InputFault → RefusalView
 input_refusal (Source e) = read_refusal e

@@ -1,6 +1,6 @@
 //! The lines that refusals, and a `verify` that passes, are told by.
 ghost use Rattle.std.specs.Prelude.{◌≡◌, ◌<◌, ◌≤◌, ◌++◌, ◌∷◌, ◌+◌, [], decimal, length, option_map};
-ghost use Rattle.coverage_commands.specs.Meaning.{bad_job_line, limit_name, large_job_line, bad_schedule_line, no_session_line, controlled_line, bad_marks_line, row_text, other_table_line, bad_evidence_line, fact_letter, refuted_line, verified_line};
+ghost use Rattle.refusals.specs.Meaning.{bad_job_line, limit_name, large_job_line, bad_schedule_line, no_session_line, controlled_line, bad_marks_line, row_text, other_table_line, bad_evidence_line, fact_letter, refuted_line, verified_line};
 ghost use Rattle.arrayvec.specs.ArrayVec.{array_vec_len};
 ghost use Rattle.table_combine.specs.Combine.{difference_of};
 

@@ -1,8 +1,8 @@
 //! How faults of a source, a job, its listings and marks files are told.
 ghost use Rattle.std.specs.Prelude.{◌≡◌, ◌≤◌, length, take};
 ghost use Rattle.arrayvec.specs.ArrayVec.{array_vec_len};
-ghost use Rattle.coverage_commands.specs.Meaning.{refusal, line_text, bad_listing, list_refusal, build_refusal, tables_refusal, read_refusal, jobless_refusal, mismatch_text, bad_marks_line, other_table_line};
-ghost use Rattle.coverage_commands.specs.Refusals.{input_refusal};
+ghost use Rattle.refusals.specs.Meaning.{refusal, line_text, bad_listing, list_refusal, build_refusal, tables_refusal, read_refusal, jobless_refusal, mismatch_text, bad_marks_line, other_table_line};
+ghost use Rattle.refusals.specs.Refusals.{input_refusal};
 ghost use Rattle.table_combine.specs.Combine.{difference_of};
 
 use crate::lines::{
@@ -31,7 +31,7 @@ pub struct Refusal {
 }
 
 impl Model for Refusal {
-    ghost use Rattle.coverage_commands.specs.Meaning.{RefusalView};
+    ghost use Rattle.refusals.specs.Meaning.{RefusalView};
 
     ghost Value = { RefusalView };
 

@@ -1,0 +1,205 @@
+-- Jobs that are ready for a command, and bytes that have none: of the same bytes these are one, and exclude each other.
+use Rattle.std.proofs.Common.{◌≡◌, ◌≢◌, ℕ, Bool, true, false, not, if◌then◌else◌, is_some, Option, Some, None, List, [], ◌∷◌, drop, map, refl, sym, ◌∙◌, ap, subst}
+use Rattle.cov_base.specs.Meaning.{FactSet}
+use Rattle.brk_table.specs.Meaning.{TablesView, first_place}
+use Rattle.brk_table.specs.declared.faults.BuildFault.{BuildFault}
+use Rattle.brk_table.specs.declared.faults.BuildFault.TheVariants as build
+use Rattle.listing_reader.specs.declared.lines.ListFault.{ListFault}
+use Rattle.listing_reader.specs.declared.lines.ListFault.TheVariants as list
+use Rattle.cov_outside.specs.declared.whole.ReadFault.{ReadFault}
+use Rattle.cov_outside.specs.declared.whole.ReadFault.TheVariants as read
+use Rattle.job_input.specs.Meaning.{HasJob, IsJobFault}
+use Rattle.job_input.proofs.OneInput.{one_bytes, one_job}
+use Rattle.job_tables.specs.Meaning.{job_fault, Match}
+use Rattle.job_tables.specs.declared.faults.TablesFault.{TablesFault}
+use Rattle.job_tables.specs.declared.faults.TablesFault.TheVariants as first
+use Rattle.job_tables.proofs.OneTables.{one_places, one_first, one_count}
+use Rattle.job_text.specs.Meaning.{lines_of}
+use Rattle.job_text.specs.declared.jobs.JobFault.{JobFault}
+use Rattle.job_text.specs.declared.jobs.JobFault.TheVariants as fault
+use Rattle.job_text.proofs.Excluded as excluded
+use Rattle.marks_file.specs.Meaning.{MarkedView}
+use Rattle.session_book.specs.Meaning.{JobView, session_of}
+use Rattle.session_marks.specs.Meaning.{marked_module, session_marks}
+use Rattle.coverage_commands.specs.Meaning.{ReadyView, IsReady, IsRefused, Jobless, NoSession, Controlled, BadListing, HasAsked, HasNamed, controlled_asked, first_controlled, if_controlled, session_number, Asked, AnyJob, WithSession, AllWhole, Wanted, way_of}
+use Rattle.refusals.specs.Meaning.{RefusalView, refusal, read_refusal, jobless_refusal, list_refusal, build_refusal, tables_refusal}
+use Rattle.command_words.specs.declared.words.Command.{Command}
+
+pub not_both : (b : Bool) → b ≡ true → b ≡ false → ⊥
+not_both b p q = let e : true ≡ false = sym p ∙ q in absurd cc
+
+-- ---- what is asked of sessions
+
+-- a session that was named is there or is missing
+pub not_named : (asked : Asked) (j : JobView) (wanted : Wanted) → asked ≡ WithSession wanted → session_number j wanted.name ≡ None → HasAsked asked j → ⊥
+not_named asked j wanted e none h =
+    not_both (is_some (session_number j wanted.name)) (subst (λ (x : Asked). HasNamed x j) e h.named) (ap is_some none)
+
+-- and where none may have a controller none has
+pub not_free : (asked : Asked) (j : JobView) (number : ℕ) → controlled_asked asked j ≡ Some number → HasAsked asked j → ⊥
+not_free asked j number controlled h = let clash : Some number ≡ None = sym controlled ∙ h.free in absurd cc
+
+-- a session that is missing has no controller
+missing_free : (asked : Asked) (j : JobView) (wanted : Wanted) (number : ℕ) → asked ≡ WithSession wanted → session_number j wanted.name ≡ None → controlled_asked asked j ≡ Some number → ⊥
+missing_free asked j wanted number e none controlled = by_whole wanted.whole (sym (ap (λ (x : Asked). controlled_asked x j) e) ∙ controlled)
+  where
+    by_whole : (b : Bool) → (if b then if_controlled j (session_number j wanted.name) else None) ≡ Some number → ⊥
+    by_whole true h = let clash : None ≡ Some number = sym (ap (if_controlled j) none) ∙ h in absurd cc
+    by_whole false h = absurd cc
+
+-- a session of the job that may have a controller, one that has none, and all of them without any
+pub any_named : (j : JobView) (name : List ℕ) (number : ℕ) → session_number j name ≡ Some number → HasAsked (WithSession (record { name = name; whole = false })) j
+any_named j name number is = record { named = ap is_some is; free = refl }
+
+pub whole_named : (j : JobView) (name : List ℕ) (number : ℕ) → session_number j name ≡ Some number → (session_of j number).by ≡ None → HasAsked (WithSession (record { name = name; whole = true })) j
+whole_named j name number is free = record { named = ap is_some is; free = ap (if_controlled j) is ∙ ap (λ (o : Option ℕ). if not (is_some o) then None else Some number) free }
+
+pub all_whole : (j : JobView) → first_controlled j ≡ None → HasAsked AllWhole j
+all_whole j free = record { named = tt; free = free }
+
+-- the number of the one that is named
+pub of_name : (j : JobView) (number : ℕ) (own wanted : Wanted) → session_number j own.name ≡ Some number → WithSession own ≡ WithSession wanted → session_number j wanted.name ≡ Some number
+of_name j number own wanted is e = let same : own ≡ wanted = cc in subst (λ (w : Wanted). session_number j w.name ≡ Some number) same is
+
+pub unnamed : (j : JobView) (number : ℕ) (wanted : Wanted) → AnyJob ≡ WithSession wanted → session_number j wanted.name ≡ Some number
+unnamed j number wanted e = absurd cc
+
+pub nameless : (j : JobView) (number : ℕ) (wanted : Wanted) → AllWhole ≡ WithSession wanted → session_number j wanted.name ≡ Some number
+nameless j number wanted e = absurd cc
+
+-- ---- no refusal has status 0
+
+pub read_told : (e : ReadFault) → (read_refusal e).status ≡ 0 → ⊥
+read_told read.Failed p = absurd cc
+read_told read.TooLarge p = absurd cc
+read_told read.NoMemory p = absurd cc
+
+jobless_told : (e : JobFault) → (jobless_refusal e).status ≡ 0 → ⊥
+jobless_told (fault.BadJob n) p = absurd cc
+jobless_told (fault.TooLarge what n) p = absurd cc
+jobless_told fault.NoMemory p = absurd cc
+
+list_told : (name : List ℕ) (e : ListFault) → (list_refusal name e).status ≡ 0 → ⊥
+list_told name list.NoHeading p = absurd cc
+list_told name (list.BadObject n) p = absurd cc
+list_told name list.NoMemory p = absurd cc
+
+build_told : (name : List ℕ) (loc : ℕ) (e : BuildFault) → (build_refusal name loc e).status ≡ 0 → ⊥
+build_told name loc (build.Odd n) p = absurd cc
+build_told name loc (build.Outside n) p = absurd cc
+build_told name loc (build.Overlap n) p = absurd cc
+build_told name loc (build.TooMany n) p = absurd cc
+build_told name loc (build.OwnSvc n) p = absurd cc
+build_told name loc (build.Mismatch n a b) p = absurd cc
+build_told name loc build.NoMemory p = absurd cc
+
+tables_told : (e : TablesFault) → (tables_refusal e).status ≡ 0 → ⊥
+tables_told (first.List name e) p = list_told name e p
+tables_told (first.Build name loc e) p = build_told name loc e p
+tables_told first.NoMemory p = absurd cc
+
+pub status_is : (r q : RefusalView) → r ≡ q → r.status ≡ q.status
+status_is r q e = ap (λ (v : RefusalView). v.status) e
+
+pub refused_told : (more : Bool) (asked : Asked) (b : List ℕ) (r : RefusalView) → IsRefused more asked b r → r.status ≡ 0 → ⊥
+refused_told more asked b r (Jobless e is other told) z = jobless_told e (sym (status_is r (jobless_refusal e) told) ∙ z)
+refused_told more asked b r (NoSession j wanted has named missing told) z = let x : 13 ≡ 0 = sym (status_is r _ told) ∙ z in absurd cc
+refused_told more asked b r (Controlled j number has controlled told) z = let x : 14 ≡ 0 = sym (status_is r _ told) ∙ z in absurd cc
+refused_told more asked b r (BadListing j e has asks some told) z = tables_told e (sym (status_is r (tables_refusal e) told) ∙ z)
+
+-- ---- bytes have a job as is asked, or a refusal, which is one
+
+pub ready_or_refused : (more : Bool) (asked : Asked) (b : List ℕ) (j : JobView) (r : RefusalView) → HasJob more (lines_of b) j → HasAsked asked j → job_fault j ≡ None → IsRefused more asked b r → ⊥
+ready_or_refused more asked b j r has asks none (Jobless e is other told) = other (is.jobless j has)
+ready_or_refused more asked b j r has asks none (NoSession k wanted its named missing told) =
+    not_named asked k wanted named missing (subst (λ (i : JobView). HasAsked asked i) (one_job more (lines_of b) j k has its).1 asks)
+ready_or_refused more asked b j r has asks none (Controlled k number its controlled told) =
+    not_free asked k number controlled (subst (λ (i : JobView). HasAsked asked i) (one_job more (lines_of b) j k has its).1 asks)
+ready_or_refused more asked b j r has asks none (BadListing k e its named some told) =
+    let clash : None ≡ Some e = sym none ∙ (ap job_fault (one_job more (lines_of b) j k has its).1 ∙ some) in absurd cc
+
+-- two faults of the same bytes have one status, where neither is want of memory
+same_fault : (more : Bool) (b : List ℕ) (e f : JobFault) → IsJobFault more b e → IsJobFault more b f → e ≢ fault.NoMemory → f ≢ fault.NoMemory → (jobless_refusal e).status ≡ (jobless_refusal f).status
+same_fault more b (fault.BadJob n) (fault.BadJob m) p q one other = refl
+same_fault more b (fault.BadJob n) (fault.TooLarge what m) p q one other = absurd (excluded.not_both (lines_of b) what n m p.first q.first)
+same_fault more b (fault.BadJob n) fault.NoMemory p q one other = absurd (other refl)
+same_fault more b (fault.TooLarge what n) (fault.BadJob m) p q one other = absurd (excluded.not_both (lines_of b) what m n q.first p.first)
+same_fault more b (fault.TooLarge what n) (fault.TooLarge which m) p q one other = refl
+same_fault more b (fault.TooLarge what n) fault.NoMemory p q one other = absurd (other refl)
+same_fault more b fault.NoMemory f p q one other = absurd (one refl)
+
+-- the job of each is the same
+moved : (is : JobView → Type 0) (more : Bool) (b : List ℕ) (j k : JobView) → HasJob more (lines_of b) j → HasJob more (lines_of b) k → is j → is k
+moved is more b j k has its h = subst is (one_job more (lines_of b) j k has its).1 h
+
+pub one_refusal : (more : Bool) (asked : Asked) (b : List ℕ) (r q : RefusalView) → IsRefused more asked b r → IsRefused more asked b q → r.status ≡ q.status
+one_refusal more asked b r q (Jobless e is other told) (Jobless f also no_other tells) =
+    status_is r (jobless_refusal e) told ∙ (same_fault more b e f is also other no_other ∙ sym (status_is q (jobless_refusal f) tells))
+one_refusal more asked b r q (Jobless e is other told) (NoSession k wanted its named missing tells) = absurd (other (is.jobless k its))
+one_refusal more asked b r q (Jobless e is other told) (Controlled k number its controlled tells) = absurd (other (is.jobless k its))
+one_refusal more asked b r q (Jobless e is other told) (BadListing k f its asks some tells) = absurd (other (is.jobless k its))
+one_refusal more asked b r q (NoSession j wanted has named missing told) (Jobless f also other tells) = absurd (other (also.jobless j has))
+one_refusal more asked b r q (NoSession j wanted has named missing told) (NoSession k wants its names misses tells) = status_is r _ told ∙ sym (status_is q _ tells)
+one_refusal more asked b r q (NoSession j wanted has named missing told) (Controlled k number its controlled tells) =
+    absurd (missing_free asked k wanted number named (moved (λ (i : JobView). session_number i wanted.name ≡ None) more b j k has its missing) controlled)
+one_refusal more asked b r q (NoSession j wanted has named missing told) (BadListing k f its asks some tells) =
+    absurd (not_named asked k wanted named (moved (λ (i : JobView). session_number i wanted.name ≡ None) more b j k has its missing) asks)
+one_refusal more asked b r q (Controlled j number has controlled told) (Jobless f also other tells) = absurd (other (also.jobless j has))
+one_refusal more asked b r q (Controlled j number has controlled told) (NoSession k wanted its named missing tells) =
+    absurd (missing_free asked k wanted number named missing (moved (λ (i : JobView). controlled_asked asked i ≡ Some number) more b j k has its controlled))
+one_refusal more asked b r q (Controlled j number has controlled told) (Controlled k other its also tells) = status_is r _ told ∙ sym (status_is q _ tells)
+one_refusal more asked b r q (Controlled j number has controlled told) (BadListing k f its asks some tells) =
+    absurd (not_free asked k number (moved (λ (i : JobView). controlled_asked asked i ≡ Some number) more b j k has its controlled) asks)
+one_refusal more asked b r q (BadListing j e has asks some told) (Jobless f also other tells) = absurd (other (also.jobless j has))
+one_refusal more asked b r q (BadListing j e has asks some told) (NoSession k wanted its named missing tells) =
+    absurd (not_named asked k wanted named missing (moved (λ (i : JobView). HasAsked asked i) more b j k has its asks))
+one_refusal more asked b r q (BadListing j e has asks some told) (Controlled k number its controlled tells) =
+    absurd (not_free asked k number controlled (moved (λ (i : JobView). HasAsked asked i) more b j k has its asks))
+one_refusal more asked b r q (BadListing j e has asks some told) (BadListing k f its also any tells) =
+    let both : Some e ≡ Some f = sym some ∙ (ap job_fault (one_job more (lines_of b) j k has its).1 ∙ any) in
+    let same : e ≡ f = cc in
+    status_is r (tables_refusal e) told ∙ (ap (λ (x : TablesFault). (tables_refusal x).status) same ∙ sym (status_is q (tables_refusal f) tells))
+
+-- ---- jobs that are ready
+
+pub record IsSame (r o : ReadyView) : Type 0 where
+  pub jobs : o.job ≡ r.job
+  pub places : o.tables.places ≡ r.tables.places
+  pub firsts : (n : ℕ) → first_place o.tables.tables n ≡ first_place r.tables.tables n
+  pub lines : o.lines ≡ r.lines
+  pub mine : Match r.job o.tables
+
+pub one_ready : (c : Command) (b : List ℕ) (r o : ReadyView) → IsReady c b r → IsReady c b o → IsSame r o
+one_ready c b r o h g =
+    let one = one_job (way_of c).more (lines_of b) r.job o.job h.has g.has in
+    let mine : Match r.job o.tables = subst (λ (i : JobView). Match i o.tables) (sym one.1) g.match in
+    record {
+      jobs = sym one.1;
+      places = one_places r.job o.tables r.tables mine h.match;
+      firsts = λ n. one_first r.job o.tables r.tables n mine h.match;
+      lines = g.lines ∙ (sym one.0 ∙ sym h.lines);
+      mine = mine;
+    }
+
+-- where more than a job may come it is the same that came
+pub one_rest : (c : Command) (b : List ℕ) (r o : ReadyView) → (way_of c).more ≡ true → IsReady c b r → IsReady c b o → o.rest ≡ r.rest
+one_rest c b r o m h g = one_bytes o.rest r.rest (g.behind m ∙ (ap (λ (i : ℕ). drop i (lines_of b)) (one_ready c b r o h g).lines ∙ sym (h.behind m)))
+
+-- and where a session is named it has the same number
+pub one_number : (c : Command) (b : List ℕ) (r o : ReadyView) (wanted : Wanted) → (way_of c).asked ≡ WithSession wanted → IsReady c b r → IsReady c b o → o.number ≡ r.number
+one_number c b r o wanted e h g =
+    let found : Some o.number ≡ Some r.number = sym (g.named wanted e) ∙ (ap (λ (i : JobView). session_number i wanted.name) (one_ready c b r o h g).jobs ∙ h.named wanted e) in
+    cc
+
+one_module : (j : JobView) (a b : TablesView) (sets : ℕ → FactSet) (m : ℕ) → Match j a → Match j b → a.places ≡ b.places → marked_module j a sets m ≡ marked_module j b sets m
+one_module j a b sets m p q places = rw (places, one_first j a b m p q, one_count j a b m p q) refl
+
+one_modules : (j : JobView) (a b : TablesView) (sets : ℕ → FactSet) (ms : List ℕ) → Match j a → Match j b → a.places ≡ b.places → map (marked_module j a sets) ms ≡ map (marked_module j b sets) ms
+one_modules j a b sets [] p q places = refl
+one_modules j a b sets (m ∷ ms) p q places = ap (λ (x : MarkedView). x ∷ map (marked_module j a sets) ms) (one_module j a b sets m p q places) ∙ ap (λ (x : List MarkedView). marked_module j b sets m ∷ x) (one_modules j a b sets ms p q places)
+
+-- and the same marks by the same sets
+pub one_marks : (r o : ReadyView) (sets : ℕ → FactSet) → IsSame r o → o.number ≡ r.number → Match r.job r.tables → session_marks o.job o.tables sets o.number ≡ session_marks r.job r.tables sets r.number
+one_marks r o sets same numbers match' =
+    ap (λ (i : JobView). session_marks i o.tables sets o.number) same.jobs
+    ∙ (ap (λ (i : ℕ). session_marks r.job o.tables sets i) numbers ∙ one_modules r.job o.tables r.tables sets (session_of r.job r.number).modules same.mine match' same.places)

@@ -1,0 +1,14 @@
+//! How a command tells that it has nothing to write: each refusal by its status and a line of at most 160 bytes.
+//! Faults come as values from the stages below; which of them comes is decided above.
+#![tactic(auto)]
+
+mod faults;
+mod lines;
+
+pub use faults::{
+    Refusal, bad_marks, input_refusal, other_table, plain_refusal, read_refusal, tables_refusal,
+};
+pub use lines::{
+    NO_MEMORY, USAGE, bad_evidence_line, bad_schedule_line, controlled_line, no_session_line,
+    refuted_line, verified_line,
+};
