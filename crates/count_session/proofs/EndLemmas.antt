@@ -3,16 +3,16 @@ use Rattle.std.proofs.Common.{◌≡◌, ℕ, zero, suc, [], ◌∷◌, ◌++◌
 use mathlib.Core.Option.{some, some-injective, some-ne-none}
 use lib.ListN.{get_elem?}
 use Rattle.atomic_table.specs.Table.{State, Final, Seen}
-use Rattle.module_area.specs.Parties.{total}
+use Rattle.module_area.specs.MeaningOfRule.{total}
 use Rattle.module_area.specs.Meaning.{PlanView, kind_at}
 use Rattle.module_area.proofs.PartyLemmas.{total_only}
 use Rattle.cov_base.specs.declared.facts.Fact.{Fact}
 use Rattle.cov_base.specs.declared.facts.Fact.TheVariants.{Ran, Went, Stayed}
-use Rattle.cov_base.specs.Facts.{is_of_kind}
+use Rattle.cov_base.specs.MeaningOfFacts.{is_of_kind}
 use Rattle.count_session.specs.declared.counts.PlaceCount.{PlaceCount}
 use Rattle.count_session.specs.Tallied.{no_count, counted, IsRead, AreRead, HasCounts}
 use Rattle.count_session.specs.Words.{count_word}
-use Rattle.count_session.specs.Rule.{notes_in}
+use Rattle.count_session.specs.Rule.{notes_in, times, IsCounting}
 use Rattle.count_session.proofs.WordLemmas.{count_there, count_behind}
 use Rattle.std.proofs.Math.Seq.{get_or-append_seam}
 use Rattle.std.proofs.lemmas.List.{get_or_append_left}
@@ -20,7 +20,6 @@ use mathlib.Core.Logic.{dite}
 use native.Mathlib.Decide.{ℕ_discrete}
 use Rattle.count_session.specs.declared.rule.NoSlot.{NoSlot}
 use Rattle.count_session.specs.declared.rule.CountView.{CountView}
-use Rattle.count_session.specs.Rule.{times, IsCounting}
 use Rattle.count_session.proofs.ViewLemmas.{rest_zero, times_most}
 
 -- each count is what the root has

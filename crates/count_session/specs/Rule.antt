@@ -3,10 +3,9 @@ use Rattle.std.specs.Prelude.{◌≡◌, ℕ, ◌+◌, ◌*◌, ◌/◌, ◌^◌
 use mathlib.Core.Option.{some}
 use lib.ListN.{get_elem?}
 use Rattle.atomic_table.specs.Table.{State}
-use Rattle.cov_base.specs.Facts.{is_of_kind}
-use Rattle.module_area.specs.Parties.{total}
+use Rattle.cov_base.specs.MeaningOfFacts.{is_of_kind}
+use Rattle.module_area.specs.MeaningOfRule.{total, IsPlan}
 use Rattle.module_area.specs.Meaning.{PlanView, original_at, kind_at, window_at}
-use Rattle.module_area.specs.PlanView.{IsPlan}
 use Rattle.count_session.specs.declared.rule.NoSlot.{NoSlot}
 use Rattle.count_session.specs.declared.rule.CountView.{CountView}
 use Rattle.count_session.specs.Notes.{CountNotes, cell_at}

@@ -1,5 +1,5 @@
 pub mod FactInside
 pub mod FactSet
-pub mod Facts
 pub mod Meaning
+pub mod MeaningOfFacts
 pub mod Published

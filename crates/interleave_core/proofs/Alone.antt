@@ -14,12 +14,11 @@ use Rattle.s370_exec.proofs.TraceLemmas.{solo_step-done}
 use Rattle.session_book.specs.Meaning.{task_of, no_task, first_state}
 use Rattle.interleave_core.specs.Meaning.{World, TaskPart, Parts, part_of, no_part, memory_in, budget_in, first_parts, first_part, place_at, PlaceChange, Stepped, parts_step, fetch_step, fetched, mark_step, marked, lift_step, lifted, do_step, done_by, changed, with_due, original_under, same_cell, in_hand, with_stage, step_of, is_spent, executed, stage_after, place_due, task_goes_on, task_done, subject_place, instruction_executed, awaits_or, unless_at, same_due}
 use Rattle.module_area.specs.Meaning.{word_at}
-use Rattle.interleave_core.specs.Core.{CoreState, CoreStepped, core_start, core_step, core_after, core_from, core_run}
+use Rattle.interleave_core.specs.MeaningOfLogs.{CoreState, CoreStepped, core_start, core_step, core_after, core_from, core_run, IsAlone, AreAlone}
 use Rattle.interleave_core.proofs.Changes.{goes_on, Changed, plant_cases, close_by}
 use Rattle.interleave_core.proofs.Runs.{same_or, got, lifted_tasks, exists_by, in_hand-stage, through}
 use Rattle.interleave_core.specs.declared.events.Event.{Event}
 use Rattle.interleave_core.specs.declared.events.Event.TheVariants.{Fetch, Mark, Lift, Do, Plant, Close}
-use Rattle.interleave_core.specs.Alone.{IsAlone, AreAlone}
 use Rattle.interleave_core.specs.declared.stage.Hand.{Hand}
 use Rattle.interleave_core.specs.declared.stage.Due.TheVariants.{Marking, Lifting, Nothing}
 use Rattle.interleave_core.specs.declared.stage.Stage.{Stage}

@@ -9,9 +9,8 @@ use Rattle.module_area.specs.Meaning.{word_at}
 use Rattle.interleave_core.specs.Meaning.{World, TaskPart, Parts, part_of, place_at, PlaceChange, controller_of, change_of, next_place, Stepped, step_of, subject_place, is_spent, with_cell, with_stage, executed, awaits_or, unless_at, task_goes_on, same_due, change_due, unless_due, task_done, breakpoint_of, of_task, may_change, changed, change_where, change_step, by_controller, may_plant, whole_step, plant_step, close_step}
 use Rattle.cov_base.specs.declared.numbers.PlaceNo.{PlaceNo}
 use Rattle.cov_base.specs.declared.numbers.SessNo.{SessNo}
-use Rattle.module_area.specs.Parties.{window_tag}
-use Rattle.interleave_core.specs.Core.{CoreState, core_after, is_task, log_after}
-use Rattle.interleave_core.specs.Entries.{Item, Gave}
+use Rattle.module_area.specs.MeaningOfRule.{window_tag}
+use Rattle.interleave_core.specs.MeaningOfLogs.{CoreState, core_after, is_task, log_after, Item, Gave}
 use Rattle.interleave_core.specs.declared.events.Event.TheVariants.{Plant, Close}
 use Rattle.interleave_core.specs.declared.events.Shown.{Shown}
 use Rattle.interleave_core.specs.declared.events.Shown.TheVariants.{Planted, Closed}

@@ -4,7 +4,7 @@ use Rattle.std.proofs.lemmas.Option.{slice_get_within}
 use Rattle.cov_base.specs.declared.limits.TheConstants.{SESSION_LIMIT}
 use Rattle.cov_base.specs.declared.numbers.PlaceNo.{PlaceNo}
 use Rattle.module_area.specs.Meaning.{PlanView, ControlledView}
-use Rattle.module_area.specs.PlanView.{IsPlan, IsControlled}
+use Rattle.module_area.specs.MeaningOfRule.{IsPlan, IsControlled}
 use Rattle.interleave_core.specs.Meaning.{controlled_by}
 
 -- numbers that rise from 0 on, below this one

@@ -5,15 +5,14 @@ use Rattle.std.proofs.lemmas.Bool.{and_from, ltb-true}
 use mathlib.Core.Option.{some, some-injective, some-ne-none}
 use lib.ListN.{get_elem?}
 use Rattle.cov_base.specs.Meaning.{FactSet, has_fact, with_fact, is_full, full_of, fact_of}
-use Rattle.cov_base.specs.Facts.{is_of_kind}
+use Rattle.cov_base.specs.MeaningOfFacts.{is_of_kind}
 use Rattle.cov_base.specs.declared.facts.Fact.{Fact}
 use Rattle.cov_base.specs.declared.facts.Fact.TheVariants.{Ran, Went, Stayed}
 use Rattle.cov_base.specs.declared.facts.Kind.{Kind}
 use Rattle.cov_base.specs.declared.facts.Kind.TheVariants.{Straight, Conditional}
 use Rattle.s370_state.specs.declared.endings.Ending.{Ending}
-use Rattle.module_area.specs.Held.{planted, IsForm}
+use Rattle.module_area.specs.MeaningOfRule.{planted, IsForm, Has, window_tag, is_breakpoint, is_lifted, fetching, planting}
 use Rattle.module_area.specs.Meaning.{tag_session, word_at, PlanView, original_at, kind_at}
-use Rattle.module_area.specs.Parties.{Has, window_tag, is_breakpoint, is_lifted, fetching, planting}
 use Rattle.module_area.specs.declared.cells.Cell.{Cell}
 use Rattle.module_area.specs.declared.parties.View.{View}
 use Rattle.module_area.proofs.FactLemmas.{is_full-true}
@@ -21,10 +20,7 @@ use Rattle.module_area.proofs.PartyLemmas.{here-add_if, more-add_if}
 use Rattle.interleave_core.specs.Meaning.{World, TaskPart, part_of, plan_in, Stepped, parts_step, fetch_step, fetched, mark_step, marked, lift_step, lifted, do_step, done_by, with_due, with_stage, original_under, same_cell, in_hand, hand_at, step_of, place_due, is_awaiting, task_done, set_of, fact_in, controller_of}
 use Rattle.interleave_core.specs.World.{IsWorld}
 use Rattle.s370_exec.specs.Meaning.{visit_of}
-use Rattle.interleave_core.specs.Core.{CoreState, core_start, core_step, core_after, core_from, core_run, log_after, entry_of}
-use Rattle.interleave_core.specs.Entries.{Entry, Item, Met, Gave}
-use Rattle.interleave_core.specs.Exact.{HasShown, HaveEnded, AreExact}
-use Rattle.interleave_core.specs.Parties.{with_mark, with_lift, with_notes, task_view, task_views, first_planter, planted_by, planter_from}
+use Rattle.interleave_core.specs.MeaningOfLogs.{CoreState, core_start, core_step, core_after, core_from, core_run, log_after, entry_of, Entry, Item, Met, Gave, HasShown, HaveEnded, AreExact, with_mark, with_lift, with_notes, task_view, task_views, first_planter, planted_by, planter_from}
 use Rattle.interleave_core.specs.declared.events.Event.{Event}
 use Rattle.interleave_core.specs.declared.events.Event.TheVariants.{Fetch, Mark, Lift, Do, Plant, Close}
 use Rattle.interleave_core.specs.declared.events.Shown.TheVariants.{Fetched, Marked, Lifted, Done}

@@ -4,7 +4,8 @@ use Rattle.std.specs.declared.result.Result.{Result}
 use Rattle.std.specs.declared.result.Result.TheVariants.{Ok, Err}
 use Rattle.interleave_core.specs.Meaning.{World, Parts, parts_step}
 use Rattle.interleave_core.specs.World.{IsWorld}
-use Rattle.interleave_core.specs.Core.{CoreState, core_start, core_step, core_after, core_run, Stands, FollowsAll, FollowsNone}
+use Rattle.interleave_core.specs.MeaningOfLogs.{CoreState, core_start, core_step, core_after, core_run, Stands}
+use Rattle.interleave_core.specs.Core.{FollowsAll, FollowsNone}
 use Rattle.interleave_core.specs.declared.events.Event.{Event}
 use Rattle.interleave_core.specs.declared.events.NotPossible.{NotPossible}
 use Rattle.interleave_core.specs.declared.events.Shown.{Shown}

@@ -7,14 +7,14 @@ use Rattle.std.proofs.lemmas.Grind.{get_or-set_at}
 use Rattle.std.proofs.lemmas.Bool.{ltb-true, leb-false}
 use Rattle.cov_base.specs.declared.numbers.TaskNo.{TaskNo}
 use Rattle.module_area.specs.Meaning.{tag_session, kind_at, word_at}
-use Rattle.module_area.specs.PlanView.{IsPlan}
+use Rattle.module_area.specs.MeaningOfRule.{IsPlan}
 use Rattle.s370_state.specs.declared.endings.Ending.TheVariants.{Returned, Spent}
 use Rattle.s370_state.specs.declared.endings.Next.{Next}
 use Rattle.s370_state.specs.declared.endings.Next.TheVariants.{On, Ended as NextEnded}
 use Rattle.s370_exec.specs.Meaning.{has_returned}
 use Rattle.s370_exec.proofs.TraceLemmas.{solo_step-done}
 use Rattle.interleave_core.specs.Meaning.{World, TaskPart, Parts, part_of, no_part, plan_in, memory_in, budget_in, place_at, change_due, task_goes_on, Stepped, parts_step, run_on, of_task, with_task, with_stage, with_due, with_set, with_cell, place_due, is_spent, is_awaiting, due_after_fetch, hand_at, fetched, fetch_step, marked, mark_step, lifted, lift_step, in_hand, same_due, same_cell, original_under, step_of, subject_place, executed, stage_after, instruction_executed, awaits_or, unless_at, ready_done, task_done, done_by, do_step, set_of, fact_in, next_of, stage_event, PlaceChange, change_of, next_place, after, next_events, go_events, most_events}
-use Rattle.interleave_core.specs.Core.{is_by, is_task}
+use Rattle.interleave_core.specs.MeaningOfLogs.{is_by, is_task}
 use Rattle.interleave_core.specs.declared.events.Event.{Event}
 use Rattle.interleave_core.specs.declared.events.Event.TheVariants as event
 use Rattle.interleave_core.specs.declared.stage.Due.{Due}

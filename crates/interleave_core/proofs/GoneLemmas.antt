@@ -3,9 +3,9 @@ use Rattle.std.proofs.Common.{◌≡◌, inl, inr, ℕ, zero, suc, ◌<◌, true
 use Rattle.std.proofs.lemmas.Bool.{cases_lt}
 use Rattle.std.proofs.lemmas.List.Elements.{All-cons}
 use Rattle.cov_base.specs.declared.numbers.TaskNo.{TaskNo}
-use Rattle.module_area.specs.PlanView.{IsPlan}
+use Rattle.module_area.specs.MeaningOfRule.{IsPlan}
 use Rattle.interleave_core.specs.Meaning.{World, Parts, plan_in, parts_step, run_on, next_of, after, most_events, next_events, go_events, all_events}
-use Rattle.interleave_core.specs.Core.{is_by}
+use Rattle.interleave_core.specs.MeaningOfLogs.{is_by}
 use Rattle.interleave_core.specs.Results.{IsOver}
 use Rattle.interleave_core.specs.Going.{HasGone}
 use Rattle.interleave_core.specs.declared.events.Event.{Event}

@@ -15,10 +15,8 @@ use Rattle.cov_base.specs.declared.facts.Kind.{Kind}
 use Rattle.cov_base.specs.declared.facts.Kind.TheVariants.{Straight, Conditional}
 use Rattle.module_area.proofs.Indices.{same_index, index_below}
 use Rattle.module_area.specs.Meaning.{tag_session, word_at, no_cell, set_in, index_of, PlanView, kind_at, original_at, is_over}
-use Rattle.module_area.specs.Parties.{window_tag}
+use Rattle.module_area.specs.MeaningOfRule.{window_tag, IsForm, planted, lifted as lifted_cell, IsPlan}
 use Rattle.module_area.proofs.PlanLemmas.{over_small}
-use Rattle.module_area.specs.Held.{IsForm, planted, lifted as lifted_cell}
-use Rattle.module_area.specs.PlanView.{IsPlan}
 use Rattle.module_area.specs.declared.cells.Cell.{Cell}
 use Rattle.interleave_core.specs.Meaning.{World, TaskPart, Parts, plan_in, place_at, no_part, Stepped, of_task, with_task, with_stage, with_due, with_cell, place_due, is_spent, is_awaiting, subject_place, step_of, due_after_fetch, in_hand, same_due, fetched, fetch_step, marked, mark_step, lifted, lift_step, done_by, do_step, task_done, task_goes_on, parts_step, set_of, fact_in, original_under, same_cell, hand_at, executed, stage_after, awaits_or, unless_at, instruction_executed}
 use Rattle.interleave_core.specs.Views.{RunningView, IsRunning, IsStage, IsHand, AreTied, IsCore, parts_of}

@@ -17,9 +17,7 @@ use Rattle.module_area.specs.declared.cells.Cell.{Cell}
 use Rattle.s370_exec.proofs.StepLemmas.{solo_step-rest_refused, solo_step-unread, solo_step-read, solo_step-ex}
 use Rattle.interleave_core.specs.Meaning.{World, TaskPart, Parts, part_of, memory_in, budget_in, place_at, place_from, no_part, first_part, Stepped, parts_step, fetch_step, fetched, mark_step, marked, lift_step, lifted, do_step, done_by, with_due, original_under, same_cell, in_hand, subject_place, step_of, place_due, is_awaiting, is_spent, executed, stage_after, awaits_or, with_stage, unless_at, instruction_executed, task_goes_on, task_done, same_due, hand_at, set_of}
 use Rattle.interleave_core.specs.World.{IsWorld}
-use Rattle.interleave_core.specs.Entries.{Item, Met, Gave}
-use Rattle.interleave_core.specs.Core.{CoreState, CoreStepped, core_start, core_step, core_after, core_from, core_run, log_after}
-use Rattle.interleave_core.specs.Alone.{alone}
+use Rattle.interleave_core.specs.MeaningOfLogs.{Item, Met, Gave, CoreState, CoreStepped, core_start, core_step, core_after, core_from, core_run, log_after, alone, Noted, note, noted, fact_at, logged, first_visit, visits_in_hand, HasLog, HaveLogs}
 use Rattle.interleave_core.specs.declared.events.Shown.{Shown}
 use Rattle.interleave_core.specs.declared.events.Shown.TheVariants.{Fetched, Marked, Lifted, Done}
 use Rattle.interleave_core.specs.declared.events.Event.{Event}
@@ -33,14 +31,13 @@ use Rattle.s370_state.specs.declared.endings.Ending.TheVariants.{Returned, Spent
 use Rattle.s370_state.specs.declared.endings.Next.{Next}
 use Rattle.s370_state.specs.declared.endings.Next.TheVariants.{On, Ended as NextEnded}
 use Rattle.session_book.specs.Meaning.{task_of, no_task, first_state}
-use Rattle.module_area.specs.Parties.{window_tag}
+use Rattle.module_area.specs.MeaningOfRule.{window_tag}
 use Rattle.std.proofs.lemmas.Grind.{get_or-set_at}
 use Rattle.std.proofs.lemmas.Option.{same_Some}
 use Rattle.std.proofs.lemmas.Bool.{ltb-true}
 use Rattle.interleave_core.specs.declared.stage.Due.{Due}
 use Rattle.interleave_core.specs.declared.stage.Stage.{Stage}
 use Rattle.interleave_core.specs.declared.stage.Stage.TheVariants.{Ready, Awaiting, Holding, Ended}
-use Rattle.interleave_core.specs.Logs.{Noted, note, noted, fact_at, logged, first_visit, visits_in_hand, HasLog, HaveLogs}
 
 pub noted-append : (w : World) (a b : List Visit) → noted w (a ++ b) ≡ noted w a ++ noted w b
 noted-append w [] b = refl

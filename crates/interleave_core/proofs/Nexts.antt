@@ -7,11 +7,11 @@ use Rattle.cov_base.specs.declared.numbers.TaskNo.{TaskNo}
 use Rattle.s370_state.specs.declared.endings.Ending.TheVariants.{Returned, Spent}
 use Rattle.s370_exec.specs.Meaning.{has_returned}
 use Rattle.module_area.specs.Meaning.{word_at}
-use Rattle.module_area.specs.PlanView.{IsPlan}
+use Rattle.module_area.specs.MeaningOfRule.{IsPlan}
 use Rattle.cov_base.specs.declared.numbers.PlaceNo.{PlaceNo as Number}
 use Rattle.cov_base.specs.declared.numbers.SessNo.{SessNo}
 use Rattle.interleave_core.specs.Meaning.{World, TaskPart, Parts, part_of, place_at, plan_in, PlaceChange, controller_of, change_of, next_place, Stepped, of_task, task_goes_on, change_due, unless_due, may_change, changed, change_where, change_step, by_controller, whole_step, fetch_step, fetched, mark_step, marked, lift_step, lifted, do_step, done_by, task_done, ready_done, instruction_executed, executed, unless_at, with_stage, place_due, subject_place, step_of, is_spent, in_hand, same_due, stage_event, next_of, fetch_or, change_or_do, event_due}
-use Rattle.interleave_core.specs.Core.{is_by, is_task}
+use Rattle.interleave_core.specs.MeaningOfLogs.{is_by, is_task}
 use Rattle.interleave_core.specs.Results.{IsDue}
 use Rattle.interleave_core.specs.Views.{IsStage, IsTied}
 use Rattle.interleave_core.proofs.Changes.{goes_on, done_due, Changed, plant_cases, close_by}

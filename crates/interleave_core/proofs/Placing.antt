@@ -9,8 +9,7 @@ use Rattle.cov_base.specs.declared.limits.TheConstants.{SESSION_LIMIT, PLACE_LIM
 use Rattle.cov_base.specs.declared.numbers.PlaceNo.{PlaceNo}
 use Rattle.cov_base.specs.declared.numbers.SessNo.{SessNo}
 use Rattle.module_area.specs.Meaning.{word_at, PlanView, window_at, is_over, is_controlled}
-use Rattle.module_area.specs.Held.{IsForm}
-use Rattle.module_area.specs.PlanView.{IsPlan, IsControlled}
+use Rattle.module_area.specs.MeaningOfRule.{IsForm, IsPlan, IsControlled}
 use Rattle.module_area.specs.declared.cells.Cell.{Cell}
 use Rattle.module_area.proofs.PlanLemmas.{over_small}
 use Rattle.interleave_core.specs.Meaning.{World, TaskPart, Parts, plan_in, part_of, no_part, PlaceChange, controller_of, Stepped, of_task, with_task, breakpoint_of, changed_cell, may_change, changed, change_where, change_step, change_due, parts_step, by_controller, whole_step}

@@ -15,8 +15,7 @@ use Rattle.s370_state.specs.declared.endings.Next.TheVariants.{On, Ended as Next
 use Rattle.s370_exec.specs.Meaning.{is_execute, has_returned}
 use Rattle.module_area.specs.Meaning.{word_at, no_cell, index_of, tag_session, PlanView, ControlledView, has_place, is_controlled, is_over, original_at, kind_at, window_at}
 use Rattle.module_area.specs.Notes.{is_closed}
-use Rattle.module_area.specs.Parties.{window_tag}
-use Rattle.module_area.specs.PlanView.{IsPlan}
+use Rattle.module_area.specs.MeaningOfRule.{window_tag, IsPlan}
 use Rattle.module_area.specs.declared.cells.Cell.{Cell}
 use Rattle.module_area.proofs.Indices.{same_index, and_left, and_right, and_both}
 use Rattle.module_area.proofs.PlanLemmas.{any_at, any_shown, over_cases}

@@ -7,15 +7,12 @@ use Rattle.std.proofs.lemmas.List.{length-set}
 use Rattle.cov_base.specs.Meaning.{FactSet, with_fact, is_full}
 use Rattle.cov_base.specs.declared.facts.Fact.{Fact}
 use Rattle.module_area.specs.Meaning.{word_at, tag_session, PlanView, kind_at, is_over}
-use Rattle.module_area.specs.Held.{planted, Held}
-use Rattle.module_area.specs.Parties.{window_tag, is_breakpoint, fetching}
+use Rattle.module_area.specs.MeaningOfRule.{planted, Held, window_tag, is_breakpoint, fetching}
 use Rattle.module_area.specs.declared.cells.Cell.{Cell}
 use Rattle.module_area.specs.declared.parties.Role.TheVariants.{Root, Task}
 use Rattle.module_area.specs.declared.parties.View.{View}
 use Rattle.interleave_core.specs.Meaning.{World, TaskPart, Parts, part_of, plan_in, no_part, same_due, in_hand, set_of, fact_in}
-use Rattle.interleave_core.specs.Core.{CoreState, log_after}
-use Rattle.interleave_core.specs.Entries.{Entry, Item, Met, Gave}
-use Rattle.interleave_core.specs.Parties.{with_mark, with_lift, task_view, task_views}
+use Rattle.interleave_core.specs.MeaningOfLogs.{CoreState, log_after, Entry, Item, Met, Gave, with_mark, with_lift, task_view, task_views}
 use Rattle.interleave_core.specs.declared.events.Shown.{Shown}
 use Rattle.interleave_core.specs.declared.stage.Hand.{Hand}
 use Rattle.interleave_core.specs.declared.stage.Due.{Due}

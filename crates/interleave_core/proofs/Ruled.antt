@@ -5,7 +5,7 @@ use Rattle.std.proofs.lemmas.List.{get_or-map, get_or-set_other, get_or-replicat
 use Rattle.std.proofs.lemmas.Option.{same_Some}
 use Rattle.std.proofs.lemmas.Bool.{and_parts, ltb-true, cases_lt}
 use Rattle.cov_base.specs.Meaning.{breakpoint, FactSet, no_facts, has_fact, with_fact, is_full, fact_of, Visit}
-use Rattle.cov_base.specs.Facts.{is_of_kind}
+use Rattle.cov_base.specs.MeaningOfFacts.{is_of_kind}
 use Rattle.cov_base.specs.declared.facts.Fact.{Fact}
 use Rattle.cov_base.specs.declared.facts.Fact.TheVariants.{Ran, Went, Stayed}
 use Rattle.cov_base.specs.declared.facts.Kind.{Kind}
@@ -15,9 +15,7 @@ use Rattle.s370_state.specs.declared.endings.Next.{Next}
 use Rattle.s370_state.specs.declared.endings.Next.TheVariants.{On, Ended as NextEnded}
 use Rattle.s370_exec.specs.Meaning.{is_execute, has_returned, visit_of}
 use Rattle.module_area.specs.Meaning.{fresh_word, word_at, no_cell, tag_session, index_of, PlanView, original_at, kind_at, is_over, no_place}
-use Rattle.module_area.specs.Held.{planted, lifted as lifted_cell, IsForm, Held}
-use Rattle.module_area.specs.Parties.{Has, window_tag, is_breakpoint, blank, fetching, marking, lifting, planting}
-use Rattle.module_area.specs.PlanView.{IsPlan}
+use Rattle.module_area.specs.MeaningOfRule.{planted, lifted as lifted_cell, IsForm, Held, Has, window_tag, is_breakpoint, blank, fetching, marking, lifting, planting, IsPlan}
 use Rattle.module_area.specs.declared.cells.Cell.{Cell}
 use Rattle.module_area.specs.declared.parties.Role.TheVariants.{Root, Task, Spent}
 use Rattle.module_area.specs.declared.parties.View.{View}
@@ -31,9 +29,7 @@ use Rattle.module_area.proofs.StepLemmas.{breakpoint_form, fetches, marks, spent
 use Rattle.session_book.specs.Meaning.{no_task}
 use Rattle.interleave_core.specs.Meaning.{World, TaskPart, Parts, part_of, plan_in, place_at, first_parts, first_part, no_part, task_goes_on, Stepped, parts_step, fetch_step, fetched, mark_step, marked, lift_step, lifted, do_step, done_by, with_cell, with_due, with_stage, original_under, same_cell, same_due, in_hand, hand_at, subject_place, step_of, place_due, is_awaiting, is_spent, executed, stage_after, awaits_or, unless_at, instruction_executed, task_done, set_of, fact_in}
 use Rattle.interleave_core.specs.World.{IsWorld}
-use Rattle.interleave_core.specs.Core.{CoreState, core_start, core_step, core_after, core_from, core_run, log_after, entry_of}
-use Rattle.interleave_core.specs.Entries.{Entry, Item, Met}
-use Rattle.interleave_core.specs.Parties.{task_view, task_views, numbers, first_planter, planted_by, planter_from, KeepRule}
+use Rattle.interleave_core.specs.MeaningOfLogs.{CoreState, core_start, core_step, core_after, core_from, core_run, log_after, entry_of, Entry, Item, Met, task_view, task_views, numbers, first_planter, planted_by, planter_from, KeepRule}
 use Rattle.interleave_core.specs.declared.events.Event.{Event}
 use Rattle.interleave_core.specs.declared.events.Event.TheVariants.{Fetch, Mark, Lift, Do, Plant, Close}
 use Rattle.interleave_core.specs.declared.events.Shown.TheVariants.{Fetched, Marked, Lifted, Done}

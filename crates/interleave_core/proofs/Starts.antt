@@ -8,7 +8,7 @@ use Rattle.cov_base.specs.declared.facts.Kind.TheVariants.{Straight, Conditional
 use Rattle.brk_table.specs.Places.{ArePlaces, IsIn}
 use Rattle.session_book.specs.JobView.{IsJob}
 use Rattle.module_area.specs.Meaning.{index_of, set_in, fresh_word, word_at, no_cell, PlanView, kind_at, no_place}
-use Rattle.module_area.specs.PlanView.{IsPlan}
+use Rattle.module_area.specs.MeaningOfRule.{IsPlan}
 use Rattle.module_area.specs.declared.cells.Cell.{Cell}
 use Rattle.session_book.specs.Meaning.{task_of, no_task}
 use Rattle.space_map.specs.Space.{row_of}

@@ -7,7 +7,7 @@ use Rattle.std.proofs.lemmas.Option.{same_Some}
 use Rattle.std.proofs.lemmas.Bool.{and_from, cases_lt, ne_eqb}
 use Rattle.cov_base.specs.declared.numbers.PlaceNo.{PlaceNo}
 use Rattle.module_area.specs.Meaning.{word_at, ControlledView, has_place, is_controlled, window_at}
-use Rattle.module_area.specs.PlanView.{IsPlan, IsControlled, AreApart, is_controller}
+use Rattle.module_area.specs.MeaningOfRule.{IsPlan, IsControlled, AreApart, is_controller}
 use Rattle.module_area.specs.declared.cells.Cell.{Cell}
 use Rattle.module_area.proofs.PlanLemmas.{any_shown}
 use Rattle.s370_exec.specs.Meaning.{call_of}

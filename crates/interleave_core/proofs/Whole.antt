@@ -13,7 +13,7 @@ use Rattle.cov_base.specs.declared.facts.Fact.TheVariants.{Ran, Went, Stayed}
 use Rattle.s370_state.specs.declared.endings.Ending.{Ending}
 use Rattle.s370_exec.specs.Meaning.{Run}
 use Rattle.module_area.specs.Meaning.{executes, facts_at, facts_of_all, tag_session, word_at, no_cell, kind_at, window_at, place_of, no_place}
-use Rattle.module_area.specs.Parties.{Has, window_tag}
+use Rattle.module_area.specs.MeaningOfRule.{Has, window_tag}
 use Rattle.module_area.specs.declared.cells.Cell.{Cell}
 use Rattle.module_area.specs.declared.parties.View.{View}
 use Rattle.module_area.specs.declared.places.Place.{Place}
@@ -25,13 +25,7 @@ use Rattle.session_book.specs.Meaning.{SessionView, TaskView, session_of, no_ses
 use Rattle.brk_table.proofs.PlaceLemmas.{one_begins}
 use Rattle.interleave_core.specs.Meaning.{World, TaskPart, Parts, part_of, plan_in, place_at, Stepped, parts_step, fetch_step, fetched, mark_step, marked, lift_step, lifted, do_step, done_by, may_plant, breakpoint_of, with_cell, with_due, with_stage, original_under, same_cell, in_hand, hand_at, step_of, place_due, is_awaiting, task_done, set_of, fact_in}
 use Rattle.interleave_core.specs.World.{IsWorld}
-use Rattle.interleave_core.specs.Alone.{alone, IsAlone}
-use Rattle.interleave_core.specs.Core.{CoreState, core_start, core_step, core_after, core_from, core_run, log_after}
-use Rattle.interleave_core.specs.Entries.{Item, Met, Gave}
-use Rattle.interleave_core.specs.Exact.{HasShown}
-use Rattle.interleave_core.specs.Logs.{Noted, note, noted, fact_at, logged, visits_in_hand, HasLog}
-use Rattle.interleave_core.specs.Parties.{planted_by, planter_from, first_planter}
-use Rattle.interleave_core.specs.Whole.{planted_first, ArePlantedFirst, trace_in, AreWhole}
+use Rattle.interleave_core.specs.MeaningOfLogs.{alone, IsAlone, CoreState, core_start, core_step, core_after, core_from, core_run, log_after, Item, Met, Gave, HasShown, Noted, note, noted, fact_at, logged, visits_in_hand, HasLog, planted_by, planter_from, first_planter, planted_first, ArePlantedFirst, trace_in, AreWhole}
 use Rattle.interleave_core.specs.declared.events.Event.{Event}
 use Rattle.interleave_core.specs.declared.events.Event.TheVariants.{Fetch, Mark, Lift, Do, Plant, Close}
 use Rattle.interleave_core.specs.declared.events.Shown.TheVariants.{Fetched, Marked, Lifted, Done}

@@ -1,14 +1,9 @@
-pub mod Alone
 pub mod Core
-pub mod Entries
-pub mod Exact
 pub mod Going
-pub mod Logs
 pub mod Meaning
-pub mod Parties
+pub mod MeaningOfLogs
 pub mod Quiet
 pub mod Results
 pub mod Sample
 pub mod Views
-pub mod Whole
 pub mod World

@@ -6,8 +6,7 @@ use Rattle.cov_base.specs.declared.numbers.PlaceNo.{PlaceNo}
 use Rattle.cov_base.specs.declared.limits.TheConstants.{SESSION_LIMIT, PLACE_LIMIT}
 use Rattle.module_area.specs.declared.cells.Cell.{Cell}
 use Rattle.module_area.specs.Meaning.{word_at, set_in, PlanView, ControlledView, kind_at, is_over}
-use Rattle.module_area.specs.Held.{planted, IsForm}
-use Rattle.module_area.specs.PlanView.{IsPlan}
+use Rattle.module_area.specs.MeaningOfRule.{planted, IsForm, IsPlan}
 use Rattle.brk_table.specs.Meaning.{TablesView}
 use Rattle.brk_table.specs.Places.{AreSeen, ArePlaces, IsIn}
 use Rattle.space_map.specs.Space.{SpaceView, memory_of_space}

@@ -4,7 +4,8 @@ use mathlib.Core.Option.{some, some-injective, some-ne-none}
 use mathlib.Core.Logic.{dite}
 use native.Mathlib.Decide.{ℕ_discrete}
 use lib.ListN.{get_elem?}
-use Rattle.module_area.specs.Parties.{Has, add_if, times, total, chosen, last_tag}
+use Rattle.module_area.specs.MeaningOfRule.{Has, add_if, times, total, last_tag}
+use Rattle.module_area.specs.Parties.{chosen}
 
 module _ {X : Type 0} where
   pub has-add_if : (b : Bool) (x y : X) (ys : List X) → Has x (add_if b y ys) → ((b ≡ true) × (y ≡ x)) ⊎ Has x ys

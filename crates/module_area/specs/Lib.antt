@@ -2,9 +2,9 @@ pub mod AreasView
 pub mod Control
 pub mod Drained
 pub mod Ended
-pub mod Held
 pub mod Images
 pub mod Meaning
+pub mod MeaningOfRule
 pub mod Notes
 pub mod Parties
 pub mod PlanView

@@ -6,7 +6,7 @@ use Rattle.cov_base.specs.declared.numbers.TaskNo.{TaskNo}
 use Rattle.module_area.specs.declared.places.Place.{Place}
 use Rattle.session_book.specs.Meaning.{JobView}
 use Rattle.interleave_core.specs.Meaning.{World, Parts, first_parts, Stepped, parts_step, run_on, next_of, results_of, after, all_events}
-use Rattle.interleave_core.specs.Core.{CoreState, core_start, core_after, core_from, go_on}
+use Rattle.interleave_core.specs.MeaningOfLogs.{CoreState, core_start, core_after, core_from, go_on}
 use Rattle.interleave_core.specs.Going.{HasGone}
 use Rattle.interleave_core.specs.World.{IsWorld}
 use Rattle.interleave_core.specs.declared.events.Event.{Event}

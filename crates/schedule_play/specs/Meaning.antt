@@ -6,7 +6,7 @@ use Rattle.module_area.specs.Meaning.{window_at, place_of}
 use Rattle.module_area.specs.declared.places.Place.{Place}
 use Rattle.session_book.specs.Meaning.{JobView, task_of, session_of}
 use Rattle.interleave_core.specs.Meaning.{World, Parts, plan_in, first_parts, Stepped, parts_step, run_on, set_of, all_events, after, next_of, results_of}
-use Rattle.interleave_core.specs.Core.{CoreState, core_run, Stands}
+use Rattle.interleave_core.specs.MeaningOfLogs.{CoreState, core_run, Stands}
 use Rattle.interleave_core.specs.declared.events.Event.{Event}
 use Rattle.interleave_core.specs.declared.events.Event.TheVariants as event
 use Rattle.interleave_core.specs.declared.events.Shown.TheVariants.{Done, Fetched, Marked, Lifted, Planted, Closed}

@@ -11,10 +11,9 @@ use Rattle.module_area.specs.declared.parties.Role.{Role}
 use Rattle.module_area.specs.declared.parties.Role.TheVariants.{Root, Task, Spent}
 use Rattle.module_area.specs.declared.tallies.Tally.{Tally}
 use Rattle.module_area.specs.Meaning.{PlanView, original_at, kind_at, is_over, is_controlled}
-use Rattle.module_area.specs.PlanView.{has_task}
+use Rattle.module_area.specs.MeaningOfRule.{has_task, Has, add_if, last_tag, window_tag, fetching, marking, lifting, tagging, Keeps}
 use Rattle.module_area.specs.Notes.{own_number, is_working}
-use Rattle.module_area.specs.Parties.{Has, add_if, last_tag, window_tag, fetching, marking, lifting, tagging, giving, role_task}
-use Rattle.module_area.specs.Held.{Keeps}
+use Rattle.module_area.specs.Parties.{giving, role_task}
 use Rattle.shared_area.specs.declared.rule.NoSlot.{NoSlot}
 use Rattle.shared_area.specs.declared.cells.SharedCells.{SharedCells}
 use Rattle.shared_area.specs.Words.{cell_of, word_of, closed_word_of, bit_of, facts_of, set_word, task_word}

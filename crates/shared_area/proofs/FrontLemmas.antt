@@ -17,9 +17,8 @@ use Rattle.module_area.specs.declared.cells.Cell.{Cell}
 use Rattle.module_area.specs.declared.parties.View.{View}
 use Rattle.module_area.specs.declared.parties.Role.TheVariants.{Root, Task, Spent}
 use Rattle.module_area.specs.Meaning.{PlanView, original_at, kind_at, is_over, is_controlled}
-use Rattle.module_area.specs.PlanView.{has_task}
-use Rattle.module_area.specs.Parties.{Has, last_tag, window_tag, blank, is_breakpoint, fetching, marking, lifting, planting, closing, giving, newcomer, joining}
-use Rattle.module_area.specs.Held.{Keeps, Held}
+use Rattle.module_area.specs.MeaningOfRule.{has_task, Has, last_tag, window_tag, blank, is_breakpoint, fetching, marking, lifting, planting, Keeps, Held}
+use Rattle.module_area.specs.Parties.{closing, giving, newcomer, joining}
 use Rattle.module_area.specs.Drained.{Drained}
 use Rattle.module_area.proofs.ForkLemmas.{splits, joins}
 use Rattle.module_area.proofs.DrainLemmas.{mark_drained, cell_drained, fetch_drained, split_drained, join_drained}

@@ -4,9 +4,9 @@ use Rattle.atomic_table.specs.Table.{State}
 use Rattle.cov_base.specs.declared.numbers.TaskNo.{TaskNo}
 use Rattle.module_area.specs.declared.parties.View.{View}
 use Rattle.module_area.specs.Meaning.{PlanView, tag_session}
-use Rattle.module_area.specs.Parties.{last_tag, role_task, tagging, bounding, noting}
+use Rattle.module_area.specs.MeaningOfRule.{last_tag, tagging, Held}
+use Rattle.module_area.specs.Parties.{role_task, bounding, noting}
 use Rattle.module_area.specs.Notes.{IsWord, no_tally}
-use Rattle.module_area.specs.Held.{Held}
 use Rattle.shared_area.specs.declared.rule.NoSlot.{NoSlot}
 use Rattle.shared_area.specs.Words.{base_of, cells_in, sets_in}
 use Rattle.shared_area.specs.Told.{notes_in, seen_at}

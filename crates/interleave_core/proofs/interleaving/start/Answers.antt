@@ -1,9 +1,9 @@
 use Rattle.std.proofs.Common.{rules, refl, ◌∙◌, subst, ◌≡◌, ◌*◌, map, replicate, length, []}
-use Rattle.module_area.specs.PlanView.{IsPlan}
+use Rattle.module_area.specs.MeaningOfRule.{IsPlan}
 use Rattle.cov_base.specs.Meaning.{no_facts}
 use Rattle.module_area.specs.Meaning.{fresh_word}
 use Rattle.interleave_core.specs.Meaning.{World, plan_in}
-use Rattle.interleave_core.specs.Core.{core_start}
+use Rattle.interleave_core.specs.MeaningOfLogs.{core_start}
 use Rattle.interleave_core.proofs.Follows.{run_stands}
 use Rattle.interleave_core.proofs.Starts.{IsCore-first, parts_are}
 use Rattle.interleave_core.proofs.interleaving.start.Goals as goal

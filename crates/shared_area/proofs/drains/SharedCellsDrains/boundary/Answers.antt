@@ -1,5 +1,6 @@
 use Rattle.std.proofs.Common.{◌≡◌, ◌+◌, ◌<◌, Bool, true, false, ℕ, if◌then◌else◌, ap, ◌∙◌, subst, arith}
-use Rattle.module_area.specs.Parties.{last_tag, role_task, bounding}
+use Rattle.module_area.specs.MeaningOfRule.{last_tag}
+use Rattle.module_area.specs.Parties.{role_task, bounding}
 use Rattle.shared_area.specs.Passes.{HasWord}
 use Rattle.shared_area.specs.Told.{notes_in}
 use Rattle.shared_area.proofs.CallLemmas.{working_task, own_is, bound_at}
