@@ -2,7 +2,6 @@
 ghost use Rattle.std.specs.Prelude.{◌≡◌, ℕ, ◌+◌, ◌<◌, ◌^◌, true, IfOk};
 ghost use Rattle.std.specs.declared.option.Option.TheVariants.{None};
 ghost use Rattle.cov_base.specs.Meaning.{FactSet};
-ghost use Rattle.module_area.specs.Ended.{AreSettled};
 ghost use Rattle.module_area.specs.Notes.{Notes, bearer, calls, is_working, split_notes};
 ghost use Rattle.module_area.specs.Meaning.{PlanView};
 ghost use Rattle.module_area.specs.Tied.{IsTied};
@@ -10,6 +9,7 @@ ghost use Rattle.observed_step.specs.Steps.{memory_at};
 ghost use Rattle.svc_monitor.specs.First.{IsOver};
 ghost use Rattle.task_run.specs.Meaning.{Course, solo};
 ghost use Rattle.task_run.specs.Ran.{RanAs};
+ghost use Rattle.task_run.specs.Settled.{OnceSettled};
 ghost use Rattle.task_run.specs.declared.tasks.Task.{Task as TaskView};
 
 use crate::run::run_task;
@@ -61,7 +61,7 @@ pub trait Runner<C: Cells> {
         requires begins { begins plan.now (bearer (C.notes pass.old)) extra.old (C.notes pass.old) }
         ensures area { C.is_pass cells.now pass.new }
         ensures ran { RanAs course (C.plan cells.now) (C.notes pass.old) (C.notes pass.new) task.old task.new result }
-        ensures ends { (sets : ℕ → ℕ → FactSet) → AreSettled (C.plan cells.now) (C.notes pass.new) sets → ends plan.now task.old task.new extra.new sets };
+        ensures ends { OnceSettled (C.plan cells.now) (C.notes pass.new) (ends plan.now task.old task.new extra.new) };
 }
 
 /// Of a task's plain run nothing is kept.
