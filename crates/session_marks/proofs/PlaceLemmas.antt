@@ -1,6 +1,5 @@
 -- The places of a table as a module's.
-use Rattle.std.proofs.Common.{◌≡◌, ℕ, ◌+◌, ◌-◌, ◌≤◌, zero, suc, List, map, [], ◌∷◌, ◌++◌, sym, ap, ◌∙◌, arith}
-use Rattle.std.specs.List.{range_with_len}
+use Rattle.std.proofs.Common.{◌≡◌, ℕ, ◌+◌, ◌-◌, ◌≤◌, zero, suc, List, [], ◌∷◌, ◌++◌, sym, ap, ◌∙◌, arith}
 use Rattle.cov_base.specs.Meaning.{FactSet}
 use Rattle.module_area.specs.declared.places.Place.{Place}
 use Rattle.marks_file.specs.declared.marks.MarkedPlace.{MarkedPlace}
