@@ -1,12 +1,12 @@
 -- The bytes that came are those that were left, and have one job or none.
-use Rattle.std.proofs.Common.{◌≡◌, ℕ, ◌<◌, ◌≤◌, Bool, true, false, nat_eq, if◌then◌else◌, Option, Some, None, List, [], ◌∷◌, ◌++◌, length, take, refl, sym, ◌∙◌, ap, subst, arith}
+use Rattle.std.proofs.Common.{◌≡◌, ℕ, ◌<◌, ◌≤◌, Bool, true, false, nat_eq, if◌then◌else◌, Option, Some, None, List, [], ◌∷◌, ◌++◌, length, refl, sym, ◌∙◌, ap, subst, arith}
 use Rattle.std.proofs.lemmas.Bool.{eqb-true}
 use Rattle.std.proofs.lemmas.List.{append-nil}
 use Rattle.cov_outside.specs.Meaning.{Rose, IsWhole, HasMoreThan}
 use Rattle.cov_outside.specs.declared.whole.ReadFault.{ReadFault}
 use Rattle.cov_outside.specs.declared.whole.ReadFault.TheVariants as read
 use Rattle.session_book.specs.Meaning.{JobView}
-use Rattle.job_text.specs.Meaning.{LineView, lines_of, put_on, Present, Spells}
+use Rattle.job_text.specs.Meaning.{LineView, lines_of, put_on, Present}
 use Rattle.job_text.proofs.Spelled.{one_first}
 use Rattle.job_input.specs.Meaning.{SourceChange, HasJob, CameWhole, IsJobFault, IsReadFault, input_limit}
 use Rattle.job_input.specs.Inputs.{CameJob, CameJobless, CameWith}
