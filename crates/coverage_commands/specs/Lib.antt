@@ -1,4 +1,5 @@
 pub mod Answers
+pub mod Calls
 pub mod Changes
 pub mod Checked
 pub mod Files

@@ -1,5 +1,9 @@
 -- What the claim of the program says by this crate's clauses.
-use Rattle.std.specs.Prelude.{ℕ, List, Option, Bool, true, false, ◌&&◌, nat_le, nat_lt, if◌then◌else◌, Some, None, [], ◌∷◌, ◌++◌, bytes_eq, codes, decimal, ◌≡◌, ◌+◌, IsSome, ◌≤◌, length, drop, ◌≢◌, ◌<◌, ◌⊎◌}
+use Rattle.std.specs.Prelude.{ℕ, List, Option, Bool, true, false, ◌&&◌, nat_le, nat_lt, if◌then◌else◌, Some, None, [], ◌∷◌, ◌++◌, bytes_eq, codes, decimal, ◌≡◌, ◌+◌, IsSome, ◌≤◌, length, drop, ◌≢◌, ◌<◌, ◌⊎◌, String, map, string_bytes}
+use Rattle.command_words.specs.Meaning.{command_of}
+use Rattle.cov_outside.specs.declared.streams.Sink as sink
+use Rattle.cov_outside.specs.declared.streams.Source as source
+use Rattle.module_area.specs.declared.areas.Areas as areas
 use Rattle.module_area.specs.Meaning.{FinalsView, first_control, place_of}
 use Rattle.module_area.specs.declared.tallies.Tally.{Tally}
 use Rattle.job_run.specs.Meaning.{Account, solo_result, walk_by, result_by, set_by, least_by, most_by, HasRunBy, set_left}
@@ -13,7 +17,7 @@ use Rattle.task_run.specs.Meaning.{Course, solo, IsBetween}
 use Rattle.table_combine.specs.Meaning.{Difference, first_difference, IsCombined, IsBad, IsOtherTable}
 use Rattle.session_book.specs.Meaning.{JobView, SessionView, session_of, is_whole, plan_view, observes, ResultView}
 use Rattle.brk_table.specs.Meaning.{TablesView}
-use Rattle.job_input.specs.Meaning.{SourceChange, CameWhole, HasJob, input_limit, IsJobFault, IsReadFault}
+use Rattle.job_input.specs.Meaning.{SourceChange, CameWhole, HasJob, input_limit, IsJobFault, IsReadFault, source_change}
 use Rattle.job_tables.specs.Meaning.{Match, job_fault}
 use Rattle.job_text.specs.Meaning.{lines_of}
 use Rattle.evidence_check.specs.Meaning.{facts_of_modules, evidence_claims, first_refuted, evidence, evidence_fields, IsVerified}
@@ -415,3 +419,12 @@ pub record IsServed (c : Command) (s : SourceChange) (a : AreasChange) (k : Sink
   pub answers : Answers c s a k answer
   pub complete : IsComplete c s answers.status
   pub untouched : IsUntouched c s a answers.status
+
+-- the command that these words are
+abbrev pub asked : {A : Type 0} → List (String A) → Command
+asked words = command_of (map string_bytes words)
+
+-- so by what source, areas and sink tell of themselves
+abbrev pub Serves : {S A C P K : Type 0} → source.Ghosts S → areas.Ghosts A C P → sink.Ghosts K → Command → S → S → A → A → K → K → ℕ → Type 0
+Serves s a k c source0 source1 areas0 areas1 sink0 sink1 answer =
+    IsServed c (source_change s.left s.faults source0 source1) (areas_change a.ledger a.finals a.made areas0 areas1) (sink_change k.written k.faults sink0 sink1) answer

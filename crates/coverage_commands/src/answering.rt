@@ -1,17 +1,12 @@
 //! The program over any source, sink and areas.
-ghost use Rattle.std.specs.Prelude.{◌≡◌, ◌+◌, ◌<◌, ◌^◌, ◌≤◌, false, true, Some, All, map, length, string_bytes};
+ghost use Rattle.std.specs.Prelude.{◌≡◌, ◌+◌, ◌<◌, ◌^◌, ◌≤◌, false, true, All, length};
 ghost use Rattle.job_tables.specs.Tables.{IsReadyJob};
-ghost use Rattle.job_input.specs.Meaning.{SourceChange, source_change};
-ghost use Rattle.job_input.specs.Inputs.{CameJob, to_end, to_go_on, CameWith};
-ghost use Rattle.coverage_commands.specs.Meaning.{Answers, IsServed, sink_change, areas_change};
-ghost use Rattle.command_words.specs.Meaning.{command_of};
-ghost use Rattle.coverage_commands.specs.Answers.{reports_of};
-ghost use Rattle.coverage_commands.specs.Changes.{no_change};
+ghost use Rattle.command_words.specs.declared.words.Command.TheVariants.{Marks};
 ghost use Rattle.coverage_commands.specs.Named.{IsSessionOf};
-ghost use Rattle.job_run.specs.Meaning.{Account};
-ghost use Rattle.report_text.specs.Conditions.{HasFewLines};
 ghost use Rattle.command_words.specs.Words.{HasFewTasks};
 ghost use Rattle.coverage_commands.specs.Words.{without_threads};
+ghost use Rattle.coverage_commands.specs.Meaning.{Serves, asked};
+ghost use Rattle.coverage_commands.specs.Calls.{Answered, AnsweredAlone, AnsweredJob, AnsweredWith, Reported, ReportedJob, ServedAlone};
 
 use crate::combining::answer_combine;
 use crate::counting::answer_count;
@@ -61,8 +56,7 @@ fn answer_tables<
 ) -> Status
     requires ready { IsReadyJob job.now tables.now }
     requires room { A.made areas.old < 2 ^ 61 }
-    ensures { (c : Command) (s : SourceChange) → reports_of c ≡ Some R.course → CameJob to_end s job.now →
-        Answers c s (areas_change A.ledger A.finals A.made areas.old areas.new) (sink_change K.written K.faults sink.old sink.new) result.0 }
+    ensures { ReportedJob A.Areas K.Sink R.course job.now areas.old areas.new sink.old sink.new result.0 }
 {
     let (outcome, _) = match run_job_with(rt, alloc, areas, gate, runner, job, tables) {
         Ok(ran) => ran,
@@ -89,9 +83,7 @@ fn answer_run<
     gate: &G,
 ) -> Status
     requires { A.made areas.old < 2 ^ 61 }
-    ensures { (c : Command) → reports_of c ≡ Some R.course →
-        Answers c (source_change S.left S.faults source.old source.new)
-        (areas_change A.ledger A.finals A.made areas.old areas.new) (sink_change K.written K.faults sink.old sink.new) result.0 }
+    ensures { Reported S.Source A.Areas K.Sink R.course source.old source.new areas.old areas.new sink.old sink.new result.0 }
 {
     match make_ready(alloc, source, false) {
         Ok(read) => answer_tables(
@@ -124,8 +116,7 @@ fn answer_session<T: Threads + Wait + Sync, K: Sink, A: Areas, G: Gate + Sync>(
     requires ready { IsReadyJob job.now tables.now }
     requires session { IsSessionOf job.now name.now s.0 }
     requires room { A.made areas.old < 2 ^ 61 }
-    ensures { (c : SourceChange) → CameJob to_end c job.now →
-        Answers (Command.Marks name.now) c (areas_change A.ledger A.finals A.made areas.old areas.new) (sink_change K.written K.faults sink.old sink.new) result.0 }
+    ensures { AnsweredJob A.Areas K.Sink (Command.Marks name.now) job.now areas.old areas.new sink.old sink.new result.0 }
 {
     // The memory of the marks is taken before a task runs.
     let none = NoSets {
@@ -153,8 +144,7 @@ fn answer_marks<T: Threads + Wait + Sync, S: Source, K: Sink, A: Areas, G: Gate 
     gate: &G,
 ) -> Status
     requires { A.made areas.old < 2 ^ 61 }
-    ensures { Answers (Command.Marks name.now) (source_change S.left S.faults source.old source.new)
-        (areas_change A.ledger A.finals A.made areas.old areas.new) (sink_change K.written K.faults sink.old sink.new) result.0 }
+    ensures { Answered S.Source A.Areas K.Sink (Marks name.now) source.old source.new areas.old areas.new sink.old sink.new result.0 }
 {
     let (read, session) = match make_named(alloc, source, false, name, false) {
         Ok(read) => read,
@@ -175,8 +165,7 @@ fn answer_marks<T: Threads + Wait + Sync, S: Source, K: Sink, A: Areas, G: Gate 
 
 /// Reads a job and writes the places of its modules.
 fn answer_table<S: Source, K: Sink>(alloc: Global, source: &mut S, sink: &mut K) -> Status
-    ensures { (a : Account) → Answers Command.Table (source_change S.left S.faults source.old source.new) (no_change a)
-        (sink_change K.written K.faults sink.old sink.new) result.0 }
+    ensures { AnsweredAlone S.Source K.Sink Command.Table source.old source.new sink.old sink.new result.0 }
 {
     let read = match make_ready(alloc, source, false) {
         Ok(read) => read,
@@ -196,8 +185,7 @@ fn answer_schedule<K: Sink>(
 ) -> Status
     requires ready { IsReadyJob job.now tables.now }
     requires numbers { lines + 1 + length schedule.now < 2 ^ 32 }
-    ensures { (s : SourceChange) (a : Account) → CameWith to_go_on s job.now lines schedule.now →
-        Answers Command.Replay s (no_change a) (sink_change K.written K.faults sink.old sink.new) result.0 }
+    ensures { AnsweredWith K.Sink Command.Replay job.now lines schedule.now sink.old sink.new result.0 }
 {
     let replayed = match replay(alloc, job, tables, lines, schedule) {
         Ok(replayed) => replayed,
@@ -209,8 +197,7 @@ fn answer_schedule<K: Sink>(
 
 /// Reads a job and a schedule, and plays it.
 fn answer_replay<S: Source, K: Sink>(alloc: Global, source: &mut S, sink: &mut K) -> Status
-    ensures { (a : Account) → Answers Command.Replay (source_change S.left S.faults source.old source.new) (no_change a)
-        (sink_change K.written K.faults sink.old sink.new) result.0 }
+    ensures { AnsweredAlone S.Source K.Sink Command.Replay source.old source.new sink.old sink.new result.0 }
 {
     let read = match make_ready(alloc, source, true) {
         Ok(read) => read,
@@ -233,8 +220,7 @@ fn answer_one<S: Source, K: Sink>(
     source: &mut S,
     sink: &mut K,
 ) -> Status
-    ensures { (a : Account) → Answers (without_threads command) (source_change S.left S.faults source.old source.new) (no_change a)
-        (sink_change K.written K.faults sink.old sink.new) result.0 }
+    ensures { AnsweredAlone S.Source K.Sink (without_threads command) source.old source.new sink.old sink.new result.0 }
 {
     match command {
         Command::Table => answer_table(alloc, source, sink),
@@ -266,8 +252,7 @@ fn answer<T: Threads + Wait + Sync, S: Source, K: Sink, A: Areas, G: Gate + Sync
 ) -> Status
     requires room { A.made areas.old < 2 ^ 61 }
     requires few { HasFewTasks command }
-    ensures { Answers command (source_change S.left S.faults source.old source.new)
-        (areas_change A.ledger A.finals A.made areas.old areas.new) (sink_change K.written K.faults sink.old sink.new) result.0 }
+    ensures { Answered S.Source A.Areas K.Sink command source.old source.new areas.old areas.new sink.old sink.new result.0 }
 {
     match command {
         Command::Run => answer_run(rt, alloc, &PlainRunner, source, sink, areas, gate),
@@ -320,8 +305,7 @@ pub fn cover<T: Threads + Wait + Sync, S: Source, K: Sink, A: Areas, G: Gate + S
     gate: &G,
 ) -> Status
     requires { A.made areas.old < 2 ^ 61 }
-    ensures { IsServed (command_of (map string_bytes words.now)) (source_change S.left S.faults source.old source.new)
-        (areas_change A.ledger A.finals A.made areas.old areas.new) (sink_change K.written K.faults sink.old sink.new) result.0 }
+    ensures { Serves S.Source A.Areas K.Sink (asked words.now) source.old source.new areas.old areas.new sink.old sink.new result.0 }
 {
     answer(rt, alloc, command_of(words), source, sink, areas, gate)
 }
@@ -349,8 +333,7 @@ pub fn cover_one<S: Source, K: Sink>(
     source: &mut S,
     sink: &mut K,
 ) -> Status
-    ensures { (a : Account) → IsServed (without_threads (command_of (map string_bytes words.now)))
-        (source_change S.left S.faults source.old source.new) (no_change a) (sink_change K.written K.faults sink.old sink.new) result.0 }
+    ensures { ServedAlone S.Source K.Sink (asked words.now) source.old source.new sink.old sink.new result.0 }
 {
     answer_one(alloc, command_of(words), source, sink)
 }

@@ -1,10 +1,7 @@
 //! The union of marks files.
 ghost use Rattle.std.specs.Prelude.{◌≡◌};
-ghost use Rattle.job_input.specs.Meaning.{SourceChange, source_change, CameWhole};
-ghost use Rattle.coverage_commands.specs.Meaning.{Answers, sink_change};
-ghost use Rattle.coverage_commands.specs.Changes.{no_change};
 ghost use Rattle.coverage_commands.specs.Files.{combine_refusal};
-ghost use Rattle.job_run.specs.Meaning.{Account};
+ghost use Rattle.coverage_commands.specs.Calls.{AnsweredAlone, AnsweredBytes};
 
 use crate::status::{Status, status_of, told};
 use command_words::Command;
@@ -28,7 +25,7 @@ fn combine_refusal(fault: CombineFault) -> Refusal
 
 /// Unites the files that the bytes are, and writes the file of their union.
 fn answer_files<K: Sink>(alloc: Global, bytes: &[u8], sink: &mut K) -> Status
-    ensures { (s : SourceChange) (a : Account) → CameWhole s bytes.now → Answers Command.Combine s (no_change a) (sink_change K.written K.faults sink.old sink.new) result.0 }
+    ensures { AnsweredBytes K.Sink Command.Combine bytes.now sink.old sink.new result.0 }
 {
     let marks = match combine_files(alloc, bytes) {
         Ok(marks) => marks,
@@ -42,8 +39,7 @@ fn answer_files<K: Sink>(alloc: Global, bytes: &[u8], sink: &mut K) -> Status
 
 /// Reads marks files, and writes the file of their union.
 pub fn answer_combine<S: Source, K: Sink>(alloc: Global, source: &mut S, sink: &mut K) -> Status
-    ensures { (a : Account) → Answers Command.Combine (source_change S.left S.faults source.old source.new) (no_change a)
-        (sink_change K.written K.faults sink.old sink.new) result.0 }
+    ensures { AnsweredAlone S.Source K.Sink Command.Combine source.old source.new sink.old sink.new result.0 }
 {
     match read_input(alloc, source) {
         Ok(input) => answer_files(alloc, &input, sink),

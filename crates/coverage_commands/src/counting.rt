@@ -1,12 +1,8 @@
 //! The counts of a job's sessions.
 ghost use Rattle.std.specs.Prelude.{◌≡◌, None};
 ghost use Rattle.job_tables.specs.Tables.{IsReadyJob};
-ghost use Rattle.job_input.specs.Meaning.{SourceChange, source_change};
-ghost use Rattle.job_input.specs.Inputs.{CameJob, to_end};
-ghost use Rattle.coverage_commands.specs.Meaning.{Answers, sink_change, first_controlled};
-ghost use Rattle.coverage_commands.specs.Changes.{no_change};
-ghost use Rattle.job_run.specs.Meaning.{Account};
-ghost use Rattle.report_text.specs.Conditions.{HasFewLines};
+ghost use Rattle.coverage_commands.specs.Meaning.{first_controlled};
+ghost use Rattle.coverage_commands.specs.Calls.{AnsweredAlone, AnsweredJobAlone};
 
 use crate::ready::make_whole;
 use crate::status::{Status, status_of, told};
@@ -33,8 +29,7 @@ fn answer_counts<T: Threads + Wait + Sync, K: Sink, G: Gate + Sync>(
 ) -> Status
     requires free { first_controlled job.now ≡ None }
     requires ready { IsReadyJob job.now tables.now }
-    ensures { (s : SourceChange) (a : Account) → CameJob to_end s job.now →
-        Answers Command.Count s (no_change a) (sink_change K.written K.faults sink.old sink.new) result.0 }
+    ensures { AnsweredJobAlone K.Sink Command.Count job.now sink.old sink.new result.0 }
 {
     let Ok(counted) = count_job(rt, alloc, gate, job, tables) else {
         return told(sink, NO_MEMORY, 7);
@@ -50,8 +45,7 @@ pub fn answer_count<T: Threads + Wait + Sync, S: Source, K: Sink, G: Gate + Sync
     sink: &mut K,
     gate: &G,
 ) -> Status
-    ensures { (a : Account) → Answers Command.Count (source_change S.left S.faults source.old source.new) (no_change a)
-        (sink_change K.written K.faults sink.old sink.new) result.0 }
+    ensures { AnsweredAlone S.Source K.Sink Command.Count source.old source.new sink.old sink.new result.0 }
 {
     match make_whole(alloc, source) {
         Ok(read) => answer_counts(rt, alloc, &read.input.job, &read.tables, sink, gate),

@@ -1,10 +1,7 @@
 //! The report of a job whose controllers drain the sessions that they have closed.
 ghost use Rattle.std.specs.Prelude.{◌≡◌, ◌<◌, ◌^◌};
 ghost use Rattle.job_tables.specs.Tables.{IsReadyJob};
-ghost use Rattle.job_input.specs.Meaning.{SourceChange, source_change};
-ghost use Rattle.job_input.specs.Inputs.{CameJob, to_end};
-ghost use Rattle.coverage_commands.specs.Meaning.{Answers, sink_change, areas_change};
-ghost use Rattle.report_text.specs.Conditions.{HasFewLines};
+ghost use Rattle.coverage_commands.specs.Calls.{Answered, AnsweredJob};
 
 use crate::ready::make_ready;
 use crate::status::{Status, status_of, told};
@@ -33,8 +30,7 @@ fn answer_drained<T: Threads + Wait + Sync, K: Sink, A: Areas, G: Gate + Sync>(
 ) -> Status
     requires ready { IsReadyJob job.now tables.now }
     requires room { A.made areas.old < 2 ^ 61 }
-    ensures { (s : SourceChange) → CameJob to_end s job.now →
-        Answers Command.Early s (areas_change A.ledger A.finals A.made areas.old areas.new) (sink_change K.written K.faults sink.old sink.new) result.0 }
+    ensures { AnsweredJob A.Areas K.Sink Command.Early job.now areas.old areas.new sink.old sink.new result.0 }
 {
     let runner = EarlyRunner;
     let (outcome, drains) = match run_job_with(rt, alloc, areas, gate, &runner, job, tables) {
@@ -54,8 +50,7 @@ pub fn answer_early<T: Threads + Wait + Sync, S: Source, K: Sink, A: Areas, G: G
     gate: &G,
 ) -> Status
     requires { A.made areas.old < 2 ^ 61 }
-    ensures { Answers Command.Early (source_change S.left S.faults source.old source.new)
-        (areas_change A.ledger A.finals A.made areas.old areas.new) (sink_change K.written K.faults sink.old sink.new) result.0 }
+    ensures { Answered S.Source A.Areas K.Sink Command.Early source.old source.new areas.old areas.new sink.old sink.new result.0 }
 {
     match make_ready(alloc, source, false) {
         Ok(read) => answer_drained(rt, alloc, &read.input.job, &read.tables, sink, areas, gate),

@@ -1,8 +1,5 @@
 //! Where the tasks of a job end.
-ghost use Rattle.job_input.specs.Meaning.{source_change};
-ghost use Rattle.coverage_commands.specs.Meaning.{Answers, sink_change};
-ghost use Rattle.coverage_commands.specs.Changes.{no_change};
-ghost use Rattle.job_run.specs.Meaning.{Account};
+ghost use Rattle.coverage_commands.specs.Calls.{AnsweredAlone};
 
 use crate::ready::make_ready;
 use crate::status::{Status, status_of, told};
@@ -14,8 +11,7 @@ use task_ends::{find_ends, write_ends};
 
 /// Reads a job, runs each of its tasks once, alone, and writes where each has ended and what ran where no place begins.
 pub fn answer_ends<S: Source, K: Sink>(alloc: Global, source: &mut S, sink: &mut K) -> Status
-    ensures { (a : Account) → Answers Command.Ends (source_change S.left S.faults source.old source.new) (no_change a)
-        (sink_change K.written K.faults sink.old sink.new) result.0 }
+    ensures { AnsweredAlone S.Source K.Sink Command.Ends source.old source.new sink.old sink.new result.0 }
 {
     let read = match make_ready(alloc, source, false) {
         Ok(read) => read,

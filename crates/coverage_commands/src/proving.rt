@@ -1,13 +1,9 @@
 //! The evidence of a session's facts.
-ghost use Rattle.std.specs.Prelude.{◌≡◌, ◌<◌, ◌≤◌, Some, None, length};
+ghost use Rattle.std.specs.Prelude.{◌≡◌, ◌<◌, ◌≤◌, None};
 ghost use Rattle.job_tables.specs.Tables.{IsReadyJob};
-ghost use Rattle.job_input.specs.Meaning.{SourceChange, source_change};
-ghost use Rattle.job_input.specs.Inputs.{CameJob, to_end};
-ghost use Rattle.coverage_commands.specs.Meaning.{Answers, sink_change};
-ghost use Rattle.coverage_commands.specs.Changes.{no_change};
 ghost use Rattle.coverage_commands.specs.Named.{IsSessionOf};
-ghost use Rattle.job_run.specs.Meaning.{Account};
 ghost use Rattle.session_book.specs.Meaning.{session_of};
+ghost use Rattle.coverage_commands.specs.Calls.{AnsweredAlone, AnsweredJobAlone};
 
 use crate::ready::make_named;
 use crate::status::{Status, told};
@@ -32,8 +28,7 @@ fn answer_evidence<K: Sink>(
     requires whole { (session_of job.now s.0).by ≡ None }
     requires ready { IsReadyJob job.now tables.now }
     requires session { IsSessionOf job.now name.now s.0 }
-    ensures { (c : SourceChange) (a : Account) → CameJob to_end c job.now →
-        Answers (Command.Prove name.now) c (no_change a) (sink_change K.written K.faults sink.old sink.new) result.0 }
+    ensures { AnsweredJobAlone K.Sink (Command.Prove name.now) job.now sink.old sink.new result.0 }
 {
     match prove(alloc, sink, job, tables, s) {
         Ok(()) => Status(0),
@@ -49,8 +44,7 @@ pub fn answer_prove<S: Source, K: Sink>(
     source: &mut S,
     sink: &mut K,
 ) -> Status
-    ensures { (a : Account) → Answers (Command.Prove name.now) (source_change S.left S.faults source.old source.new) (no_change a)
-        (sink_change K.written K.faults sink.old sink.new) result.0 }
+    ensures { AnsweredAlone S.Source K.Sink (Command.Prove name.now) source.old source.new sink.old sink.new result.0 }
 {
     let (read, session) = match make_named(alloc, source, false, name, true) {
         Ok(read) => read,

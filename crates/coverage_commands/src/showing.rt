@@ -1,19 +1,16 @@
 //! A session's listings, marked by a marks file.
-ghost use Rattle.std.specs.Prelude.{◌≡◌, ◌<◌, ◌≤◌, ℕ, true, Some, length, IfOk, IfErr};
+ghost use Rattle.std.specs.Prelude.{◌≡◌, ◌<◌, ◌≤◌, true, length, IfOk, IfErr};
 ghost use Rattle.cov_outside.specs.Writes.{Writes};
 ghost use Rattle.job_tables.specs.Tables.{IsReadyJob};
-ghost use Rattle.job_input.specs.Meaning.{SourceChange, source_change};
-ghost use Rattle.job_input.specs.Inputs.{to_go_on, CameWith};
-ghost use Rattle.coverage_commands.specs.Meaning.{Answers, sink_change, BeginsWith, show_text};
+ghost use Rattle.coverage_commands.specs.Meaning.{BeginsWith, show_text};
 ghost use Rattle.refusals.specs.Meaning.{refusal};
-ghost use Rattle.coverage_commands.specs.Changes.{no_change};
 ghost use Rattle.coverage_commands.specs.Files.{IsFileRefusal, IsShowRefusal};
 ghost use Rattle.coverage_commands.specs.Named.{IsSessionOf};
-ghost use Rattle.job_run.specs.Meaning.{Account};
 ghost use Rattle.report_text.specs.Conditions.{AreTablesOf};
 ghost use Rattle.session_book.specs.Sets.{HasSetsOf};
 ghost use Rattle.session_marks.specs.FromFile.{set_at, sets_of_one};
 ghost use Rattle.session_marks.specs.Meaning.{session_marks};
+ghost use Rattle.coverage_commands.specs.Calls.{AnsweredAlone, AnsweredBehind};
 
 use crate::ready::make_named;
 use crate::status::{Status, status_of, told};
@@ -101,8 +98,7 @@ fn answer_file<K: Sink>(
 ) -> Status
     requires ready { IsReadyJob job.now tables.now }
     requires session { IsSessionOf job.now name.now s.0 }
-    ensures { (c : SourceChange) (a : Account) (count : ℕ) → CameWith to_go_on c job.now count rest.now →
-        Answers (Command.Show name.now) c (no_change a) (sink_change K.written K.faults sink.old sink.new) result.0 }
+    ensures { AnsweredBehind K.Sink (Command.Show name.now) job.now rest.now sink.old sink.new result.0 }
 {
     match sets_behind(alloc, job, tables, s, rest) {
         Ok(sets) => status_of(show_text(sink, job, tables, &sets, s)),
@@ -117,8 +113,7 @@ pub fn answer_show<S: Source, K: Sink>(
     source: &mut S,
     sink: &mut K,
 ) -> Status
-    ensures { (a : Account) → Answers (Command.Show name.now) (source_change S.left S.faults source.old source.new) (no_change a)
-        (sink_change K.written K.faults sink.old sink.new) result.0 }
+    ensures { AnsweredAlone S.Source K.Sink (Command.Show name.now) source.old source.new sink.old sink.new result.0 }
 {
     let (read, session) = match make_named(alloc, source, true, name, false) {
         Ok(read) => read,

@@ -2,10 +2,9 @@
 ghost use Rattle.std.specs.Prelude.{◌≡◌, ◌<◌, ◌≤◌, ◌^◌, None, IfOk};
 ghost use Rattle.job_tables.specs.Meaning.{job_fault};
 ghost use Rattle.job_tables.specs.Tables.{IsReadyJob};
-ghost use Rattle.job_input.specs.Meaning.{SourceChange};
-ghost use Rattle.coverage_commands.specs.Meaning.{Answers, sink_change, areas_change, IsUnread};
 ghost use Rattle.job_gen.specs.Meaning.{trial_job};
 ghost use Rattle.report_text.specs.Conditions.{HasFewLines};
+ghost use Rattle.coverage_commands.specs.Calls.{AnsweredUnread};
 
 use crate::status::{Status, status_of, told};
 use brk_table::Tables;
@@ -52,8 +51,7 @@ fn answer_job<T: Threads + Wait + Sync, K: Sink, A: Areas, G: Gate + Sync>(
     requires job { job.now ≡ trial_job number tasks }
     requires ready { IsReadyJob job.now tables.now }
     requires room { A.made areas.old < 2 ^ 61 }
-    ensures { (s : SourceChange) → IsUnread s →
-        Answers (Command.Trial number tasks) s (areas_change A.ledger A.finals A.made areas.old areas.new) (sink_change K.written K.faults sink.old sink.new) result.0 }
+    ensures { AnsweredUnread A.Areas K.Sink (Command.Trial number tasks) areas.old areas.new sink.old sink.new result.0 }
 {
     let Ok(outcome) = run_job(rt, alloc, areas, gate, job, tables) else {
         return told(sink, NO_MEMORY, 7);
@@ -74,8 +72,7 @@ pub fn answer_trial<T: Threads + Wait + Sync, K: Sink, A: Areas, G: Gate + Sync>
     requires some { 1 ≤ tasks }
     requires most { tasks ≤ 64 }
     requires room { A.made areas.old < 2 ^ 61 }
-    ensures { (s : SourceChange) → IsUnread s →
-        Answers (Command.Trial number tasks) s (areas_change A.ledger A.finals A.made areas.old areas.new) (sink_change K.written K.faults sink.old sink.new) result.0 }
+    ensures { AnsweredUnread A.Areas K.Sink (Command.Trial number tasks) areas.old areas.new sink.old sink.new result.0 }
 {
     let Ok(job) = trial(alloc, number, tasks) else {
         return told(sink, NO_MEMORY, 7);

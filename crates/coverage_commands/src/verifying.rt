@@ -1,15 +1,12 @@
 //! Marks and evidence of a session, checked by another run of its tasks.
-ghost use Rattle.std.specs.Prelude.{◌≡◌, ◌<◌, ◌≤◌, ℕ, true, Some, None, length, OnOk, IfOk, IfErr};
+ghost use Rattle.std.specs.Prelude.{◌≡◌, ◌<◌, ◌≤◌, true, None, length, OnOk, IfOk, IfErr};
 ghost use Rattle.job_tables.specs.Tables.{IsReadyJob};
-ghost use Rattle.job_input.specs.Meaning.{SourceChange, source_change};
-ghost use Rattle.job_input.specs.Inputs.{to_go_on, CameWith};
-ghost use Rattle.coverage_commands.specs.Meaning.{Answers, sink_change, HasVerified};
-ghost use Rattle.coverage_commands.specs.Changes.{no_change};
+ghost use Rattle.coverage_commands.specs.Meaning.{HasVerified};
 ghost use Rattle.coverage_commands.specs.Checked.{verify_refusal, IsStartRefusal, IsCheckRefusal, IsPassed};
 ghost use Rattle.coverage_commands.specs.Named.{IsSessionOf};
-ghost use Rattle.job_run.specs.Meaning.{Account};
 ghost use Rattle.marks_file.specs.Meaning.{HasFile};
 ghost use Rattle.session_book.specs.Meaning.{session_of};
+ghost use Rattle.coverage_commands.specs.Calls.{AnsweredAlone, AnsweredBehind};
 
 use crate::ready::make_named;
 use crate::status::{Status, told};
@@ -100,8 +97,7 @@ fn answer_behind<K: Sink>(
     requires whole { (session_of job.now s.0).by ≡ None }
     requires ready { IsReadyJob job.now tables.now }
     requires session { IsSessionOf job.now name.now s.0 }
-    ensures { (c : SourceChange) (a : Account) (count : ℕ) → CameWith to_go_on c job.now count rest.now →
-        Answers (Command.Verify name.now) c (no_change a) (sink_change K.written K.faults sink.old sink.new) result.0 }
+    ensures { AnsweredBehind K.Sink (Command.Verify name.now) job.now rest.now sink.old sink.new result.0 }
 {
     match facts_behind(alloc, job, tables, s, rest) {
         Ok(facts) => told(sink, &verified_line(name, facts), 0),
@@ -116,8 +112,7 @@ pub fn answer_verify<S: Source, K: Sink>(
     source: &mut S,
     sink: &mut K,
 ) -> Status
-    ensures { (a : Account) → Answers (Command.Verify name.now) (source_change S.left S.faults source.old source.new) (no_change a)
-        (sink_change K.written K.faults sink.old sink.new) result.0 }
+    ensures { AnsweredAlone S.Source K.Sink (Command.Verify name.now) source.old source.new sink.old sink.new result.0 }
 {
     let (read, session) = match make_named(alloc, source, true, name, true) {
         Ok(read) => read,
