@@ -1,0 +1,91 @@
+-- The course of a task with services.
+use Rattle.std.specs.Prelude.{ℕ, if◌then◌else◌, ◌==◌, Option, Some, None, List, slice_index, slice_set}
+use Rattle.std.specs.List.{find}
+use Rattle.cov_base.specs.Meaning.{Memory, CpuView, Machine, State}
+use Rattle.s370_state.specs.declared.endings.Ending.{Ending}
+use Rattle.s370_state.specs.declared.endings.Ending.TheVariants.{BadSvc}
+use Rattle.s370_state.specs.declared.endings.Next.{Next}
+use Rattle.s370_state.specs.declared.endings.Next.TheVariants.{On, Ended}
+use Rattle.s370_exec.specs.Meaning.{run_ended}
+use Rattle.observed_step.specs.Meaning.{After, Behind, Tour, calls_of, course_on, visits_of}
+use Rattle.task_run.specs.Meaning.{Course}
+use Rattle.check_exits.specs.Meaning.{behind_call}
+use Rattle.task_services.specs.declared.services.Service.{Service}
+use Rattle.task_services.specs.declared.services.TheConstants.{SERVICE_RETURN}
+
+-- A task whose supervisor calls are answered by routines of the job: its services.
+
+-- the address to which a routine returns: X'FFFFFC'
+abbrev pub service_return : ℕ
+service_return = SERVICE_RETURN
+
+-- What the task has beside its state: the services, and while a routine runs its caller, which is the processor as it stood behind
+-- the call.
+pub record Served : Type 0 where
+  pub services : List Service
+  pub caller : Option CpuView
+
+-- of a task at a call that is answered
+abbrev pub caller_at : Memory → Machine → CpuView
+caller_at m s = record s.cpu { ia = behind_call m s }
+
+abbrev pub left : List Service → Option CpuView → CpuView → Next → Behind Served
+left services caller cpu next = record { cpu = cpu; next = next; key = record { services = services; caller = caller } }
+
+-- First, a call that would end the task, where no routine runs and its number has a service: the task goes on in the routine.
+
+abbrev pub service_for : List Service → ℕ → Option Service
+service_for services number = find (λ (v : Service). v.number == number) services
+
+-- at the entry, with the address to return to in register 14 and the entry in register 15
+abbrev pub at_entry : CpuView → ℕ → CpuView
+at_entry s entry = record s { regs = slice_set (slice_set s.regs 14 service_return) 15 entry; ia = entry }
+
+abbrev pub entered : List Service → Memory → Machine → ℕ → Option Service → Behind Served
+entered services m s number None = left services None s.cpu (Ended (BadSvc number))
+entered services m s number (Some v) = left services (Some (caller_at m s)) (at_entry s.cpu v.entry) On
+
+abbrev pub called : List Service → Memory → Machine → ℕ → Option CpuView → Behind Served
+called services m s number None = entered services m s number (service_for services number)
+called services m s number (Some caller) = left services (Some caller) s.cpu (Ended (BadSvc number))
+
+-- every other ending stays
+abbrev pub by_ending : Served → Memory → Machine → Ending → Behind Served
+by_ending k m s (BadSvc number) = called k.services m s number k.caller
+by_ending k m s e = left k.services k.caller s.cpu (Ended e)
+
+abbrev pub by_call : After Served
+by_call k m s On = left k.services k.caller s.cpu On
+by_call k m s (Ended e) = by_ending k m s e
+
+-- Then, a task that hasn't ended, has a caller and stands at the address to which a routine returns: it goes on in the caller, and
+-- has none any more.
+
+-- the caller's processor, with registers 0, 1 and 15 as the routine has left them
+abbrev pub resumed : CpuView → CpuView → CpuView
+resumed s caller =
+    record caller { regs = slice_set (slice_set (slice_set caller.regs 0 (slice_index s.regs 0)) 1 (slice_index s.regs 1)) 15 (slice_index s.regs 15) }
+
+abbrev pub gone_back : List Service → CpuView → Option CpuView → Behind Served
+gone_back services cpu None = left services None cpu On
+gone_back services cpu (Some caller) = if cpu.ia == service_return then left services None (resumed cpu caller) On else left services (Some caller) cpu On
+
+abbrev pub by_return : Behind Served → Next → Behind Served
+by_return b On = gone_back b.key.services b.cpu b.key.caller
+by_return b (Ended e) = b
+
+-- Both behind a step that has left the task so. The step counts, and its visits, storage, input and output are those of a task
+-- without services.
+abbrev pub by_next : After Served
+by_next k m s next = let b = by_call k m s next in by_return b b.next
+
+-- from the task's start, where it has no caller
+abbrev pub service_tour : List Service → Memory → ℕ → State → Tour
+service_tour services m budget s = course_on by_next m budget (record { services = services; caller = None }) s
+
+-- its run and its calls, whatever the plan
+abbrev pub with_services : List Service → Course
+with_services services = record {
+  run = λ plan m budget s. let t = service_tour services m budget s in run_ended t.ending t.state (visits_of t.turns);
+  calls = λ plan m budget s. calls_of (service_tour services m budget s).turns;
+}

@@ -1,0 +1,8 @@
+//! Tasks whose supervisor calls are answered by routines of the job.
+#![tactic(auto)]
+
+mod run;
+mod services;
+
+pub use run::run_under;
+pub use services::{SERVICE_RETURN, Service, Services};

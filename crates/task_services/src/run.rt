@@ -1,0 +1,57 @@
+//! A task's run with services.
+ghost use Rattle.std.specs.Prelude.{◌≡◌, ◌+◌, ◌<◌, ◌^◌, true};
+ghost use Rattle.std.specs.declared.option.Option.TheVariants.{None};
+ghost use Rattle.module_area.specs.Notes.{calls, is_working};
+ghost use Rattle.module_area.specs.Tied.{IsTied};
+ghost use Rattle.observed_step.specs.Steps.{memory_at};
+ghost use Rattle.svc_monitor.specs.First.{IsOver};
+ghost use Rattle.task_run.specs.Ran.{RanAs};
+ghost use Rattle.task_services.specs.Courses.{with_services};
+
+use crate::services::{Service, Services};
+use brk_table::Tables;
+use module_area::{Cells, Plan};
+use observed_step::run;
+use s370_state::Ending;
+use svc_monitor::Planted;
+use task_run::Task;
+
+/// Runs the task until it ends, as `run_task` does, but with services: where it would end BadSvc by the number of one, its
+/// routine answers the call, unless one runs already.
+pub fn run_under<C: Cells>(
+    cells: &C,
+    pass: &mut C::Pass,
+    tables: &Tables,
+    plan: &Plan,
+    services: &[Service],
+    task: &mut Task<'_>,
+) -> Ending
+    requires area { C.is_pass cells.now pass.old }
+    requires plan { C.plan cells.now ≡ plan.now }
+    requires over { IsOver (C.plan cells.now) (memory_at task.old.bench) tables.now }
+    requires room { calls (C.notes pass.old) < 2 ^ 60 }
+    requires working { is_working (C.notes pass.old) ≡ true }
+    requires fresh { task.old.done ≡ 0 }
+    requires tied { IsTied (C.plan cells.now) (C.notes pass.old) task.old.bench.control }
+    requires first { (task.old.bench.control.next ≡ 0) × (task.old.bench.control.opened ≡ None) }
+    ensures area { C.is_pass cells.now pass.new }
+    ensures ran { RanAs (with_services services.now) (C.plan cells.now) (C.notes pass.old) (C.notes pass.new) task.old task.new result }
+{
+    // Read for what every plan keeps.
+    let _ = plan.places_len();
+    let marks = Planted { cells, plan };
+    let mut hook = Services {
+        services,
+        caller: None,
+    };
+    let end = run(
+        &marks,
+        pass,
+        tables,
+        &mut hook,
+        &mut task.bench,
+        task.budget,
+    );
+    task.done = end.done;
+    end.ending
+}
