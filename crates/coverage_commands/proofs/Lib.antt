@@ -7,4 +7,5 @@ pub mod OneAnswer
 pub mod ReadyLemmas
 pub mod ServedLemmas
 pub mod TrialLemmas
+pub mod NamedLemmas
 pub mod WordLemmas

@@ -17,12 +17,7 @@ fn find_session(job: &Job, name: &Name) -> Option<SessNo>
     ensures from { IfSome result (λ s. 0 < s.0) }
     ensures to { IfSome result (λ s. s.0 ≤ length job.now.sessions) }
 {
-    for i in 0..job.sessions.len() {
-        if job.sessions[i].name == *name {
-            return Some(SessNo(i as u32 + 1));
-        }
-    }
-    None
+    job.session_named(name)
 }
 
 /// The number of the job's first session that has a controller; none exactly where none has one.

@@ -11,7 +11,7 @@ use cov_outside::MemSink;
 use evidence_check::{ProveFault, VerifyFault, prove, verify};
 use marks_file::{Marks, read};
 use module_area::{DataCard, Image, Images, Place};
-use session_book::{Job, Session, TaskCard};
+use session_book::{Job, JobCards, Session, TaskCard};
 use session_marks::file_sets;
 use std::alloc::Global;
 use std::test::Fail;
@@ -160,13 +160,14 @@ fn job(alloc: Global, executes: bool) -> Result<Job, Fail>
         by: None,
     };
     let task = task(alloc, executes)?;
-    Ok(Job {
+    let cards = JobCards {
         images: images(alloc)?,
         listings: vec![in alloc; None, None, None]?,
         phases: vec![in alloc; Name::read(b"P").ok_or("name")?]?,
         sessions: vec![in alloc; session]?,
         tasks: vec![in alloc; task]?,
-    })
+    };
+    Ok(Job::new(alloc, cards)?)
 }
 
 fn place(module: u32, at: u32, len: u8, kind: Kind, original: u16) -> Place

@@ -7,7 +7,7 @@ use brk_table::{LinePlaces, Table, Tables};
 use cov_base::{Addr, Fact, Kind, Name, PlaceNo, SessNo, TaskNo};
 use interleave_core::{Core, Event, start};
 use module_area::{DataCard, Image, Images, Place};
-use session_book::{Job, Session, TaskCard};
+use session_book::{Job, JobCards, Session, TaskCard};
 use std::alloc::Global;
 use std::test::Fail;
 
@@ -118,13 +118,14 @@ fn job(alloc: Global) -> Result<Job, Fail>
     let s2 = session(alloc, b"S2")?;
     let a = task(alloc, b"A", 0x100000, &[])?;
     let c = task(alloc, b"C", 0, calls)?;
-    Ok(Job {
+    let cards = JobCards {
         images: images(alloc)?,
         listings: vec![in alloc; None]?,
         phases: vec![in alloc; Name::read(b"P").ok_or("name")?]?,
         sessions: vec![in alloc; s1, s2]?,
         tasks: vec![in alloc; a, c]?,
-    })
+    };
+    Ok(Job::new(alloc, cards)?)
 }
 
 fn place(at: u32, len: u8, original: u16) -> Place

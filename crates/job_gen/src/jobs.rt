@@ -8,7 +8,7 @@ use crate::listing::{bytes_of, listing_of};
 use crate::tasks::{BASE, tasks_of};
 use cov_base::{Addr, Name, NoMemory};
 use module_area::{Image, Images};
-use session_book::{Job, Session};
+use session_book::{Job, JobCards, Session};
 use std::alloc::Global;
 
 /// The name of one letter.
@@ -44,11 +44,12 @@ pub fn trial(alloc: Global, number: u32, tasks: u32) -> Result<Job, NoMemory>
         modules: vec![in alloc; 0]?,
         by: None,
     };
-    Ok(Job {
+    let cards = JobCards {
         images: Images(vec![in alloc; image]?),
         listings: vec![in alloc; Some(listing_of(alloc, &code)?)]?,
         phases: vec![in alloc; letter(b'P')]?,
         sessions: vec![in alloc; session]?,
         tasks: tasks_of(alloc, tasks)?,
-    })
+    };
+    Ok(Job::new(alloc, cards)?)
 }

@@ -1,5 +1,6 @@
 pub mod Begun
 pub mod CardFacts
+pub mod DraftNames
 pub mod EndedLines
 pub mod Excluded
 pub mod Growth
@@ -10,6 +11,7 @@ pub mod Joined
 pub mod LineLemmas
 pub mod Named
 pub mod Numbers
+pub mod Opened
 pub mod Readings
 pub mod Rests
 pub mod Shortest

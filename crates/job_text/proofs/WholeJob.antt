@@ -2,7 +2,7 @@
 use Rattle.std.proofs.Common.{◌≡◌, ◌≢◌, ℕ, ◌+◌, ◌%◌, ◌<◌, ◌≤◌, Bool, true, false, not, ◌&&◌, ◌||◌, nat_eq, nat_le, Option, Some, None, List, [], ◌∷◌, ◌++◌, length, map, refl, ap, sym, ◌∙◌, arith, nat_lt, cond, All, AllPairs, inl, inr, slice_set, get_or, option_and_then, subst, IfSome, suc, eqb-true, eq-eqb}
 use Rattle.std.proofs.lemmas.Bool.Decides.{nat_tests}
 use Rattle.std.specs.Str.{bytes_eq}
-use Rattle.std.specs.List.{list_any, concat, prefix_len}
+use Rattle.std.specs.List.{list_any, list_all, concat, prefix_len}
 use Rattle.std.proofs.lemmas.Slice.Eq.{bytes_eq-Decides}
 use Rattle.std.proofs.lemmas.List.{length-set, length-map, get_or-map, map-append, length_push}
 use Rattle.std.proofs.lemmas.List.Elements.{All-cons, All-nil, All-map, All-push}
@@ -16,9 +16,10 @@ use Rattle.module_area.specs.Images.{IsImage, AreClear}
 use Rattle.module_area.specs.Meaning.{DataView}
 use Rattle.cov_base.specs.declared.limits.TheConstants.{MODULE_LIMIT, SIZE_LIMIT, LINE_LIMIT, PHASE_LIMIT, SESSION_LIMIT, TASK_LIMIT, PRIVATE_LIMIT, BUDGET_LIMIT, ROOM_LIMIT}
 use Rattle.session_book.specs.Meaning.{JobView, SessionView, TaskView, first_regs}
-use Rattle.session_book.specs.JobView.{IsJob, IsSession, IsListing, IsTaskOf, HasController, AreParted, Differ}
+use Rattle.session_book.specs.JobView.{IsJob, IsSession, IsListing, IsTaskOf, HasController, AreParted}
+use Rattle.names.specs.Lists.{Differ}
 use Rattle.session_book.specs.JobView as book
-use Rattle.job_text.specs.Meaning.{SessionDraft, DraftView, Controllers, Present, is_controller, controller_of, is_met_by, is_met, are_met, bound_session, bound, LineView, Module, Session, Task, may_stand, RegView, set_regs, AreData, task_view, no_job, is_clear, with_phase, this_phase, is_same_controller, bars, index_of, is_free, put_index, indices_on, session_draft, with_session, AreModules, IsModule, AreSessions, IsTaskBlock, AreTasks, IsPhase, ArePhases, Spells, are_short, IsWithin}
+use Rattle.job_text.specs.Meaning.{SessionDraft, DraftView, Controllers, Present, is_controller, controller_of, is_met_by, is_met, are_met, bound_session, bound, LineView, Module, Session, Task, may_stand, RegView, set_regs, AreData, task_view, no_job, has_module, is_clear, with_phase, this_phase, is_same_controller, bars, index_of, is_free, put_index, indices_on, session_draft, with_session, AreModules, IsModule, AreSessions, IsTaskBlock, AreTasks, IsPhase, ArePhases, Spells, are_short, IsWithin}
 use Rattle.job_text.specs.declared.limit.Limit.TheVariants as limit
 use Rattle.job_text.specs.Steps.{State, start, is_done, run}
 use Rattle.job_text.proofs.Guards.{guard_none}
@@ -130,17 +131,18 @@ module_so_far : (block : List LineView) (j after : DraftView) → IsModule j blo
 module_so_far block j after m s =
     let i : ImageView = m.image in
     let card : Good (Module i.name i.base (length i.bytes)) = card_good m.head.bytes (Module i.name i.base (length i.bytes)) m.card in
-    let clear : All (λ x. is_clear i.name i.base (length i.bytes) x ≡ true) j.images = AllPass-from_list_all (is_clear i.name i.base (length i.bytes)) j.images m.fit in
+    let fit = and_parts (not (has_module j i.name)) (list_all (is_clear i.base (length i.bytes)) j.images) m.fit in
+    let clear : All (λ x. is_clear i.base (length i.bytes) x ≡ true) j.images = AllPass-from_list_all (is_clear i.base (length i.bytes)) j.images fit.1 in
     let one : length (j.images ++ i ∷ []) ≡ length j.images + 1 = length_push j.images i in
     let two : length (j.listings ++ m.listed ∷ []) ≡ length j.listings + 1 = length_push j.listings m.listed in
     rw m.is_after (record {
       listings = omega (arith, one, two, s.listings);
       each = All-push IsImage j.images i s.each (stands i card.1);
-      apart = pairs_push AreClear j.images i s.apart (λ k d l. clear_of i (get_or j.images k d) (and_parts _ _ (clear k d l)).1);
+      apart = pairs_push AreClear j.images i s.apart (λ k d l. clear_of i (get_or j.images k d) (clear k d l));
       are_sessions = λ k d l. more_session (length j.images) (length j.phases) (length (j.images ++ i ∷ [])) (length j.phases) (get_or j.sessions k d) (omega (arith, one)) (omega arith) (s.are_sessions k d l);
       parted = s.parted;
       are_tasks = s.are_tasks;
-      module_names = names_differ (λ (x : ImageView). x.name) j.images i s.module_names (λ k d l. not-true _ (and_parts _ _ (clear k d l)).0);
+      module_names = names_differ (λ (x : ImageView). x.name) j.images i s.module_names (none_of (λ (x : ImageView). bytes_eq x.name i.name) j.images (not-true (has_module j i.name) fit.0));
       phase_names = s.phase_names;
       session_names = s.session_names;
       task_names = s.task_names;

@@ -1,3 +1,4 @@
+pub mod DraftInside
 pub mod Lines
 pub mod Meaning
 pub mod Pieces

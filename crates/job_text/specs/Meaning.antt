@@ -3,7 +3,7 @@ use Rattle.std.specs.Prelude.{ℕ, Bool, true, ◌&&◌, nat_eq, Option, Some, N
 use Rattle.std.specs.List.{list_any, list_all, concat}
 use Rattle.std.specs.Str.{bytes_eq}
 use Rattle.cov_base.specs.Meaning.{ImageView, is_digit, name_at}
-use Rattle.session_book.specs.Meaning.{JobView, SessionView, TaskView, first_regs}
+use Rattle.session_book.specs.Meaning.{JobView, SessionView, TaskView, first_regs, task_named}
 use Rattle.module_area.specs.Meaning.{DataView}
 use Rattle.hex.specs.Hex.{decode_of, decode_sized}
 use Rattle.hex.specs.declared.error.FromHexError.{FromHexError}
@@ -69,12 +69,15 @@ bound j = record { images = j.images; listings = j.listings; phases = j.phases; 
 abbrev pub no_job : DraftView
 no_job = record { images = []; listings = []; phases = []; sessions = []; tasks = [] }
 
--- the module has neither this name nor a byte of this place
-abbrev pub is_clear : List ℕ → ℕ → ℕ → ImageView → Bool
-is_clear name base size i = not (bytes_eq i.name name) && (nat_le (i.base + length i.bytes) base || nat_le (base + size) i.base)
+abbrev pub has_module : DraftView → List ℕ → Bool
+has_module j name = list_any (λ i. bytes_eq i.name name) j.images
+
+-- the module has no byte of this place
+abbrev pub is_clear : ℕ → ℕ → ImageView → Bool
+is_clear base size i = nat_le (i.base + length i.bytes) base || nat_le (base + size) i.base
 
 abbrev pub fits : DraftView → List ℕ → ℕ → ℕ → Bool
-fits j name base size = list_all (is_clear name base size) j.images
+fits j name base size = not (has_module j name) && list_all (is_clear base size) j.images
 
 abbrev pub with_module : DraftView → ImageView → Option (List (List ℕ)) → DraftView
 with_module j i listing = record j { images = j.images ++ i ∷ []; listings = j.listings ++ listing ∷ [] }
@@ -106,17 +109,24 @@ abbrev pub put_index : DraftView → Option (List ℕ) → List ℕ → Option �
 put_index j by used (Some m) = if is_free j by used m then Some (used ++ m ∷ []) else None
 put_index j by used None = None
 
+-- the module of this name, behind those that the card named before it
+abbrev pub put_named : DraftView → Option (List ℕ) → List ℕ → List ℕ → Option (List ℕ)
+put_named j by used name = put_index j by used (index_of j name)
+
 -- the modules of these names, behind those that the card named before them
 abbrev pub indices_on : DraftView → Option (List ℕ) → Option (List ℕ) → List (List ℕ) → Option (List ℕ)
 indices_on j by used [] = used
 indices_on j by None (n ∷ ns) = None
-indices_on j by (Some used) (n ∷ ns) = indices_on j by (put_index j by used (index_of j n)) ns
+indices_on j by (Some used) (n ∷ ns) = indices_on j by (put_named j by used n) ns
 
 abbrev pub session_draft : DraftView → List ℕ → Option (List ℕ) → List ℕ → SessionDraft
 session_draft j name by modules = record { name = name; phase = this_phase j; modules = modules; by = by }
 
+abbrev pub with_draft : DraftView → SessionDraft → DraftView
+with_draft j s = record j { sessions = j.sessions ++ s ∷ [] }
+
 abbrev pub put_session : DraftView → List ℕ → Option (List ℕ) → List ℕ → DraftView
-put_session j name by modules = record j { sessions = j.sessions ++ session_draft j name by modules ∷ [] }
+put_session j name by modules = with_draft j (session_draft j name by modules)
 
 abbrev pub has_task : DraftView → List ℕ → Bool
 has_task j name = list_any (λ t. bytes_eq t.name name) j.tasks
@@ -161,14 +171,17 @@ pub record LineView : Type 0 where
   -- by an LF
   pub ended : Bool
 
+abbrev pub as_line : List ℕ → Bool → LineView
+as_line bytes ended = record { bytes = bytes; ended = ended }
+
 abbrev pub put_on : ℕ → List LineView → List LineView
-put_on b [] = record { bytes = b ∷ []; ended = false } ∷ []
-put_on b (l ∷ ls) = record { bytes = b ∷ l.bytes; ended = l.ended } ∷ ls
+put_on b [] = as_line (b ∷ []) false ∷ []
+put_on b (l ∷ ls) = as_line (b ∷ l.bytes) l.ended ∷ ls
 
 -- Each LF ends a line. What follows the last LF is a line where it isn't empty.
 abbrev pub lines_of : List ℕ → List LineView
 lines_of [] = []
-lines_of (b ∷ bs) = if nat_eq b 10 then record { bytes = []; ended = true } ∷ lines_of bs else put_on b (lines_of bs)
+lines_of (b ∷ bs) = if nat_eq b 10 then as_line [] true ∷ lines_of bs else put_on b (lines_of bs)
 
 -- a CR stands right before the LF
 abbrev pub has_cr : LineView → Bool
@@ -590,13 +603,6 @@ IsRefusal lines (fault.TooLarge what n) = IsOverAt lines what n
 IsRefusal lines fault.NoMemory = Unit {0}
 
 -- Which lines behind a job are items of its schedule.
-
-abbrev pub numbered : ℕ → TaskNo
-numbered n = record { 0 = n }
-
--- the task of this name; the names of a job's tasks differ
-abbrev pub task_named : JobView → List ℕ → Option TaskNo
-task_named j name = option_map numbered (position (λ t. bytes_eq t.name name) j.tasks)
 
 -- the item of this key and task
 abbrev pub item_for : List ℕ → TaskNo → Option Item

@@ -1,8 +1,9 @@
 -- What is answered to a piece of a job.
-use Rattle.std.specs.Prelude.{◌≡◌, ℕ, ◌≤◌, Bool, true, false, List, ◌++◌, length, take}
+use Rattle.std.specs.Prelude.{ℕ, ◌≤◌, Bool, true, false, Err, List, ◌++◌, length, take}
 use Rattle.session_book.specs.Meaning.{JobView}
 use Rattle.job_text.specs.Meaning.{lines_of, IsWithin, GoesOn, IsRefusal, Present, Spells}
 use Rattle.job_text.specs.Lines.{ended_lines, IsClosed}
+use Rattle.job_text.specs.Refusals.{AnswersOnly}
 use Rattle.job_text.specs.declared.jobs.JobFault.{JobFault}
 use Rattle.job_text.specs.declared.jobs.JobFault.TheVariants as fault
 use Rattle.job_text.specs.declared.pieces.Fed.{Fed}
@@ -18,7 +19,7 @@ fault_line fault.NoMemory = 0
 pub record IsTold (bytes : List ℕ) (e : JobFault) : Type 0 where
   pub refusal : IsRefusal (lines_of bytes) e
   pub ended : fault_line e ≤ length (ended_lines (lines_of bytes))
-  pub only : (n : ℕ) (job : JobView) → n ≤ length (lines_of bytes) → Spells Present (take n (lines_of bytes)) job → IsWithin job → e ≡ fault.NoMemory
+  pub only : AnswersOnly (lines_of bytes) (Err e)
 
 -- the lines that have come with their LFs begin a job, are none, and pass no limit
 pub record IsOpen (bytes : List ℕ) : Type 0 where

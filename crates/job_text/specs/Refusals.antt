@@ -1,7 +1,7 @@
 -- What reading a job gives, and when it ends with a refusal.
-use Rattle.std.specs.Prelude.{◌≡◌, ℕ, ◌+◌, ◌≤◌, Result, Ok, Err, List, ◌++◌, length, take, drop}
+use Rattle.std.specs.Prelude.{◌≡◌, ℕ, ◌≤◌, Result, Ok, Err, List, ◌++◌, length, take, drop}
 use Rattle.session_book.specs.Meaning.{JobView}
-use Rattle.job_text.specs.Meaning.{lines_of, Present, Spells, IsWithin}
+use Rattle.job_text.specs.Meaning.{LineView, lines_of, Present, Spells, IsWithin}
 use Rattle.job_text.specs.declared.jobs.ReadJob.{ReadJob}
 use Rattle.job_text.specs.declared.jobs.JobFault.{JobFault}
 use Rattle.job_text.specs.declared.jobs.JobFault.TheVariants as fault
@@ -19,3 +19,7 @@ pub record IsRead (input : List ℕ) (r : ReadJob) : Type 0 where
 abbrev pub IsOnly : ℕ → JobView → Result ReadJob JobFault → Type 0
 IsOnly n job (Ok r) = (r.job ≡ job) × (r.lines ≡ n)
 IsOnly n job (Err e) = e ≡ fault.NoMemory
+
+-- where first lines spell a job within the limits, the answer is that job
+abbrev pub AnswersOnly : List LineView → Result ReadJob JobFault → Type 0
+AnswersOnly lines answer = (n : ℕ) (job : JobView) → n ≤ length lines → Spells Present (take n lines) job → IsWithin job → IsOnly n job answer

@@ -2,7 +2,7 @@
 use Rattle.std.specs.Prelude.{◌≡◌, ℕ, ◌+◌, ◌-◌, ◌≤◌, Bool, true, false, not, nat_eq, nat_le, if◌then◌else◌, Option, Some, None, List, [], ◌∷◌, ◌++◌, length, option_map, option_and_then}
 use Rattle.cov_base.specs.Meaning.{ImageView}
 use Rattle.cov_base.specs.declared.limits.TheConstants.{MODULE_LIMIT, SIZE_LIMIT, LINE_LIMIT, PHASE_LIMIT, SESSION_LIMIT, TASK_LIMIT, PRIVATE_LIMIT, BUDGET_LIMIT, ROOM_LIMIT}
-use Rattle.job_text.specs.Meaning.{DraftView, Controllers, are_met, LineView, listing_text, CardView, Cover, Module, Text, Listing, Phase, Session, Task, End, card_at, no_job, fits, with_module, with_phase, with_session, has_task, with_task}
+use Rattle.job_text.specs.Meaning.{DraftView, Controllers, are_met, LineView, listing_text, CardView, Cover, Module, Text, Listing, Phase, Session, Task, End, card_at, no_job, has_module, fits, with_module, with_phase, with_session, has_task, with_task}
 use Rattle.job_text.specs.TaskParts.{fresh_task, task_more}
 use Rattle.job_text.specs.declared.limit.Limit.{Limit}
 use Rattle.job_text.specs.declared.limit.Limit.TheVariants as limit
@@ -156,10 +156,22 @@ open_modules (part.Texts i left) = 1
 open_modules (part.Listed i left lines) = 1
 open_modules p = 0
 
--- what was read is within the limits that numbers of 32 bits need
+-- no module or task that was read whole has the name of the open one
+abbrev pub IsNew : Part → DraftView → Type 0
+IsNew (part.Texts i left) j = has_module j i.name ≡ false
+IsNew (part.Listed i left lines) j = has_module j i.name ≡ false
+IsNew (part.Task t) j = has_task j t.task.name ≡ false
+IsNew p j = Unit {0}
+
+-- what was read is within the limits that numbers of 32 bits need, and what is open has a new name
 pub record HasRoom (p : Part) (j : DraftView) : Type 0 where
+  pub new : IsNew p j
   pub modules : length j.images + open_modules p ≤ MODULE_LIMIT
   pub phases : length j.phases ≤ PHASE_LIMIT
+
+-- the reader stands so, and no limit is passed
+abbrev pub Gives : Option State → State → Type 0
+Gives o st = o ≡ Some (plain st)
 
 -- how a line is refused: it is bad, or it passes a limit
 abbrev pub Refuses : Option State → LineRefused → Type 0

@@ -25,6 +25,10 @@ IsFaultOf o n (fault.BadJob line) = (o ≡ None) × (line ≡ n)
 IsFaultOf o n (fault.TooLarge what line) = (option_map (λ s. s.over) o ≡ Some (Some what)) × (line ≡ n)
 IsFaultOf o n fault.NoMemory = Unit {0}
 
+-- the fault of the line that comes next
+abbrev pub IsFaultAt : Taken → LineView → JobFault → Type 0
+IsFaultAt t l e = IsFaultOf (step Present t.reader l) (t.lines + 1) e
+
 -- all lines of these bytes were taken
 pub record HasRun (bytes : List ℕ) (t : Taken) : Type 0 where
   pub runs : run Present start (lines_of bytes) ≡ Some (plain t.reader)

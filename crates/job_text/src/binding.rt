@@ -1,74 +1,65 @@
 //! The tasks that control sessions.
 ghost use Rattle.std.specs.Prelude.{◌≡◌, ◌<◌, ◌≤◌, IfOk, IfSome, length, map, option_and_then};
-ghost use Rattle.std.specs.List.{list_any, list_all};
 ghost use Rattle.cov_base.specs.declared.limits.TheConstants.{TASK_LIMIT};
+ghost use Rattle.session_book.specs.JobView.{IsJob};
+ghost use Rattle.session_book.specs.Names.{task_names};
 ghost use Rattle.job_text.specs.Meaning as drafts;
 
 use crate::parts::{Draft, SessionDraft};
 use cov_base::{Name, NoMemory};
-use session_book::{Session, TaskCard};
+use module_area::Images;
+use names::NameList;
+use session_book::{Job, JobCards, Session, TaskCard};
 use std::alloc::Global;
 
-fn is_controller(task: &TaskCard, phase: u32, name: &Name) -> bool
-    ensures { result ≡ drafts.is_controller phase name.now task.now }
-{
-    task.name == *name && task.phase == phase
-}
-
-/// The task of the phase that has this name.
-fn controller_of(tasks: &[TaskCard], phase: u32, name: &Name) -> Option<usize>
+/// The task of the phase that has this name, by the names of the tasks.
+fn controller_of(names: &NameList, tasks: &[TaskCard], phase: u32, name: &Name) -> Option<usize>
+    requires { names.now ≡ task_names tasks.now }
     ensures index { result ≡ drafts.controller_of tasks.now phase name.now }
     ensures within { IfSome result (λ i. i < length tasks.now) }
 {
-    tasks
-        .iter()
-        .position(|task| is_controller(task, phase, name))
+    let at = names.index_of(name)?;
+    let task = &tasks[at];
+    if task.phase == phase { Some(at) } else { None }
 }
 
-fn has_controller(tasks: &[TaskCard], phase: u32, name: &Name) -> bool
-    ensures { result ≡ list_any (drafts.is_controller phase name.now) tasks.now }
-{
-    tasks.iter().any(|task| is_controller(task, phase, name))
-}
-
-fn is_met(tasks: &[TaskCard], session: &SessionDraft) -> bool
-    ensures { result ≡ drafts.is_met tasks.now session.now }
+fn is_met(job: &Draft, session: &SessionDraft) -> bool
+    ensures { result ≡ drafts.is_met job.now.tasks session.now }
 {
     match session.by {
         None => true,
-        Some(name) => has_controller(tasks, session.phase, &name),
+        Some(name) => {
+            controller_of(&job.names.tasks, &job.tasks, session.phase, &name).is_some()
+        }
     }
-}
-
-fn all_met(tasks: &[TaskCard], sessions: &[SessionDraft]) -> bool
-    ensures { result ≡ list_all (drafts.is_met tasks.now) sessions.now }
-{
-    sessions.iter().all(|session| is_met(tasks, session))
 }
 
 /// Whether no controller is missing.
 pub(crate) fn are_met(job: &Draft) -> bool
     ensures { result ≡ drafts.are_met drafts.Present job.now }
 {
-    all_met(&job.tasks, &job.sessions)
+    job.sessions.iter().all(|session| is_met(job, session))
 }
 
-fn index_of(tasks: &[TaskCard], phase: u32, by: Option<Name>) -> Option<u32>
-    requires { length tasks.now ≤ TASK_LIMIT }
+fn index_of(names: &NameList, tasks: &[TaskCard], phase: u32, by: Option<Name>) -> Option<u32>
+    requires few { length tasks.now ≤ TASK_LIMIT }
+    requires names { names.now ≡ task_names tasks.now }
     ensures { result ≡ option_and_then (drafts.controller_of tasks.now phase) by }
 {
     let name = by?;
-    let at = controller_of(tasks, phase, &name)?;
+    let at = controller_of(names, tasks, phase, &name)?;
     Some(at as u32)
 }
 
 /// The sessions, each with its controller's index among the tasks.
-pub(crate) fn bound_sessions(
+fn bound_sessions(
     alloc: Global,
+    names: &NameList,
     tasks: &[TaskCard],
     sessions: Vec<SessionDraft>,
 ) -> Result<Vec<Session>, NoMemory>
-    requires { length tasks.now ≤ TASK_LIMIT }
+    requires few { length tasks.now ≤ TASK_LIMIT }
+    requires names { names.now ≡ task_names tasks.now }
     ensures { IfOk result (λ v. v.items ≡ map (drafts.bound_session tasks.now) sessions.items) }
 {
     let mut bound = Vec::new(alloc);
@@ -79,7 +70,7 @@ pub(crate) fn bound_sessions(
             modules,
             by,
         } = session;
-        let by = index_of(tasks, phase, by);
+        let by = index_of(names, tasks, phase, by);
         bound.push(Session {
             name,
             phase,
@@ -88,4 +79,28 @@ pub(crate) fn bound_sessions(
         })?;
     }
     Ok(bound)
+}
+
+/// The job that was read, with each controller's index.
+pub(crate) fn bound_job(alloc: Global, job: Draft) -> Result<Job, NoMemory>
+    requires { IsJob (drafts.bound job) }
+    ensures { IfOk result (λ whole. whole ≡ drafts.bound job) }
+{
+    let Draft {
+        images,
+        listings,
+        phases,
+        sessions,
+        tasks,
+        names,
+    } = job;
+    let sessions = bound_sessions(alloc, &names.tasks, &tasks, sessions)?;
+    let cards = JobCards {
+        images: Images(images),
+        listings,
+        phases,
+        sessions,
+        tasks,
+    };
+    Ok(Job::named(cards, names))
 }

@@ -32,36 +32,33 @@ fn short_card(alloc: Global, key: &[u8], a: &[u8]) -> Result<Option<Card>, Alloc
     Ok(None)
 }
 
-fn whole_session(alloc: Global, name: &[u8], modules: &[&[u8]]) -> Result<Option<Card>, AllocError>
-    ensures { IfOk result (λ o. option_map view o ≡ spell.as_session (name_at name.now) (names_at (map (λ w. w.now) modules.now))) }
+fn whole_session(name: Option<Name>, modules: Option<Vec<Name>>) -> Option<Card>
+    ensures { option_map view result ≡ spell.as_session name (option_map (λ v. v.items) modules) }
 {
-    let names = names_of(alloc, modules)?;
-    match (Name::read(name), names) {
-        (Some(name), Some(modules)) => Ok(Some(Card::Session {
+    match (name, modules) {
+        (Some(name), Some(modules)) => Some(Card::Session {
             name,
             by: None,
             modules,
-        })),
-        _ => Ok(None),
+        }),
+        _ => None,
     }
 }
 
 fn controlled_session(
-    alloc: Global,
-    name: &[u8],
-    task: &[u8],
-    modules: &[&[u8]],
-) -> Result<Option<Card>, AllocError>
-    ensures { IfOk result (λ o. option_map view o ≡ spell.as_controlled (name_at name.now) (name_at task.now) (names_at (map (λ w. w.now) modules.now))) }
+    name: Option<Name>,
+    task: Option<Name>,
+    modules: Option<Vec<Name>>,
+) -> Option<Card>
+    ensures { option_map view result ≡ spell.as_controlled name task (option_map (λ v. v.items) modules) }
 {
-    let names = names_of(alloc, modules)?;
-    match (Name::read(name), Name::read(task), names) {
-        (Some(name), Some(task), Some(modules)) => Ok(Some(Card::Session {
+    match (name, task, modules) {
+        (Some(name), Some(task), Some(modules)) => Some(Card::Session {
             name,
             by: Some(task),
             modules,
-        })),
-        _ => Ok(None),
+        }),
+        _ => None,
     }
 }
 
@@ -72,7 +69,8 @@ fn controlled_card(alloc: Global, name: &[u8], words: &[&[u8]]) -> Result<Option
     if words.len() < 2 {
         return Ok(None);
     }
-    controlled_session(alloc, name, words[0], &words[1..])
+    let modules = names_of(alloc, &words[1..])?;
+    Ok(controlled_session(Name::read(name), Name::read(words[0]), modules))
 }
 
 /// The card of the words behind SESSION and a name.
@@ -85,7 +83,8 @@ fn session_card(alloc: Global, name: &[u8], words: &[&[u8]]) -> Result<Option<Ca
             if is(first, b"BY") {
                 return controlled_card(alloc, name, rest);
             }
-            whole_session(alloc, name, words)
+            let modules = names_of(alloc, words)?;
+            Ok(whole_session(Name::read(name), modules))
         }
     }
 }

@@ -1,6 +1,6 @@
 //! Adds to a job what its cards say.
-ghost use Rattle.std.specs.Prelude.{◌≡◌, ◌+◌, ◌≤◌, ◌<◌, ◌&&◌, [], Option, Some, None, IfOk, IfSome, nat_eq, length, option_map};
-ghost use Rattle.std.specs.List.{list_any};
+ghost use Rattle.std.specs.Prelude.{◌≡◌, ◌+◌, ◌≤◌, ◌<◌, ◌&&◌, [], Option, Some, None, IfOk, IfSome, false, nat_eq, length, option_map};
+ghost use Rattle.std.specs.List.{list_any, list_all};
 ghost use Rattle.std.specs.Str.{bytes_eq};
 ghost use Rattle.cov_base.specs.declared.limits.TheConstants.{MODULE_LIMIT, PHASE_LIMIT};
 ghost use Rattle.job_text.specs.Meaning.{Present};
@@ -16,47 +16,50 @@ use module_area::Image;
 use session_book::TaskCard;
 use std::alloc::Global;
 
-fn is_clear(image: &Image, name: &Name, base: u32, size: u32) -> bool
-    ensures { result ≡ adding.is_clear name.now base size image.now }
+fn has_module(job: &Draft, name: &Name) -> bool
+    ensures { result ≡ adding.has_module job.now name.now }
 {
-    image.name != *name
-        && (u128::from(image.base.get()) + image.bytes.len() as u128 <= u128::from(base)
-            || u64::from(base) + u64::from(size) <= u64::from(image.base.get()))
+    job.names.modules.has(name)
+}
+
+fn is_clear(image: &Image, base: u32, size: u32) -> bool
+    ensures { result ≡ adding.is_clear base size image.now }
+{
+    u128::from(image.base.get()) + image.bytes.len() as u128 <= u128::from(base)
+        || u64::from(base) + u64::from(size) <= u64::from(image.base.get())
+}
+
+fn all_clear(images: &[Image], base: u32, size: u32) -> bool
+    ensures { result ≡ list_all (adding.is_clear base size) images.now }
+{
+    images.iter().all(|image| is_clear(image, base, size))
 }
 
 /// Whether a module of this name and place may come.
 pub(crate) fn fits(job: &Draft, name: &Name, base: u32, size: u32) -> bool
     ensures { result ≡ adding.fits job.now name.now base size }
 {
-    job.images
-        .iter()
-        .all(|image| is_clear(image, name, base, size))
-}
-
-fn has_phase(job: &Draft, name: &Name) -> bool
-    ensures { result ≡ list_any (λ p. bytes_eq p name.now) job.now.phases }
-{
-    job.phases.iter().any(|phase| *phase == *name)
+    !has_module(job, name) && all_clear(&job.images, base, size)
 }
 
 fn has_session(job: &Draft, name: &Name) -> bool
     ensures { result ≡ list_any (λ s. bytes_eq s.name name.now) job.now.sessions }
 {
-    job.sessions.iter().any(|session| session.name == *name)
+    job.names.sessions.has(name)
 }
 
 /// Whether a task has this name.
 pub(crate) fn has_task(job: &Draft, name: &Name) -> bool
     ensures { result ≡ adding.has_task job.now name.now }
 {
-    job.tasks.iter().any(|task| task.name == *name)
+    job.names.tasks.has(name)
 }
 
 fn index_of(job: &Draft, name: &Name) -> Option<usize>
     ensures index { result ≡ adding.index_of job.now name.now }
     ensures within { IfSome result (λ i. i < length job.now.images) }
 {
-    job.images.iter().position(|image| image.name == *name)
+    job.names.modules.index_of(name)
 }
 
 fn has_index(used: &[u32], m: u32) -> bool
@@ -112,7 +115,7 @@ fn put_index(
 ) -> Result<Option<Vec<u32>>, NoMemory>
     requires modules { length job.now.images ≤ MODULE_LIMIT }
     requires phases { length job.now.phases ≤ PHASE_LIMIT }
-    ensures { IfOk result (λ o. adding.put_index job.now by.now used.items (adding.index_of job.now name.now) ≡ option_map (λ v. v.items) o) }
+    ensures { IfOk result (λ o. adding.put_named job.now by.now used.items name.now ≡ option_map (λ v. v.items) o) }
 {
     match index_of(job, name) {
         None => Ok(None),
@@ -147,36 +150,82 @@ fn indices(
     Ok(Some(used))
 }
 
-fn put_module(
-    mut job: Draft,
-    image: Image,
-    listing: Option<ListingLines>,
-) -> Result<Draft, NoMemory>
+fn put_module(job: Draft, image: Image, listing: Option<ListingLines>) -> Result<Draft, NoMemory>
+    requires { adding.has_module job image.name ≡ false }
     ensures { IfOk result (λ d. d ≡ adding.with_module job image listing) }
 {
-    job.images.push(image)?;
-    job.listings.push(listing)?;
-    Ok(job)
+    let Draft {
+        mut images,
+        mut listings,
+        phases,
+        sessions,
+        tasks,
+        names,
+    } = job;
+    let names = names.with_module(image.name)?;
+    images.push(image)?;
+    listings.push(listing)?;
+    Ok(Draft {
+        images,
+        listings,
+        phases,
+        sessions,
+        tasks,
+        names,
+    })
 }
 
-fn put_task(mut job: Draft, task: TaskCard) -> Result<Draft, NoMemory>
-    requires { length job.phases ≤ PHASE_LIMIT }
+fn put_task(job: Draft, task: TaskCard) -> Result<Draft, NoMemory>
+    requires phases { length job.phases ≤ PHASE_LIMIT }
+    requires new { adding.has_task job task.name ≡ false }
     ensures { IfOk result (λ d. d ≡ adding.with_task job task) }
 {
     let phase = this_phase(&job);
-    job.tasks.push(TaskCard { phase, ..task })?;
-    Ok(job)
+    let Draft {
+        images,
+        listings,
+        phases,
+        sessions,
+        mut tasks,
+        names,
+    } = job;
+    let names = names.with_task(task.name)?;
+    tasks.push(TaskCard { phase, ..task })?;
+    Ok(Draft {
+        images,
+        listings,
+        phases,
+        sessions,
+        tasks,
+        names,
+    })
 }
 
 /// The job with a phase more; none where a phase has the name.
-pub(crate) fn with_phase(mut job: Draft, name: Name) -> Result<Option<Draft>, NoMemory>
+pub(crate) fn with_phase(job: Draft, name: Name) -> Result<Option<Draft>, NoMemory>
     ensures { IfOk result (λ o. o ≡ adding.with_phase job name) }
 {
-    if has_phase(&job, &name) {
+    let Draft {
+        images,
+        listings,
+        mut phases,
+        sessions,
+        tasks,
+        names,
+    } = job;
+    if names.phases.has(&name) {
         return Ok(None);
     }
-    job.phases.push(name)?;
-    Ok(Some(job))
+    let names = names.with_phase(name)?;
+    phases.push(name)?;
+    Ok(Some(Draft {
+        images,
+        listings,
+        phases,
+        sessions,
+        tasks,
+        names,
+    }))
 }
 
 /// Whether a session may have this controller.
@@ -189,11 +238,35 @@ fn may_have(job: &Draft, by: &Option<Name>) -> bool
     }
 }
 
+fn put_session(job: Draft, session: SessionDraft) -> Result<Draft, NoMemory>
+    requires { list_any (λ s. bytes_eq s.name session.name) job.sessions ≡ false }
+    ensures { IfOk result (λ d. d ≡ adding.with_draft job session) }
+{
+    let Draft {
+        images,
+        listings,
+        phases,
+        mut sessions,
+        tasks,
+        names,
+    } = job;
+    let names = names.with_session(session.name)?;
+    sessions.push(session)?;
+    Ok(Draft {
+        images,
+        listings,
+        phases,
+        sessions,
+        tasks,
+        names,
+    })
+}
+
 /// The job with a session more; none where a session has the name, it may not have the controller, or a module
 /// isn't free.
 pub(crate) fn with_session(
     alloc: Global,
-    mut job: Draft,
+    job: Draft,
     name: Name,
     by: Option<Name>,
     names: &[Name],
@@ -209,13 +282,13 @@ pub(crate) fn with_session(
         None => Ok(None),
         Some(modules) => {
             let phase = this_phase(&job);
-            job.sessions.push(SessionDraft {
+            let session = SessionDraft {
                 name,
                 phase,
                 modules,
                 by,
-            })?;
-            Ok(Some(job))
+            };
+            Ok(Some(put_session(job, session)?))
         }
     }
 }

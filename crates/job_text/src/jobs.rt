@@ -3,7 +3,7 @@ ghost use Rattle.std.specs.Prelude.{◌≡◌, ℕ, ◌≤◌, IfOk, IfErr, leng
 ghost use Rattle.cov_base.specs.declared.constants.TheConstants.{INPUT_LIMIT};
 ghost use Rattle.session_book.specs.Meaning.{JobView};
 ghost use Rattle.job_text.specs.Meaning.{Present, lines_of, IsWithin, IsRefusal, Spells};
-ghost use Rattle.job_text.specs.Refusals.{IsRead, IsOnly};
+ghost use Rattle.job_text.specs.Refusals.{IsRead, AnswersOnly};
 
 use crate::limit::Limit;
 use crate::reader::JobReader;
@@ -58,7 +58,7 @@ impl From<OutOfMemory> for JobFault {
 pub fn read_job(alloc: Global, input: &[u8]) -> Result<ReadJob, JobFault>
     requires { length input.now ≤ INPUT_LIMIT }
     ensures job { IfOk result (IsRead input.now) }
-    ensures only { (n : ℕ) (job : JobView) → n ≤ length (lines_of input.now) → Spells Present (take n (lines_of input.now)) job → IsWithin job → IsOnly n job result }
+    ensures only { AnswersOnly (lines_of input.now) result }
     ensures fault { IfErr result (IsRefusal (lines_of input.now)) }
 {
     let mut reader = JobReader::new(alloc)?;

@@ -1,6 +1,6 @@
 //! The lines of an input.
 ghost use Rattle.std.specs.Prelude.{◌≡◌, ◌+◌, ◌∷◌, ◌<◌, length, nat_eq, position};
-ghost use Rattle.job_text.specs.Meaning.{lines_of, listing_text};
+ghost use Rattle.job_text.specs.Meaning.{as_line, lines_of, listing_text};
 ghost use Rattle.job_text.specs.Lines.{span};
 
 /// The first line of a text without its LF, whether an LF ended it, and the bytes that follow.
@@ -22,9 +22,9 @@ pub(crate) fn first_end(text: &[u8]) -> Option<usize>
 /// isn't empty. Takes no memory.
 pub fn first_line(text: &[u8]) -> FirstLine<'_>
     requires { 0 < length text.now }
-    ensures line { lines_of text.now ≡ record { bytes = result.bytes.now; ended = result.ended } ∷ lines_of result.rest.now }
+    ensures line { lines_of text.now ≡ as_line result.bytes.now result.ended ∷ lines_of result.rest.now }
     ensures less { length result.rest.now < length text.now }
-    ensures size { span (record { bytes = result.bytes.now; ended = result.ended }) + length result.rest.now ≡ length text.now }
+    ensures size { span (as_line result.bytes.now result.ended) + length result.rest.now ≡ length text.now }
 {
     match first_end(text) {
         Some(at) => {
@@ -45,7 +45,7 @@ pub fn first_line(text: &[u8]) -> FirstLine<'_>
 
 /// The text of a listing line: one CR right before its LF is no part of it.
 pub(crate) fn listing_text(bytes: &[u8], ended: bool) -> &[u8]
-    ensures { result.now ≡ listing_text (record { bytes = bytes.now; ended = ended }) }
+    ensures { result.now ≡ listing_text (as_line bytes.now ended) }
 {
     if ended && bytes.len() >= 1 && bytes[bytes.len() - 1] == b'\r' {
         &bytes[..bytes.len() - 1]

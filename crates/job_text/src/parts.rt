@@ -4,7 +4,7 @@ use crate::task::TaskPart;
 use cov_base::Name;
 use listing_lines::ListingLines;
 use module_area::Image;
-use session_book::TaskCard;
+use session_book::{JobNames, TaskCard};
 use std::marker::Model;
 
 /// A session as its card says, with its controller's name, none for a whole session.
@@ -24,7 +24,7 @@ impl Model for SessionDraft {
     ghost view = { λ s. record { name = s.name; phase = s.phase; modules = s.modules.items; by = s.by } };
 }
 
-/// What of a job was read whole.
+/// What of a job was read whole, with its names, by which modules, phases, sessions and tasks are found.
 #[derive(Drop)]
 pub(crate) struct Draft {
     pub images: Vec<Image>,
@@ -32,6 +32,7 @@ pub(crate) struct Draft {
     pub phases: Vec<Name>,
     pub sessions: Vec<SessionDraft>,
     pub tasks: Vec<TaskCard>,
+    pub names: JobNames,
 }
 
 impl Model for Draft {
@@ -39,7 +40,11 @@ impl Model for Draft {
 
     ghost Value = { DraftView };
 
-    ghost view = { λ d. record { images = d.images.items; listings = d.listings.items; phases = d.phases.items; sessions = d.sessions.items; tasks = d.tasks.items } };
+    ghost use Rattle.job_text.specs.DraftInside.{draft_view, HasNames};
+
+    ghost view = { draft_view };
+
+    ghost invariant = { HasNames };
 }
 
 /// What of a job was read in part, or which cards may follow.

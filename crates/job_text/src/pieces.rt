@@ -2,11 +2,11 @@
 ghost use Rattle.std.specs.Prelude.{◌≡◌, ◌+◌, ◌<◌, ◌≤◌, ◌++◌, ◌^◌, ℕ, List, [], true, false, IfOk, IfErr, length, take};
 ghost use Rattle.cov_base.specs.declared.constants.TheConstants.{INPUT_LIMIT};
 ghost use Rattle.session_book.specs.Meaning.{JobView};
-ghost use Rattle.job_text.specs.Meaning.{Present, lines_of, IsWithin, IsRefusal, Spells};
+ghost use Rattle.job_text.specs.Meaning.{Present, as_line, lines_of, IsWithin, IsRefusal, Spells};
 ghost use Rattle.job_text.specs.Pieces.{IsTold, Feeds, used_of, used_count, is_end};
-ghost use Rattle.job_text.specs.Refusals.{IsRead, IsOnly};
+ghost use Rattle.job_text.specs.Refusals.{IsRead, AnswersOnly};
 ghost use Rattle.job_text.specs.Steps.{is_done, step};
-ghost use Rattle.job_text.specs.Taken.{IsNext, IsFaultOf, HasTaken, size_of};
+ghost use Rattle.job_text.specs.Taken.{IsNext, IsFaultAt, HasTaken, size_of};
 
 use crate::jobs::{JobFault, ReadJob};
 use crate::lines::first_end;
@@ -34,9 +34,9 @@ impl Pieces {
     fn ended_line(&mut self, alloc: Global, line: &[u8]) -> Result<(), JobFault>
         requires few { self.old.taken.lines + 1 < 2 ^ 32 }
         requires room { size_of self.old + length line.now + 1 < 2 ^ 32 }
-        ensures next { IfOk result (λ _. IsNext self.old.taken self.new.taken (record { bytes = self.old.cut.items ++ line.now; ended = true })) }
+        ensures next { IfOk result (λ _. IsNext self.old.taken self.new.taken (as_line (self.old.cut.items ++ line.now) true)) }
         ensures none { IfOk result (λ _. self.new.cut.items ≡ []) }
-        ensures fault { IfErr result (IsFaultOf (step Present self.old.taken.reader (record { bytes = self.old.cut.items ++ line.now; ended = true })) (self.old.taken.lines + 1)) }
+        ensures fault { IfErr result (IsFaultAt self.old.taken (as_line (self.old.cut.items ++ line.now) true)) }
     {
         if self.cut.is_empty() {
             return self.taken.line(alloc, line, true);
@@ -52,7 +52,7 @@ impl Pieces {
         requires taken { (before : List ℕ) × HasTaken before self }
         requires reading { is_done self.taken.reader.part ≡ false }
         requires room { size_of self + length piece.now ≤ INPUT_LIMIT }
-        ensures taken { (before : List ℕ) → HasTaken before self → IfOk result (λ r. HasTaken (before ++ used_of piece.now r.1) r.0) }
+        ensures taken { (old : List ℕ) → HasTaken old self → IfOk result (λ r. HasTaken (old ++ used_of piece.now r.1) r.0) }
         ensures fed { (before : List ℕ) → HasTaken before self → IfOk result (λ r. Feeds before piece.now r.1) }
         ensures used { IfOk result (λ r. used_count piece.now r.1 ≤ length piece.now) }
         ensures ended { IfOk result (λ r. is_done r.0.taken.reader.part ≡ is_end r.1) }
@@ -77,7 +77,7 @@ impl Pieces {
         requires room { size_of self ≤ INPUT_LIMIT }
         ensures job { (bytes : List ℕ) → HasTaken bytes self → IfOk result (IsRead bytes) }
         ensures whole { (bytes : List ℕ) → HasTaken bytes self → IfOk result (λ r. r.end ≡ length bytes) }
-        ensures only { (bytes : List ℕ) → HasTaken bytes self → (n : ℕ) (job : JobView) → n ≤ length (lines_of bytes) → Spells Present (take n (lines_of bytes)) job → IsWithin job → IsOnly n job result }
+        ensures only { (bytes : List ℕ) → HasTaken bytes self → AnswersOnly (lines_of bytes) result }
         ensures fault { (bytes : List ℕ) → HasTaken bytes self → IfErr result (IsRefusal (lines_of bytes)) }
     {
         let Pieces { mut taken, cut } = self;

@@ -4,7 +4,7 @@ ghost use Rattle.cov_base.specs.declared.constants.TheConstants.{INPUT_LIMIT};
 ghost use Rattle.session_book.specs.Meaning.{JobView};
 ghost use Rattle.job_text.specs.Meaning.{Present, lines_of, IsWithin, IsRefusal, Spells};
 ghost use Rattle.job_text.specs.Pieces.{IsTold, Feeds, used_of, used_count, is_end};
-ghost use Rattle.job_text.specs.Refusals.{IsRead, IsOnly};
+ghost use Rattle.job_text.specs.Refusals.{IsRead, AnswersOnly};
 ghost use Rattle.job_text.specs.Taken.{IsFed, told, has_ended, fed_size};
 
 use crate::jobs::{JobFault, ReadJob};
@@ -64,7 +64,7 @@ impl JobReader {
     pub fn feed(&mut self, alloc: Global, piece: &[u8]) -> Result<Fed, JobFault>
         requires reading { has_ended self.old ≡ false }
         requires room { fed_size self.old + length piece.now ≤ INPUT_LIMIT }
-        ensures taken { (before : List ℕ) → IsFed before self.old → IfOk result (λ f. IsFed (before ++ used_of piece.now f) self.new) }
+        ensures taken { (old : List ℕ) → IsFed old self.old → IfOk result (λ f. IsFed (old ++ used_of piece.now f) self.new) }
         ensures fed { (before : List ℕ) → IsFed before self.old → IfOk result (Feeds before piece.now) }
         ensures used { IfOk result (λ f. used_count piece.now f ≤ length piece.now) }
         ensures fault { (before : List ℕ) → IsFed before self.old → IfErr result (IsTold (before ++ piece.now)) }
@@ -107,7 +107,7 @@ impl JobReader {
     pub fn finish(self, alloc: Global) -> Result<ReadJob, JobFault>
         ensures job { (bytes : List ℕ) → IsFed bytes self → IfOk result (IsRead bytes) }
         ensures whole { (bytes : List ℕ) → IsFed bytes self → IfOk result (λ r. r.end ≡ length bytes) }
-        ensures only { (bytes : List ℕ) → IsFed bytes self → (n : ℕ) (job : JobView) → n ≤ length (lines_of bytes) → Spells Present (take n (lines_of bytes)) job → IsWithin job → IsOnly n job result }
+        ensures only { (bytes : List ℕ) → IsFed bytes self → AnswersOnly (lines_of bytes) result }
         ensures fault { (bytes : List ℕ) → IsFed bytes self → IfErr result (IsRefusal (lines_of bytes)) }
         ensures same { (e : JobFault) → told self ≡ Some e → result ≡ Err e }
     {

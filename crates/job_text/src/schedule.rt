@@ -1,11 +1,10 @@
 //! The items of a schedule.
-ghost use Rattle.std.specs.Prelude.{◌≡◌, ◌<◌, IfSome, length, position};
-ghost use Rattle.std.specs.Str.{bytes_eq};
+ghost use Rattle.std.specs.Prelude.{◌≡◌};
 ghost use Rattle.job_text.specs.Meaning as spell;
 
 use crate::words::{first_blank, is};
 use cov_base::{Name, TaskNo};
-use session_book::{Job, TaskCard};
+use session_book::Job;
 
 /// What a line of a schedule asks for, of the task whose number in the job it holds.
 #[derive(Clone, Copy, Debug, PartialEq, Eq)]
@@ -26,22 +25,6 @@ pub enum Item {
     Close(TaskNo),
     /// `ENDSCHED`
     End,
-}
-
-fn index_of(tasks: &[TaskCard], name: &Name) -> Option<usize>
-    ensures index { result ≡ position (λ t. bytes_eq t.name name.now) tasks.now }
-    ensures within { IfSome result (λ i. i < length tasks.now) }
-{
-    tasks.iter().position(|task| task.name == *name)
-}
-
-fn task_named(job: &Job, name: &Name) -> Option<TaskNo>
-    ensures { result ≡ spell.task_named job.now name.now }
-{
-    match index_of(&job.tasks, name) {
-        None => None,
-        Some(at) => Some(TaskNo(at as u32)),
-    }
 }
 
 fn item_for(key: &[u8], task: TaskNo) -> Option<Item>
@@ -75,7 +58,7 @@ fn task_item(job: &Job, key: &[u8], name: &[u8]) -> Option<Item>
     ensures { result ≡ spell.task_item job.now key.now name.now }
 {
     let name = Name::read(name)?;
-    let task = task_named(job, &name)?;
+    let task = job.task_named(&name)?;
     item_for(key, task)
 }
 

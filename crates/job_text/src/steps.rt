@@ -3,12 +3,12 @@ ghost use Rattle.std.specs.Prelude.{◌≡◌, ℕ, ◌<◌, ◌≤◌, true, Op
 ghost use Rattle.cov_base.specs.declared.limits.TheConstants.{PHASE_LIMIT};
 ghost use Rattle.session_book.specs.JobView.{IsJob};
 ghost use Rattle.job_text.specs.Meaning as says;
-ghost use Rattle.job_text.specs.Meaning.{Present, bound};
+ghost use Rattle.job_text.specs.Meaning.{Present, as_line, bound};
 ghost use Rattle.job_text.specs.Steps as machine;
 ghost use Rattle.job_text.specs.declared.parts.Part.TheVariants as kind;
 ghost use Rattle.job_text.specs.Views.{view};
 
-use crate::binding::bound_sessions;
+use crate::binding::bound_job;
 use crate::card::Card;
 use crate::cards::read_card;
 use crate::drafts::{closed, closed_module, closed_task, fits, has_task, with_phase, with_session};
@@ -22,8 +22,8 @@ use cov_base::{
     ROOM_LIMIT, SESSION_LIMIT, SIZE_LIMIT, TASK_LIMIT,
 };
 use listing_lines::ListingLines;
-use module_area::{Image, Images};
-use session_book::Job;
+use module_area::Image;
+use session_book::{Job, JobNames};
 use std::alloc::Global;
 use std::marker::Model;
 use std::mem;
@@ -59,12 +59,13 @@ impl LineReader {
                 phases: Vec::new(alloc),
                 sessions: Vec::new(alloc),
                 tasks: Vec::new(alloc),
+                names: JobNames::new(alloc),
             },
         }
     }
 
     fn cover_card(self) -> Result<LineReader, LineRefused>
-        ensures ok { IfOk result (λ r. machine.take_cover self ≡ Some (machine.plain r)) }
+        ensures ok { IfOk result (machine.Gives (machine.take_cover self)) }
         ensures err { IfErr result (machine.Refuses (machine.take_cover self)) }
     {
         match self.part {
@@ -83,7 +84,7 @@ impl LineReader {
         base: Addr,
         size: u32,
     ) -> Result<LineReader, LineRefused>
-        ensures ok { IfOk result (λ r. machine.take_module self name base size ≡ Some (machine.plain r)) }
+        ensures ok { IfOk result (machine.Gives (machine.take_module self name base size)) }
         ensures err { IfErr result (machine.Refuses (machine.take_module self name base size)) }
     {
         match closed_module(self.part, self.job)? {
@@ -93,7 +94,7 @@ impl LineReader {
     }
 
     fn text_card(self, more: &[u8]) -> Result<LineReader, LineRefused>
-        ensures ok { IfOk result (λ r. machine.take_text self.part self.job more.now ≡ Some (machine.plain r)) }
+        ensures ok { IfOk result (machine.Gives (machine.take_text self.part self.job more.now)) }
         ensures err { IfErr result (machine.Refuses (machine.take_text self.part self.job more.now)) }
     {
         let LineReader { part, job } = self;
@@ -114,7 +115,7 @@ impl LineReader {
     }
 
     fn listing_card(self, alloc: Global, n: u32) -> Result<LineReader, LineRefused>
-        ensures ok { IfOk result (λ r. machine.take_listing self.part self.job n ≡ Some (machine.plain r)) }
+        ensures ok { IfOk result (machine.Gives (machine.take_listing self.part self.job n)) }
         ensures err { IfErr result (machine.Refuses (machine.take_listing self.part self.job n)) }
     {
         let LineReader { part, job } = self;
@@ -138,7 +139,7 @@ impl LineReader {
     }
 
     fn phase_card(self, name: Name) -> Result<LineReader, LineRefused>
-        ensures ok { IfOk result (λ r. machine.take_card Present self (says.Phase name) ≡ Some (machine.plain r)) }
+        ensures ok { IfOk result (machine.Gives (machine.take_card Present self (says.Phase name))) }
         ensures err { IfErr result (machine.Refuses (machine.take_card Present self (says.Phase name))) }
     {
         match closed(self.part, self.job)? {
@@ -154,7 +155,7 @@ impl LineReader {
         by: Option<Name>,
         names: &[Name],
     ) -> Result<LineReader, LineRefused>
-        ensures ok { IfOk result (λ r. machine.take_card Present self (says.Session name by names.now) ≡ Some (machine.plain r)) }
+        ensures ok { IfOk result (machine.Gives (machine.take_card Present self (says.Session name by names.now))) }
         ensures err { IfErr result (machine.Refuses (machine.take_card Present self (says.Session name by names.now))) }
     {
         match self.part {
@@ -172,7 +173,7 @@ impl LineReader {
         budget: u32,
         room: u32,
     ) -> Result<LineReader, LineRefused>
-        ensures ok { IfOk result (λ r. machine.take_task self name entry private budget room ≡ Some (machine.plain r)) }
+        ensures ok { IfOk result (machine.Gives (machine.take_task self name entry private budget room)) }
         ensures err { IfErr result (machine.Refuses (machine.take_task self name entry private budget room)) }
     {
         match closed_task(self.part, self.job)? {
@@ -182,7 +183,7 @@ impl LineReader {
     }
 
     fn end_card(self) -> Result<LineReader, LineRefused>
-        ensures ok { IfOk result (λ r. machine.take_card Present self says.End ≡ Some (machine.plain r)) }
+        ensures ok { IfOk result (machine.Gives (machine.take_card Present self says.End)) }
         ensures err { IfErr result (machine.Refuses (machine.take_card Present self says.End)) }
     {
         match closed(self.part, self.job)? {
@@ -196,7 +197,7 @@ impl LineReader {
 
     /// Takes a further card of the open task.
     fn more_card(self, card: Card) -> Result<LineReader, LineRefused>
-        ensures ok { IfOk result (λ r. machine.take_more self.part self.job (view card) ≡ Some (machine.plain r)) }
+        ensures ok { IfOk result (machine.Gives (machine.take_more self.part self.job (view card))) }
         ensures err { IfErr result (machine.Refuses (machine.take_more self.part self.job (view card))) }
     {
         let LineReader { part, job } = self;
@@ -210,7 +211,7 @@ impl LineReader {
     }
 
     fn card(self, alloc: Global, card: Card) -> Result<LineReader, LineRefused>
-        ensures ok { IfOk result (λ r. machine.take_card Present self (view card) ≡ Some (machine.plain r)) }
+        ensures ok { IfOk result (machine.Gives (machine.take_card Present self (view card))) }
         ensures err { IfErr result (machine.Refuses (machine.take_card Present self (view card))) }
     {
         match card {
@@ -247,7 +248,7 @@ impl LineReader {
 
     fn listing_line(&mut self, text: &[u8]) -> Result<(), LineRefused>
         requires { machine.takes_raw self.old.part ≡ true }
-        ensures ok { IfOk result (λ _. machine.take_raw self.old.part self.old.job text.now ≡ Some (machine.plain self.new)) }
+        ensures ok { IfOk result (λ _. machine.Gives (machine.take_raw self.old.part self.old.job text.now) self.new) }
         ensures err { IfErr result (machine.Refuses (machine.take_raw self.old.part self.old.job text.now)) }
     {
         match &mut self.part {
@@ -275,8 +276,8 @@ impl LineReader {
         bytes: &[u8],
         ended: bool,
     ) -> Result<(), LineRefused>
-        ensures ok { IfOk result (λ _. machine.step Present self.old (record { bytes = bytes.now; ended = ended }) ≡ Some (machine.plain self.new)) }
-        ensures err { IfErr result (machine.Refuses (machine.step Present self.old (record { bytes = bytes.now; ended = ended }))) }
+        ensures ok { IfOk result (λ _. machine.Gives (machine.step Present self.old (as_line bytes.now ended)) self.new) }
+        ensures err { IfErr result (machine.Refuses (machine.step Present self.old (as_line bytes.now ended))) }
     {
         if self.takes_raw() {
             return self.listing_line(listing_text(bytes, ended));
@@ -296,21 +297,7 @@ impl LineReader {
         requires { IsJob (bound self.job) }
         ensures { IfOk result (λ job. job ≡ bound self.job) }
     {
-        let Draft {
-            images,
-            listings,
-            phases,
-            sessions,
-            tasks,
-        } = self.job;
-        let sessions = bound_sessions(alloc, &tasks, sessions)?;
-        Ok(Job {
-            images: Images(images),
-            listings,
-            phases,
-            sessions,
-            tasks,
-        })
+        bound_job(alloc, self.job)
     }
 
     /// Whether ENDJOB was read.
@@ -332,7 +319,7 @@ fn open_module(
     size: u32,
 ) -> Result<LineReader, LineRefused>
     requires { length job.phases ≤ PHASE_LIMIT }
-    ensures ok { IfOk result (λ r. machine.open_module name base size job ≡ Some (machine.plain r)) }
+    ensures ok { IfOk result (machine.Gives (machine.open_module name base size job)) }
     ensures err { IfErr result (machine.Refuses (machine.open_module name base size job)) }
 {
     if !fits(&job, &name, base.get(), size) {
@@ -357,7 +344,7 @@ fn open_module(
 
 fn open_phase(job: Draft, name: Name) -> Result<LineReader, LineRefused>
     requires { machine.HasRoom kind.Modules job }
-    ensures ok { IfOk result (λ r. machine.open_phase name job ≡ Some (machine.plain r)) }
+    ensures ok { IfOk result (machine.Gives (machine.open_phase name job)) }
     ensures err { IfErr result (machine.Refuses (machine.open_phase name job)) }
 {
     let count = job.phases.len();
@@ -383,7 +370,7 @@ fn add_session(
     names: &[Name],
 ) -> Result<LineReader, LineRefused>
     requires { machine.HasRoom kind.Modules job }
-    ensures ok { IfOk result (λ r. machine.add_session job name by names.now ≡ Some (machine.plain r)) }
+    ensures ok { IfOk result (machine.Gives (machine.add_session job name by names.now)) }
     ensures err { IfErr result (machine.Refuses (machine.add_session job name by names.now)) }
 {
     let count = job.sessions.len();
@@ -411,7 +398,7 @@ fn open_task(
     room: u32,
 ) -> Result<LineReader, LineRefused>
     requires { machine.HasRoom kind.Modules job }
-    ensures ok { IfOk result (λ r. machine.open_task name entry private budget room job ≡ Some (machine.plain r)) }
+    ensures ok { IfOk result (machine.Gives (machine.open_task name entry private budget room job)) }
     ensures err { IfErr result (machine.Refuses (machine.open_task name entry private budget room job)) }
 {
     if has_task(&job, &name) {

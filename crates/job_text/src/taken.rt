@@ -1,10 +1,10 @@
 //! The whole lines of a job that were taken.
 ghost use Rattle.std.specs.Prelude.{◌≡◌, ◌+◌, ◌<◌, ◌≤◌, ◌^◌, ℕ, List, IfOk, IfErr, length, take};
 ghost use Rattle.session_book.specs.Meaning.{JobView};
-ghost use Rattle.job_text.specs.Meaning.{Present, lines_of, IsWithin, IsRefusal, Spells};
-ghost use Rattle.job_text.specs.Refusals.{IsRead, IsOnly};
+ghost use Rattle.job_text.specs.Meaning.{Present, as_line, lines_of, IsWithin, IsRefusal, Spells};
+ghost use Rattle.job_text.specs.Refusals.{IsRead, AnswersOnly};
 ghost use Rattle.job_text.specs.Steps.{start, step};
-ghost use Rattle.job_text.specs.Taken.{IsNext, IsFaultOf, HasRun};
+ghost use Rattle.job_text.specs.Taken.{IsNext, IsFaultAt, HasRun};
 
 use crate::jobs::{JobFault, ReadJob};
 use crate::refused::LineRefused;
@@ -37,8 +37,8 @@ impl Taken {
     pub(crate) fn line(&mut self, alloc: Global, bytes: &[u8], ended: bool) -> Result<(), JobFault>
         requires few { self.old.lines + 1 < 2 ^ 32 }
         requires room { self.old.bytes + length bytes.now + 1 < 2 ^ 32 }
-        ensures next { IfOk result (λ _. IsNext self.old self.new (record { bytes = bytes.now; ended = ended })) }
-        ensures fault { IfErr result (IsFaultOf (step Present self.old.reader (record { bytes = bytes.now; ended = ended })) (self.old.lines + 1)) }
+        ensures next { IfOk result (λ _. IsNext self.old self.new (as_line bytes.now ended)) }
+        ensures fault { IfErr result (IsFaultAt self.old (as_line bytes.now ended)) }
     {
         let size = if ended { bytes.len() + 1 } else { bytes.len() };
         match self.reader.line(alloc, bytes, ended) {
@@ -64,7 +64,7 @@ impl Taken {
         requires room { self.bytes + 1 < 2 ^ 32 }
         ensures job { (bytes : List ℕ) → HasRun bytes self → IfOk result (IsRead bytes) }
         ensures whole { (bytes : List ℕ) → HasRun bytes self → IfOk result (λ r. r.end ≡ length bytes) }
-        ensures only { (bytes : List ℕ) → HasRun bytes self → (n : ℕ) (job : JobView) → n ≤ length (lines_of bytes) → Spells Present (take n (lines_of bytes)) job → IsWithin job → IsOnly n job result }
+        ensures only { (bytes : List ℕ) → HasRun bytes self → AnswersOnly (lines_of bytes) result }
         ensures fault { (bytes : List ℕ) → HasRun bytes self → IfErr result (IsRefusal (lines_of bytes)) }
     {
         if self.reader.is_done() {

@@ -88,6 +88,7 @@ fn is_inside(private: u32, card: &DataCard) -> bool
 
 impl TaskPart {
     fn reg(self, reg: RegCard) -> Result<TaskPart, LineRefused>
+        ensures name { IfOk result (λ p. p.task.name ≡ self.task.name) }
         ensures ok { IfOk result (λ p. parts.after_reg self reg.number reg.value ≡ Some p) }
         ensures err { IfErr result (parts.IsOut (parts.after_reg self reg.number reg.value)) }
     {
@@ -105,6 +106,7 @@ impl TaskPart {
     }
 
     fn data(self, card: DataCard) -> Result<TaskPart, LineRefused>
+        ensures name { IfOk result (λ p. p.task.name ≡ self.task.name) }
         ensures ok { IfOk result (λ p. parts.after_data self card ≡ Some p) }
         ensures err { IfErr result (parts.IsOut (parts.after_data self card)) }
     {
@@ -120,7 +122,8 @@ impl TaskPart {
     }
 
     fn input(self, bytes: &[u8]) -> Result<TaskPart, AllocError>
-        ensures { IfOk result (λ p. p ≡ parts.after_input self bytes.now) }
+        ensures name { IfOk result (λ p. p.task.name ≡ self.task.name) }
+        ensures value { IfOk result (λ p. p ≡ parts.after_input self bytes.now) }
     {
         let mut task = self.task;
         task.input.extend_from_slice(bytes)?;
@@ -132,6 +135,7 @@ impl TaskPart {
 
     /// Takes a further card of the task.
     pub(crate) fn card(self, card: Card) -> Result<TaskPart, LineRefused>
+        ensures name { IfOk result (λ p. p.task.name ≡ self.task.name) }
         ensures ok { IfOk result (λ p. parts.task_more self (view card) ≡ Some p) }
         ensures err { IfErr result (parts.IsOut (parts.task_more self (view card))) }
     {

@@ -1,15 +1,16 @@
 -- What the loop over modules keeps.
-use Rattle.std.proofs.Common.{◌≡◌, ℕ, ◌+◌, ◌-◌, ◌*◌, ◌≤◌, ◌<◌, suc, None, List, [], ◌∷◌, ◌++◌, length, drop, ap, sym, ◌∙◌, arith, append_assoc, length-append, length-drop}
+use Rattle.std.proofs.Common.{◌≡◌, ℕ, ◌+◌, ◌-◌, ◌*◌, ◌≤◌, ◌<◌, suc, None, true, List, [], ◌∷◌, ◌++◌, length, drop, ap, sym, ◌∙◌, arith, append_assoc, length-append, length-drop}
 use Rattle.std.specs.List.{flat_map}
 use Rattle.std.proofs.lemmas.List.{drop-drop}
 use Rattle.std.proofs.lemmas.Grind.{flat_map-append}
-use Rattle.marks_file.specs.Meaning.{MarkedView, place_count, module_bytes, first_bad, module_fields, modules_fields, count_at, module_at}
+use Rattle.marks_file.specs.Meaning.{MarkedView, place_count, module_bytes, first_bad, module_fields, modules_fields, count_at, module_at, is_new_name}
 use Rattle.marks_file.specs.Reading.{IsFault, modules_at}
 use Rattle.marks_file.specs.declared.fault.MarksFault.{MarksFault}
 use Rattle.marks_file.specs.declared.fault.MarksFault.TheVariants.{BadMarks, NoMemory}
 use Rattle.marks_file.proofs.Parts.{module_size}
 use Rattle.marks_file.proofs.FieldLemmas.{first_none, first_some}
 use Rattle.marks_file.proofs.SpellLemmas.{AreBytes, bytes_later, length-places_at}
+use Rattle.marks_file.proofs.MarksLemmas.{both-left}
 use Rattle.marks_file.proofs.ModuleLemmas.{module_spelled}
 
 -- i modules with so many places were read, and the others begin at `at`
@@ -62,6 +63,12 @@ modules_step input from count at i before n modules m u s h good is many =
       end = omega (arith, s.end, ap length (flat_map-append module_bytes modules (m ∷ [])), length-append (flat_map module_bytes modules) (flat_map module_bytes (m ∷ [])), length-append (module_bytes m) [], long);
     } in
     rw here next
+
+-- the module that was read has a new name
+pub next_new : (input : List ℕ) (at : ℕ) (modules : List MarkedView) (m : MarkedView) → AreBytes input → first_bad (module_fields at modules (drop at input)) ≡ None → m ≡ module_at (drop at input) → is_new_name modules m.name ≡ true
+next_new input at modules m u good is =
+    let one = module_spelled at modules (drop at input) (bytes_later at input u) good in
+    rw is (both-left (is_new_name modules (module_at (drop at input)).name) _ one.is)
 
 pub modules_stop : (input : List ℕ) (from count at i before : ℕ) (modules : List MarkedView) (fault : MarksFault) → ModulesSoFar input from count at i before modules → i < count
     → IsFault (module_fields at modules (drop at input)) fault → IsFault (modules_fields from [] count (drop from input)) fault

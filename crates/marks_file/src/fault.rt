@@ -1,5 +1,6 @@
 //! Why bytes are no marks file.
 
+use cov_base::NoMemory;
 use std::alloc::{AllocError, AllocFailed};
 
 /// Why no marks file was read.
@@ -43,6 +44,17 @@ impl<T: Drop> From<AllocFailed<T>> for MarksFault {
     ghost from_gives = { λ _ e. e ≡ NoMemory };
 
     fn from(_: AllocFailed<T>) -> Self {
+        MarksFault::NoMemory
+    }
+}
+
+impl From<NoMemory> for MarksFault {
+    ghost use Rattle.std.specs.Prelude.{◌≡◌};
+    ghost use Rattle.marks_file.specs.declared.fault.MarksFault.TheVariants.{NoMemory as Wanting};
+
+    ghost from_gives = { λ _ e. e ≡ Wanting };
+
+    fn from(_: NoMemory) -> Self {
         MarksFault::NoMemory
     }
 }

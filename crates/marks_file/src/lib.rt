@@ -4,7 +4,7 @@
 mod fault;
 mod heading;
 mod marks;
-mod names;
+mod modules;
 mod numbers;
 mod reading;
 mod rows;

@@ -10,7 +10,7 @@ ghost use Rattle.marks_file.specs.declared.version.Version.{Version};
 use crate::fault::{BadField, MarksFault};
 use crate::heading::read_heading;
 use crate::marks::{MarkedModule, MarkedPlace, Marks};
-use crate::names::new_name;
+use crate::modules::{NamedModules, new_name};
 use crate::numbers::{kind_of_number, set_of_number};
 use crate::rules::{
     is_base, is_count, is_length, is_location, is_module_count, is_original, is_set, is_size,
@@ -147,10 +147,10 @@ fn has_base(bytes: &[u8]) -> bool
     bytes.len() >= 12 && is_base(word_at(bytes, 8))
 }
 
-fn has_size(bytes: &[u8], earlier: &[MarkedModule], base: u32) -> bool
+fn has_size(bytes: &[u8], earlier: &NamedModules, base: u32) -> bool
     ensures { result ≡ (nat_le 16 (length bytes.now) && is_size earlier.now base (big_number 4 (drop 12 bytes.now))) }
 {
-    bytes.len() >= 16 && is_size(earlier, base, word_at(bytes, 12))
+    bytes.len() >= 16 && is_size(&earlier.modules, base, word_at(bytes, 12))
 }
 
 fn has_count(bytes: &[u8], before: u32) -> bool
@@ -165,7 +165,7 @@ fn has_count(bytes: &[u8], before: u32) -> bool
 fn read_header(
     bytes: &[u8],
     at: usize,
-    earlier: &[MarkedModule],
+    earlier: &NamedModules,
     before: u32,
 ) -> Result<Header, BadField>
     requires offset { at < 2 ^ 63 }
@@ -204,7 +204,7 @@ fn read_module(
     alloc: Global,
     input: &[u8],
     at: usize,
-    earlier: &[MarkedModule],
+    earlier: &NamedModules,
     before: u32,
 ) -> Result<MarkedModule, MarksFault>
     requires inside { at ≤ length input.now }
@@ -237,7 +237,7 @@ fn read_modules(
     ensures good { OnOk result (first_bad (modules_fields from [] count (drop from input.now)) ≡ None) }
     ensures bad { IfErr result (IsFault (modules_fields from [] count (drop from input.now))) }
 {
-    let mut modules = Vec::new(alloc);
+    let mut modules = NamedModules::new(alloc);
     let mut at = from;
     let mut before: u32 = 0;
     for _i in 0..count {
@@ -245,9 +245,9 @@ fn read_modules(
         let places = marked.places.len();
         at += 20 + 9 * places;
         before += places as u32;
-        modules.push(marked)?;
+        modules = modules.with(marked)?;
     }
-    Ok((modules, at))
+    Ok((modules.modules, at))
 }
 
 fn has_module_count(bytes: &[u8]) -> bool

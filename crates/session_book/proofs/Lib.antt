@@ -1,2 +1,3 @@
 pub mod ControlledLemmas
 pub mod PlanLemmas
+pub mod NameLemmas

@@ -1,5 +1,8 @@
 pub mod Begun
+pub mod JobInside
 pub mod JobView
 pub mod Meaning
+pub mod Names
+pub mod Results
 pub mod Sessions
 pub mod Sets

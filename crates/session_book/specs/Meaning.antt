@@ -1,10 +1,11 @@
 -- What the claim of the program says by this crate's clauses.
-use Rattle.std.specs.Prelude.{ℕ, Option, List, replicate, slice_set, ◌+◌, ◌-◌, Bool, ◌&&◌, nat_eq, if◌then◌else◌, Some, None, is_some, not, [], ◌∷◌, length, get_or, map}
+use Rattle.std.specs.Prelude.{ℕ, Option, option_map, position, List, replicate, slice_set, ◌+◌, ◌-◌, Bool, ◌&&◌, nat_eq, if◌then◌else◌, Some, None, is_some, not, [], ◌∷◌, length, get_or, map}
 use Rattle.cov_base.specs.Meaning.{ImageView, CpuView, State, Visit, FactSet}
 use Rattle.cov_base.specs.declared.constants.TheConstants.{RETURN_ADDRESS}
 use Rattle.module_area.specs.Meaning.{DataView, first_bytes, facts_of_all, PlanView, ControlledView}
 use Rattle.s370_state.specs.declared.endings.Ending.{Ending}
 use Rattle.std.specs.List.{list_any}
+use Rattle.std.specs.Str.{bytes_eq}
 use Rattle.cov_base.specs.declared.numbers.TaskNo.{TaskNo}
 use Rattle.cov_base.specs.declared.numbers.PlaceNo.{PlaceNo}
 use Rattle.module_area.specs.declared.places.Place.{Place}
@@ -135,3 +136,12 @@ traces_from n (t ∷ ts) phase trace = if nat_eq t.phase phase then trace n ∷ 
 -- they show at a place.
 abbrev pub session_set : JobView → (ℕ → List Visit) → ℕ → Place → FactSet
 session_set j trace s place = facts_of_all place (traces_from 0 j.tasks (session_of j s).phase trace)
+
+-- The task of a name.
+
+abbrev pub numbered : ℕ → TaskNo
+numbered n = record { 0 = n }
+
+-- the task of this name; the names of a job's tasks differ
+abbrev pub task_named : JobView → List ℕ → Option TaskNo
+task_named j name = option_map numbered (position (λ t. bytes_eq t.name name) j.tasks)

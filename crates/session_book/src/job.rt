@@ -1,11 +1,14 @@
 //! The job that the cards spell.
-ghost use Rattle.std.specs.Prelude.{◌≡◌, ◌<◌, ◌≤◌, length};
+ghost use Rattle.std.specs.Prelude.{◌≡◌, ◌<◌, ◌≤◌, IfOk, IfSome, length};
 ghost use Rattle.session_book.specs.JobView.{IsJob, IsSession, IsTask};
-ghost use Rattle.session_book.specs.Meaning.{session_of, task_of};
+ghost use Rattle.session_book.specs.Meaning.{session_of, task_of, task_named};
+ghost use Rattle.session_book.specs.Names.{names_of, session_named};
 
-use cov_base::{Addr, Name, SessNo};
+use crate::job_names::JobNames;
+use cov_base::{Addr, Name, NoMemory, SessNo, TaskNo};
 use listing_lines::ListingLines;
 use module_area::{DataCard, Images};
+use std::alloc::Global;
 use std::marker::Model;
 
 /// A session: its name, its phase and modules by index, and the controller's index among the job's tasks, none
@@ -50,9 +53,9 @@ impl Model for TaskCard {
     ghost view = { λ t. record { name = t.name; phase = t.phase; entry = t.entry; private = t.private; budget = t.budget; room = t.room; regs = t.regs; cards = t.cards.items; input = t.input.items } };
 }
 
-/// The whole job. For each module there is one entry of `listings`, none where it isn't monitored.
+/// What the cards of a job say. For each module there is one entry of `listings`, none where it isn't monitored.
 #[derive(Drop)]
-pub struct Job {
+pub struct JobCards {
     pub images: Images,
     pub listings: Vec<Option<ListingLines>>,
     pub phases: Vec<Name>,
@@ -60,18 +63,88 @@ pub struct Job {
     pub tasks: Vec<TaskCard>,
 }
 
-impl Model for Job {
+impl Model for JobCards {
     ghost use Rattle.session_book.specs.Meaning.{JobView};
-    ghost use Rattle.session_book.specs.JobView.{IsJob};
 
     ghost Value = { JobView };
 
     ghost view = { λ j. record { images = j.images; listings = j.listings.items; phases = j.phases.items; sessions = j.sessions.items; tasks = j.tasks.items } };
+}
 
-    ghost invariant = { λ j. IsJob (record { images = j.images; listings = j.listings.items; phases = j.phases.items; sessions = j.sessions.items; tasks = j.tasks.items }) };
+/// The whole job, as its cards say, with its names, by which sessions and tasks are found.
+#[derive(Drop)]
+pub struct Job {
+    pub images: Images,
+    pub listings: Vec<Option<ListingLines>>,
+    pub phases: Vec<Name>,
+    pub sessions: Vec<Session>,
+    pub tasks: Vec<TaskCard>,
+    names: JobNames,
+}
+
+impl Model for Job {
+    ghost use Rattle.session_book.specs.Meaning.{JobView};
+
+    ghost Value = { JobView };
+
+    ghost use Rattle.session_book.specs.JobInside.{job_view, IsSound};
+
+    ghost view = { job_view };
+
+    ghost invariant = { IsSound };
 }
 
 impl Job {
+    /// The job of these cards, which keep the rules.
+    pub fn new(alloc: Global, cards: JobCards) -> Result<Job, NoMemory>
+        requires { IsJob cards }
+        ensures { IfOk result (λ j. j ≡ cards) }
+    {
+        let names = JobNames::of(alloc, &cards)?;
+        Ok(Job::named(cards, names))
+    }
+
+    /// The job of these cards, which keep the rules, with its names.
+    pub fn named(cards: JobCards, names: JobNames) -> Job
+        requires job { IsJob cards }
+        requires names { names ≡ names_of cards }
+        ensures { result ≡ cards }
+    {
+        let JobCards {
+            images,
+            listings,
+            phases,
+            sessions,
+            tasks,
+        } = cards;
+        Job {
+            images,
+            listings,
+            phases,
+            sessions,
+            tasks,
+            names,
+        }
+    }
+
+    /// The number of the session of the name; none exactly where no session has it.
+    pub fn session_named(&self, name: &Name) -> Option<SessNo>
+        ensures value { result ≡ session_named self.now name.now }
+        ensures from { IfSome result (λ s. 0 < s.0) }
+        ensures to { IfSome result (λ s. s.0 ≤ length self.now.sessions) }
+    {
+        let at = self.names.sessions.index_of(name)?;
+        Some(SessNo(at as u32 + 1))
+    }
+
+    /// The number of the task of the name; none exactly where no task has it.
+    pub fn task_named(&self, name: &Name) -> Option<TaskNo>
+        ensures { result ≡ task_named self.now name.now }
+    {
+        let at = self.names.tasks.index_of(name)?;
+        Some(TaskNo(at as u32))
+    }
+
     /// The number of its modules, at most 16.
     pub fn module_count(&self) -> u32
         ensures value { result ≡ length self.now.images }

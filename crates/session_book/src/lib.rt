@@ -3,10 +3,12 @@
 
 mod beginning;
 mod job;
+mod job_names;
 mod plans;
 mod results;
 
 pub use beginning::{Begun, begin};
-pub use job::{Job, Session, TaskCard};
+pub use job::{Job, JobCards, Session, TaskCard};
+pub use job_names::JobNames;
 pub use plans::plan_of;
 pub use results::{FactCounts, FactSets, Results};

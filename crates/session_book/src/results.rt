@@ -1,8 +1,9 @@
 //! What a report is made of: the tasks' results, and the sessions' sets.
-ghost use Rattle.std.specs.Prelude.{◌≡◌, ℕ, ◌+◌, ◌*◌, ◌<◌, length, slice_range, min};
+ghost use Rattle.std.specs.Prelude.{◌≡◌, ℕ, ◌+◌, ◌*◌, ◌<◌, length};
 ghost use Rattle.cov_base.specs.Meaning.{FactSet};
 ghost use Rattle.cov_base.specs.declared.facts.Fact.{Fact};
 ghost use Rattle.session_book.specs.Meaning.{ResultView};
+ghost use Rattle.session_book.specs.Results.{storage_row};
 
 use cov_base::{Bits, Fact, PlaceNo, SessNo, TaskNo};
 use s370_state::{Cpu, Ending};
@@ -39,7 +40,7 @@ pub trait Results {
     fn row(&self, t: TaskNo, n: u32) -> &[u8]
         requires task { t.0 < tasks self.now }
         requires exists { 16 * n < length (result_of self.now t.0).bytes }
-        ensures { result.now ≡ slice_range (result_of self.now t.0).bytes (16 * n) (min (16 * n + 16) (length (result_of self.now t.0).bytes)) };
+        ensures { result.now ≡ storage_row (result_of self.now t.0).bytes n };
 }
 
 /// The sets of a job's sessions at the places of its tables. The call needs existing numbers.

@@ -9,7 +9,7 @@ use brk_table::{LinePlaces, Table, Tables};
 use cov_base::{Addr, Kind, Name};
 use listing_lines::ListingLines;
 use module_area::{Image, Images, Place};
-use session_book::{Job, Session};
+use session_book::{Job, JobCards, Session};
 use std::alloc::Global;
 use std::test::Fail;
 
@@ -46,7 +46,7 @@ pub(crate) fn job(alloc: Global) -> Result<Job, Fail>
         modules: vec![in alloc; 2, 1, 0]?,
         by: None,
     };
-    Ok(Job {
+    let cards = JobCards {
         images: images(alloc)?,
         listings: vec![in alloc;
             Some(ListingLines::new(alloc)),
@@ -56,7 +56,8 @@ pub(crate) fn job(alloc: Global) -> Result<Job, Fail>
         phases: vec![in alloc; Name::read(b"P").ok_or("name")?]?,
         sessions: vec![in alloc; session]?,
         tasks: Vec::new(alloc),
-    })
+    };
+    Ok(Job::new(alloc, cards)?)
 }
 
 fn place(module: u32, at: u32, len: u8, kind: Kind, original: u16) -> Place

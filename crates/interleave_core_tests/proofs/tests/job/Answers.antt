@@ -3,8 +3,8 @@ use Rattle.std.proofs.lemmas.List.Elements.{All-cons, All-nil}
 use Rattle.session_book.specs.JobView.{IsTask}
 use Rattle.interleave_core_tests.proofs.tests.job.Goals as goal
 
-pub invariant_of-result : goal.invariant_of-result
-invariant_of-result c = record {
+pub new-requires : goal.new-requires
+new-requires c = record {
   listings = search rules;
   images = search rules;
   sizes = search rules;

@@ -11,10 +11,25 @@ use Rattle.job_text.proofs.LineLemmas.{open_line}
 use Rattle.job_text.proofs.Readings.{taken_few, nothing_left, last_taken, Refuted, last_refuted}
 use Rattle.job_text.proofs.pieces.Pieces.finish.Goals as goal
 
+pub returns-then-is_empty-clause-job : goal.returns-then-is_empty-clause-job
+returns-then-is_empty-clause-job c =
+    let none : c.args.self.cut.items ≡ [] = nil_from_length c.args.self.cut.items (grind (arith, nat_tests, c.args.self.cut.ok, c.is_empty.ensures, c.if-is_empty.true)) in
+    λ bytes h. c.finish.ensures.job bytes (nothing_left bytes c.args.self none h)
+
+pub returns-then-is_empty-clause-whole : goal.returns-then-is_empty-clause-whole
+returns-then-is_empty-clause-whole c =
+    let none : c.args.self.cut.items ≡ [] = nil_from_length c.args.self.cut.items (grind (arith, nat_tests, c.args.self.cut.ok, c.is_empty.ensures, c.if-is_empty.true)) in
+    λ bytes h. c.finish.ensures.whole bytes (nothing_left bytes c.args.self none h)
+
 pub returns-then-is_empty-clause-only : goal.returns-then-is_empty-clause-only
 returns-then-is_empty-clause-only c =
     let none : c.args.self.cut.items ≡ [] = nil_from_length c.args.self.cut.items (grind (arith, nat_tests, c.args.self.cut.ok, c.is_empty.ensures, c.if-is_empty.true)) in
     λ bytes h. c.finish.ensures.only bytes (nothing_left bytes c.args.self none h)
+
+pub returns-then-is_empty-clause-fault : goal.returns-then-is_empty-clause-fault
+returns-then-is_empty-clause-fault c =
+    let none : c.args.self.cut.items ≡ [] = nil_from_length c.args.self.cut.items (grind (arith, nat_tests, c.args.self.cut.ok, c.is_empty.ensures, c.if-is_empty.true)) in
+    λ bytes h. c.finish.ensures.fault bytes (nothing_left bytes c.args.self none h)
 
 pub line-requires-clause-few : goal.line-requires-clause-few
 line-requires-clause-few c = omega (arith, taken_few c.requires.taken.0 c.args.self c.requires.taken.1, c.requires.room)

@@ -1,0 +1,6 @@
+-- What the tasks of a job have come to.
+use Rattle.std.specs.Prelude.{ℕ, ◌+◌, ◌*◌, List, length, slice_range, min}
+
+-- row n of private storage: 16 bytes, or in the last row fewer
+abbrev pub storage_row : List ℕ → ℕ → List ℕ
+storage_row bytes n = slice_range bytes (16 * n) (min (16 * n + 16) (length bytes))
