@@ -19,7 +19,7 @@ pub struct ExitRunner;
 impl<C: Cells> Runner<C> for ExitRunner {
     type Extra = Exit;
 
-    ghost course = { with_exits };
+    ghost course = { λ r. with_exits };
 
     ghost begins = { λ plan t extra notes. extra.at ≡ None };
 

@@ -56,7 +56,7 @@ fn answer_tables<
 ) -> Status
     requires ready { IsReadyJob job.now tables.now }
     requires room { A.made areas.old < 2 ^ 61 }
-    ensures { ReportedJob A.Areas K.Sink R.course job.now areas.old areas.new sink.old sink.new result.0 }
+    ensures { ReportedJob A.Areas K.Sink (R.course runner.now) job.now areas.old areas.new sink.old sink.new result.0 }
 {
     let (outcome, _) = match run_job_with(rt, alloc, areas, gate, runner, job, tables) {
         Ok(ran) => ran,
@@ -83,7 +83,7 @@ fn answer_run<
     gate: &G,
 ) -> Status
     requires { A.made areas.old < 2 ^ 61 }
-    ensures { Reported S.Source A.Areas K.Sink R.course source.old source.new areas.old areas.new sink.old sink.new result.0 }
+    ensures { Reported S.Source A.Areas K.Sink (R.course runner.now) source.old source.new areas.old areas.new sink.old sink.new result.0 }
 {
     match make_ready(alloc, source, false) {
         Ok(read) => answer_tables(

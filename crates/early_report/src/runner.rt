@@ -280,7 +280,7 @@ impl<C: Drains> Runner<C> for EarlyRunner {
     /// A drain for each session that the task controls, in order.
     type Extra = Vec<Drain>;
 
-    ghost course = { solo };
+    ghost course = { λ r. solo };
 
     ghost begins = { λ plan t extra notes. (extra.items ≡ first_drains plan t) × (own_number notes ≡ 0) };
 

@@ -38,15 +38,15 @@ impl<'a, C: Forks<Pass: Send>, R: Runner<C>> Crew for AreaCrew<'a, C, R> {
 
     ghost IsFit = { λ c. IsAreaOf (C.plan c.cells.now) c.plan.now c.job.now c.tables.now c.phase };
 
-    ghost IsRoot = { λ c. HasJoined (C.is_pass c.cells.now) C.notes c.plan.now R.course c.job.now c.tables.now.places };
+    ghost IsRoot = { λ c. HasJoined (C.is_pass c.cells.now) C.notes c.plan.now (R.course c.runner.now) c.job.now c.tables.now.places };
 
     ghost IsFresh = { λ c. IsFresh (C.is_pass c.cells.now) C.notes c.plan.now };
 
     ghost CanRun = { λ c. HasStart R.begins c.plan.now c.job.now c.tables.now.places };
 
-    ghost HasRun = { λ c. HasSeen (C.is_pass c.cells.now) C.notes c.plan.now R.course c.job.now c.tables.now.places };
+    ghost HasRun = { λ c. HasSeen (C.is_pass c.cells.now) C.notes c.plan.now (R.course c.runner.now) c.job.now c.tables.now.places };
 
-    ghost Ends = { λ c. EndsTask R.course R.ends C.notes c.plan.now c.job.now c.tables.now.places };
+    ghost Ends = { λ c. EndsTask (R.course c.runner.now) R.ends C.notes c.plan.now c.job.now c.tables.now.places };
 
     ghost Knows = { λ c root pass. KnowsFinal (C.notes root) (C.notes pass) };
 
@@ -89,9 +89,9 @@ pub fn equip_all<'a, C: Cells, R: Runner<C>>(
     slots: &mut [Slot<'a, C::Pass, R::Extra>],
 ) -> Result<(), NoMemory>
     requires plan { plan.now ≡ plan_view job.now tables.now.places phase }
-    requires tasks { AreRun R.course job.now tables.now.places phase slots.old }
+    requires tasks { AreRun (R.course runner.now) job.now tables.now.places phase slots.old }
     requires empty { AreEmpty slots.old }
-    ensures tasks { IfOk result (λ _. AreRun R.course job.now tables.now.places phase slots.new) }
+    ensures tasks { IfOk result (λ _. AreRun (R.course runner.now) job.now tables.now.places phase slots.new) }
     ensures ready { IfOk result (λ _. AreEquipped R.begins plan.now job.now tables.now.places phase slots.new) }
     ensures others { IfOk result (λ _. KeepsOthers job.now phase slots.old slots.new) }
 {

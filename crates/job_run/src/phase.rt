@@ -40,12 +40,12 @@ fn run_phase<'a, T: Threads + Sync, A: Areas, G: Gate + Sync, R: Runner<A::C> + 
     requires room { A.made areas.old < 2 ^ 62 }
     requires job { IsJob job.now }
     requires phase { phase < length job.now.phases }
-    requires tasks { AreRun R.course job.now tables.now.places phase slots.old }
+    requires tasks { AreRun (R.course runner.now) job.now tables.now.places phase slots.old }
     requires codes { AreCodes job.now.images tables.now }
     requires empty { AreEmpty slots.old }
     ensures made { IfOk result (λ _. A.made areas.new ≡ A.made areas.old + 1) }
-    ensures grown { IfOk result (λ f. Grows R.course job.now tables.now phase A.ledger A.finals areas.old areas.new f) }
-    ensures tasks { IfOk result (λ _. AreRun R.course job.now tables.now.places (phase + 1) slots.new) }
+    ensures grown { IfOk result (λ f. Grows (R.course runner.now) job.now tables.now phase A.ledger A.finals areas.old areas.new f) }
+    ensures tasks { IfOk result (λ _. AreRun (R.course runner.now) job.now tables.now.places (phase + 1) slots.new) }
     ensures extras { IfOk result (λ f. HaveExtras R.ends job.now tables.now.places phase (set_at f) slots.new) }
     ensures others { IfOk result (λ _. KeepsOthers job.now phase slots.old slots.new) }
     ensures empty { IfOk result (λ _. AreEmpty slots.new) }
@@ -82,12 +82,12 @@ fn run_phases<'a, T: Threads + Sync, A: Areas, G: Gate + Sync, R: Runner<A::C> +
     slots: &mut [Slot<'a, <A::C as Cells>::Pass, R::Extra>],
 ) -> Result<Vec<Finals>, NoMemory>
     requires room { A.made areas.old < 2 ^ 61 }
-    requires tasks { AreRun R.course job.now tables.now.places 0 slots.old }
+    requires tasks { AreRun (R.course runner.now) job.now tables.now.places 0 slots.old }
     requires codes { AreCodes job.now.images tables.now }
     requires empty { AreEmpty slots.old }
     ensures job { IsJob job.now }
-    ensures left { IfOk result (λ v. GrowsTo R.course job.now tables.now A.ledger A.finals A.made areas.old areas.new v.items) }
-    ensures tasks { IfOk result (λ _. AreRun R.course job.now tables.now.places (length job.now.phases) slots.new) }
+    ensures left { IfOk result (λ v. GrowsTo (R.course runner.now) job.now tables.now A.ledger A.finals A.made areas.old areas.new v.items) }
+    ensures tasks { IfOk result (λ _. AreRun (R.course runner.now) job.now tables.now.places (length job.now.phases) slots.new) }
     ensures extras { IfOk result (λ v. HaveAllExtras R.ends job.now tables.now.places (length job.now.phases) v.items slots.new) }
 {
     let count = job.phase_count();
@@ -117,8 +117,8 @@ pub fn run_job_with<'a, T: Threads + Wait + Sync, A: Areas, G: Gate + Sync, R: R
 ) -> Result<(Outcome<'a>, Vec<R::Extra>), NoMemory>
     requires tables { AreCodes job.now.images tables.now }
     requires room { A.made areas.old < 2 ^ 61 }
-    ensures left { IfOk result (λ r. GrowsTo R.course job.now tables.now A.ledger A.finals A.made areas.old areas.new r.0.sets.finals) }
-    ensures outcome { IfOk result (λ r. IsOutcomeBy R.course job.now tables.now.places r.0.tasks.items r.0.sets) }
+    ensures left { IfOk result (λ r. GrowsTo (R.course runner.now) job.now tables.now A.ledger A.finals A.made areas.old areas.new r.0.sets.finals) }
+    ensures outcome { IfOk result (λ r. IsOutcomeBy (R.course runner.now) job.now tables.now.places r.0.tasks.items r.0.sets) }
     ensures extras { IfOk result (λ r. AreExtras R.ends job.now tables.now.places r.0.tasks.items r.0.sets r.1.items) }
 {
     let tasks = Vec::with_capacity(alloc, job.task_count())?;

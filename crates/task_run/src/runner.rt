@@ -27,7 +27,7 @@ pub trait Runner<C: Cells> {
     type Extra: Send + Drop;
 
     /// The course that a task takes, as it would alone.
-    ghost course: { Course };
+    ghost course: { Self → Course };
 
     /// The extra is one with which the task of this number may begin, with a pass of these notes.
     ghost begins: { PlanView → ℕ → Self.Extra → Notes → Type 0 };
@@ -60,7 +60,7 @@ pub trait Runner<C: Cells> {
         requires first { (task.old.bench.control.next ≡ 0) × (task.old.bench.control.opened ≡ None) }
         requires begins { begins plan.now (bearer (C.notes pass.old)) extra.old (C.notes pass.old) }
         ensures area { C.is_pass cells.now pass.new }
-        ensures ran { RanAs course (C.plan cells.now) (C.notes pass.old) (C.notes pass.new) task.old task.new result }
+        ensures ran { RanAs (course self.now) (C.plan cells.now) (C.notes pass.old) (C.notes pass.new) task.old task.new result }
         ensures ends { OnceSettled (C.plan cells.now) (C.notes pass.new) (ends plan.now task.old task.new extra.new) };
 }
 
@@ -75,7 +75,7 @@ pub struct PlainRunner;
 impl<C: Cells> Runner<C> for PlainRunner {
     type Extra = NoExtra;
 
-    ghost course = { solo };
+    ghost course = { λ r. solo };
 
     ghost begins = { λ plan t extra notes. Unit {0} };
 

@@ -2,7 +2,9 @@
 #![tactic(auto)]
 
 mod run;
+mod runner;
 mod services;
 
 pub use run::run_under;
+pub use runner::ServiceRunner;
 pub use services::{SERVICE_RETURN, Service, Services};

@@ -22,7 +22,7 @@ struct Wanting;
 impl<C: Cells> Runner<C> for Wanting {
     type Extra = NoExtra;
 
-    ghost course = { solo };
+    ghost course = { λ r. solo };
 
     ghost begins = { λ plan t extra notes. Unit {0} };
 

@@ -11,4 +11,4 @@ returns-in-Err g c d reporting =
     let a = areas_change g.A.Areas.ledger g.A.Areas.finals g.A.Areas.made c.args.areas.now c.args.areas.now in
     let k = sink_change g.K.Sink.written g.K.Sink.faults c.args.sink.now c.told.new.sink in
     let told : IsWritten r.status r.line k c.told.result.0 = search rules in
-    stopped_run d g.R.Runner.course s a.before k c.told.result.0 r reporting c.in-Err.ensures.stopped told
+    stopped_run d (g.R.Runner.course c.args.runner.now) s a.before k c.told.result.0 r reporting c.in-Err.ensures.stopped told

@@ -31,7 +31,7 @@ loop-t-preserved g c =
           let none : Slot _ _ = w.index-slots-t.result in
           let as_before : get_or c.loop-t.slots t none ≡ get_or c.args.slots.now t none = i.left t none (omega arith) here in
           let was : HasNotRun c.args.job.now c.args.tables.now.places t (get_or c.loop-t.slots t none).done =
-          subst (λ (s : Slot _ _). HasNotRun c.args.job.now c.args.tables.now.places t s.done) (sym as_before) (begun_in g.R.Runner.course c.args.job.now c.args.tables.now.places c.args.phase t c.args.slots.now none c.requires.tasks here of) in
+          subst (λ (s : Slot _ _). HasNotRun c.args.job.now c.args.tables.now.places t s.done) (sym as_before) (begun_in (g.R.Runner.course c.args.runner.now) c.args.job.now c.args.tables.now.places c.args.phase t c.args.slots.now none c.requires.tasks here of) in
           let start : HasStart g.R.Runner.begins c.args.plan.now c.args.job.now c.args.tables.now.places t w.equip.new.slot.done w.equip.new.slot.extra = record {
             task = record {
               begun = w.equip.ensures.begun c.args.job.now c.args.tables.now.places t was;
@@ -54,15 +54,15 @@ loop-t-preserved g c =
 
 pub returns-clause-tasks : goal.returns-clause-tasks
 returns-clause-tasks g c =
-    still_run g.R.Runner.course g.R.Runner.begins c.args.plan.now c.args.job.now c.args.tables.now.places c.args.phase c.args.slots.now c.loop-t.slots c.loop-t.t
+    still_run (g.R.Runner.course c.args.runner.now) g.R.Runner.begins c.args.plan.now c.args.job.now c.args.tables.now.places c.args.phase c.args.slots.now c.loop-t.slots c.loop-t.t
     (omega (arith, c.loop-t-test.false, c.task_count-count.ensures.value, c.requires.tasks.count)) c.loop-t.invariant c.requires.tasks
 
 pub returns-clause-ready : goal.returns-clause-ready
 returns-clause-ready g c =
-    all_ready g.R.Runner.course g.R.Runner.begins c.args.plan.now c.args.job.now c.args.tables.now.places c.args.phase c.args.slots.now c.loop-t.slots c.loop-t.t
+    all_ready (g.R.Runner.course c.args.runner.now) g.R.Runner.begins c.args.plan.now c.args.job.now c.args.tables.now.places c.args.phase c.args.slots.now c.loop-t.slots c.loop-t.t
     (omega (arith, c.loop-t-test.false, c.task_count-count.ensures.value, c.requires.tasks.count)) c.loop-t.invariant c.requires.tasks.count c.requires.empty
 
 pub returns-clause-others : goal.returns-clause-others
 returns-clause-others g c =
-    others_kept g.R.Runner.course g.R.Runner.begins c.args.plan.now c.args.job.now c.args.tables.now.places c.args.phase c.args.slots.now c.loop-t.slots c.loop-t.t
+    others_kept (g.R.Runner.course c.args.runner.now) g.R.Runner.begins c.args.plan.now c.args.job.now c.args.tables.now.places c.args.phase c.args.slots.now c.loop-t.slots c.loop-t.t
     (omega (arith, c.loop-t-test.false, c.task_count-count.ensures.value, c.requires.tasks.count)) c.loop-t.invariant

@@ -13,7 +13,7 @@ make_slots-requires g c = are_in c.args.job.now.images c.args.tables.now c.requi
 
 pub run_phases-requires-clause-tasks : goal.run_phases-requires-clause-tasks
 run_phases-requires-clause-tasks g c κs within =
-    AreRun-start g.R.Runner.course c.args.job.now c.args.tables.now.places c.deref_mut.result.now
+    AreRun-start (g.R.Runner.course c.args.runner.now) c.args.job.now c.args.tables.now.places c.deref_mut.result.now
     (subst (λ (ss : List (Slot _ _)). AreNew c.args.job.now c.args.tables.now.places ss) (sym c.deref_mut.ensures.value) c.in_ok-slots.ensures.tasks)
 
 pub parts_of-tasks-requires-clause-some : goal.parts_of-tasks-requires-clause-some
@@ -23,17 +23,17 @@ parts_of-tasks-requires-clause-some g c =
     let whole : take c.in_ok-slots.slots.len (new ++ drop (length new) old) ≡ new =
     written old new c.in_ok-slots.slots.len (c.run_phases.auto.slots ∙ ap (λ (ss : List (Slot _ _)). length ss) c.deref_mut.ensures.value) (sym c.in_ok-slots.slots.ok.0) in
     subst (λ (ss : List (Slot _ _)). All (λ s. IsSome s.extra) ss) (sym whole)
-    (has_some g.R.Runner.course g.R.Runner.ends c.args.job.now c.args.tables.now.places c.in_ok-finals.finals.items new c.run_phases.ensures.job c.in_ok-finals.ensures.tasks c.in_ok-finals.ensures.extras)
+    (has_some (g.R.Runner.course c.args.runner.now) g.R.Runner.ends c.args.job.now c.args.tables.now.places c.in_ok-finals.finals.items new c.run_phases.ensures.job c.in_ok-finals.ensures.tasks c.in_ok-finals.ensures.extras)
 
 pub new-sets-requires-clause-count : goal.new-sets-requires-clause-count
-new-sets-requires-clause-count g c = left_count g.R.Runner.course c.args.job.now c.args.tables.now.places _ _ c.in_ok-finals.finals.items c.in_ok-finals.ensures.left
+new-sets-requires-clause-count g c = left_count (g.R.Runner.course c.args.runner.now) c.args.job.now c.args.tables.now.places _ _ c.in_ok-finals.finals.items c.in_ok-finals.ensures.left
 
 pub new-sets-requires-clause-sizes : goal.new-sets-requires-clause-sizes
-new-sets-requires-clause-sizes g c = all_sized g.R.Runner.course c.args.job.now c.args.tables.now.places _ _ c.in_ok-finals.finals.items c.in_ok-finals.ensures.left
+new-sets-requires-clause-sizes g c = all_sized (g.R.Runner.course c.args.runner.now) c.args.job.now c.args.tables.now.places _ _ c.in_ok-finals.finals.items c.in_ok-finals.ensures.left
 
 pub returns-clause-left : goal.returns-clause-left
 returns-clause-left g c =
-    left_of g.R.Runner.course c.args.job.now c.args.tables.now.places _ _ c.in_ok-finals.finals.items c.new-sets.result c.in_ok-finals.ensures.left c.new-sets.ensures
+    left_of (g.R.Runner.course c.args.runner.now) c.args.job.now c.args.tables.now.places _ _ c.in_ok-finals.finals.items c.new-sets.result c.in_ok-finals.ensures.left c.new-sets.ensures
 
 pub returns-clause-outcome : goal.returns-clause-outcome
 returns-clause-outcome g c =
@@ -41,7 +41,7 @@ returns-clause-outcome g c =
     let new : List (Slot _ _) = c.run_phases.new.slots in
     let whole : take c.in_ok-slots.slots.len (new ++ drop (length new) old) ≡ new =
     written old new c.in_ok-slots.slots.len (c.run_phases.auto.slots ∙ ap (λ (ss : List (Slot _ _)). length ss) c.deref_mut.ensures.value) (sym c.in_ok-slots.slots.ok.0) in
-    outcome g.R.Runner.course c.args.job.now c.args.tables.now.places _ _ new c.parts_of-tasks.result.0.items c.in_ok-finals.finals.items c.new-sets.result c.run_phases.ensures.job c.in_ok-finals.ensures.left
+    outcome (g.R.Runner.course c.args.runner.now) c.args.job.now c.args.tables.now.places _ _ new c.parts_of-tasks.result.0.items c.in_ok-finals.finals.items c.new-sets.result c.run_phases.ensures.job c.in_ok-finals.ensures.left
     c.in_ok-finals.ensures.tasks (c.parts_of-tasks.ensures.tasks ∙ ap (λ (ss : List (Slot _ _)). dones ss) whole) c.new-sets.ensures
 
 pub returns-clause-extras : goal.returns-clause-extras
@@ -50,5 +50,5 @@ returns-clause-extras g c =
     let new : List (Slot _ _) = c.run_phases.new.slots in
     let whole : take c.in_ok-slots.slots.len (new ++ drop (length new) old) ≡ new =
     written old new c.in_ok-slots.slots.len (c.run_phases.auto.slots ∙ ap (λ (ss : List (Slot _ _)). length ss) c.deref_mut.ensures.value) (sym c.in_ok-slots.slots.ok.0) in
-    are_extras g.R.Runner.course g.R.Runner.ends c.args.job.now c.args.tables.now.places new c.parts_of-tasks.result.0.items c.parts_of-tasks.result.1.items c.in_ok-finals.finals.items c.new-sets.result c.run_phases.ensures.job
+    are_extras (g.R.Runner.course c.args.runner.now) g.R.Runner.ends c.args.job.now c.args.tables.now.places new c.parts_of-tasks.result.0.items c.parts_of-tasks.result.1.items c.in_ok-finals.finals.items c.new-sets.result c.run_phases.ensures.job
     c.in_ok-finals.ensures.tasks c.in_ok-finals.ensures.extras (c.parts_of-tasks.ensures.tasks ∙ ap (λ (ss : List (Slot _ _)). dones ss) whole) (c.parts_of-tasks.ensures.extras ∙ ap (λ (ss : List (Slot _ _)). extras_of ss) whole) c.new-sets.ensures

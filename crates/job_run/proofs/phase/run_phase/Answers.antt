@@ -27,7 +27,7 @@ run_crew-requires-clause-fit g c κs within = record {
 
 pub run_crew-requires-clause-root : goal.run_crew-requires-clause-root
 run_crew-requires-clause-root g c κs within =
-    joins-start (g.A.C.Cells.is_pass c.in_ok-cells.cells) g.A.C.Cells.notes c.in_ok-plan.plan g.R.Runner.course c.args.job.now c.args.tables.now.places c.plant_all.new.pass c.plant_all.ensures.area
+    joins-start (g.A.C.Cells.is_pass c.in_ok-cells.cells) g.A.C.Cells.notes c.in_ok-plan.plan (g.R.Runner.course c.args.runner.now) c.args.job.now c.args.tables.now.places c.plant_all.new.pass c.plant_all.ensures.area
     (c.plant_all.ensures.notes ∙ ap (λ (n : Notes). planted_notes c.in_ok-plan.plan n (length c.in_ok-plan.plan.windows)) c.in_ok-cells.ensures.root)
     (omega (arith, c.plant_all.ensures.calls, ap (λ (n : Notes). calls n) c.in_ok-cells.ensures.root))
 
@@ -41,10 +41,10 @@ finish-requires-clause-joined g c t = c.run_crew.ensures.root.out t ∙ none_out
 pub returns-clause-grown : goal.returns-clause-grown
 returns-clause-grown g c =
     let is : IsPlan c.in_ok-plan.plan = subst IsPlan c.plan.view_is c.plan.invariant in
-    let walks : ℕ → Walk = walk_by g.R.Runner.course c.args.job.now c.args.tables.now.places in
-    let trace : List Visit = phase_trace g.R.Runner.course c.args.job.now c.args.tables.now.places c.args.phase in
+    let walks : ℕ → Walk = walk_by (g.R.Runner.course c.args.runner.now) c.args.job.now c.args.tables.now.places in
+    let trace : List Visit = phase_trace (g.R.Runner.course c.args.runner.now) c.args.job.now c.args.tables.now.places c.args.phase in
     let root : Notes = g.A.C.Cells.notes c.run_crew.new.root in
-    let observes = subst (λ (vs : List Visit). JoinsAll c.in_ok-plan.plan (after_planting c.in_ok-plan.plan) root vs) (all_visits g.R.Runner.course c.args.job.now c.args.tables.now.places c.args.phase) c.run_crew.ensures.root.observes in
+    let observes = subst (λ (vs : List Visit). JoinsAll c.in_ok-plan.plan (after_planting c.in_ok-plan.plan) root vs) (all_visits (g.R.Runner.course c.args.runner.now) c.args.job.now c.args.tables.now.places c.args.phase) c.run_crew.ensures.root.observes in
     let joins = subst (λ (ts : List TaskNo). JoinsTasks c.in_ok-plan.plan walks ts (after_planting c.in_ok-plan.plan) root) (sym (ap (λ (p : PlanView). p.tasks) c.in_ok-plan.ensures)) c.run_crew.ensures.root.joins in
     let grown = grows_if c.in_ok-plan.plan _ walks root trace c.finish.result _ _ (g.A.Areas.ledger c.finish.new.self) _ _ (g.A.Areas.finals c.finish.new.self) is
     c.in_ok-cells.ensures.plan observes joins c.finish.ensures.sets c.finish.ensures.tally
@@ -54,12 +54,12 @@ returns-clause-grown g c =
 
 pub returns-clause-tasks : goal.returns-clause-tasks
 returns-clause-tasks g c =
-    whatever c.finish.result (have_run _ _ c.args.job.now c.args.phase c.equip_all.new.slots c.run_crew.new.slots c.run_crew.ensures.back g.R.Runner.course c.args.tables.now.places (λ t d e x p ends. ends.ended) c.in_ok-equip_all.ensures.tasks)
+    whatever c.finish.result (have_run _ _ c.args.job.now c.args.phase c.equip_all.new.slots c.run_crew.new.slots c.run_crew.ensures.back (g.R.Runner.course c.args.runner.now) c.args.tables.now.places (λ t d e x p ends. ends.ended) c.in_ok-equip_all.ensures.tasks)
 
 pub returns-clause-extras : goal.returns-clause-extras
 returns-clause-extras g c =
     by_sets c.in_ok-plan.plan _ (g.A.C.Cells.notes c.run_crew.new.root) (λ sets. HaveExtras g.R.Runner.ends c.args.job.now c.args.tables.now.places c.args.phase sets c.run_crew.new.slots) c.finish.result c.in_ok-cells.ensures.plan c.finish.ensures.settled
-    (have_extras g.R.Runner.course g.R.Runner.begins g.R.Runner.ends g.A.C.Cells.notes (g.A.C.Cells.notes c.run_crew.new.root) c.in_ok-plan.plan c.args.job.now c.args.tables.now.places c.args.phase
+    (have_extras (g.R.Runner.course c.args.runner.now) g.R.Runner.begins g.R.Runner.ends g.A.C.Cells.notes (g.A.C.Cells.notes c.run_crew.new.root) c.in_ok-plan.plan c.args.job.now c.args.tables.now.places c.args.phase
     c.equip_all.new.slots c.run_crew.new.slots c.in_ok-plan.ensures c.in_ok-equip_all.ensures.ready c.run_crew.ensures.back)
 
 pub returns-clause-others : goal.returns-clause-others

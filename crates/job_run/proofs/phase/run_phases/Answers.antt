@@ -10,7 +10,7 @@ pub loop-phase-preserved : goal.loop-phase-preserved
 loop-phase-preserved g c =
     let phase : ℕ = c.loop-phase.phase in
     let here : phase < length c.args.job.now.phases = omega (arith, c.loop-phase-test.true, c.phase_count-count.ensures.value) in
-    let next = HasRunTo-next g.R.Runner.course c.args.job.now c.args.tables.now.places phase c.loop-phase.finals.items c.in_ok-ended.ended _ (g.A.Areas.ledger c.loop-phase.areas) (g.A.Areas.ledger c.run_phase.new.areas)
+    let next = HasRunTo-next (g.R.Runner.course c.args.runner.now) c.args.job.now c.args.tables.now.places phase c.loop-phase.finals.items c.in_ok-ended.ended _ (g.A.Areas.ledger c.loop-phase.areas) (g.A.Areas.ledger c.run_phase.new.areas)
     _ (g.A.Areas.finals c.loop-phase.areas) (g.A.Areas.finals c.run_phase.new.areas) here c.loop-phase.invariant.areas c.in_ok-ended.ensures.grown in
     record {
       tasks = c.in_ok-ended.ensures.tasks;
@@ -20,19 +20,19 @@ loop-phase-preserved g c =
       count = ap (λ (fs : List FinalsView). length fs) c.in_ok-push.ensures.items ∙ (length-append c.loop-phase.finals.items (c.in_ok-ended.ended ∷ []) ∙ ap (λ (n : ℕ). n + 1) c.loop-phase.invariant.count);
       empty = c.in_ok-ended.ensures.empty;
       made = omega (arith, c.in_ok-ended.ensures.made, c.loop-phase.invariant.made);
-      areas = subst (λ (fs : List FinalsView). HasRunTo g.R.Runner.course c.args.job.now c.args.tables.now.places (phase + 1) fs (g.A.Areas.ledger c.args.areas.now) (g.A.Areas.ledger c.run_phase.new.areas)
+      areas = subst (λ (fs : List FinalsView). HasRunTo (g.R.Runner.course c.args.runner.now) c.args.job.now c.args.tables.now.places (phase + 1) fs (g.A.Areas.ledger c.args.areas.now) (g.A.Areas.ledger c.run_phase.new.areas)
           (g.A.Areas.finals c.args.areas.now) (g.A.Areas.finals c.run_phase.new.areas)) (sym c.in_ok-push.ensures.items) next;
     }
 
 pub returns-clause-left : goal.returns-clause-left
 returns-clause-left g c =
     let all : length c.args.job.now.phases ≡ c.loop-phase.phase = omega (arith, c.loop-phase-test.false, c.loop-phase.auto.phase-end, c.phase_count-count.ensures.value) in
-    HasRunTo-all g.R.Runner.course c.args.job.now c.args.tables.now.places c.loop-phase.phase c.loop-phase.finals.items _ _ all c.loop-phase.invariant.areas c.loop-phase.invariant.made
+    HasRunTo-all (g.R.Runner.course c.args.runner.now) c.args.job.now c.args.tables.now.places c.loop-phase.phase c.loop-phase.finals.items _ _ all c.loop-phase.invariant.areas c.loop-phase.invariant.made
 
 pub returns-clause-tasks : goal.returns-clause-tasks
 returns-clause-tasks g c =
     let all : length c.args.job.now.phases ≡ c.loop-phase.phase = omega (arith, c.loop-phase-test.false, c.loop-phase.auto.phase-end, c.phase_count-count.ensures.value) in
-    subst (λ (n : ℕ). AreRun g.R.Runner.course c.args.job.now c.args.tables.now.places n c.loop-phase.slots) (sym all) c.loop-phase.invariant.tasks
+    subst (λ (n : ℕ). AreRun (g.R.Runner.course c.args.runner.now) c.args.job.now c.args.tables.now.places n c.loop-phase.slots) (sym all) c.loop-phase.invariant.tasks
 
 pub returns-clause-extras : goal.returns-clause-extras
 returns-clause-extras g c =
@@ -46,5 +46,5 @@ loop-phase-init g c = record {
   count = ap (λ (fs : List FinalsView). length fs) c.in_ok-finals.ensures.items;
   empty = c.requires.empty;
   made = omega arith;
-  areas = rw c.in_ok-finals.ensures.items (HasRunTo-start g.R.Runner.course c.args.job.now c.args.tables.now.places (g.A.Areas.ledger c.args.areas.now) (g.A.Areas.finals c.args.areas.now));
+  areas = rw c.in_ok-finals.ensures.items (HasRunTo-start (g.R.Runner.course c.args.runner.now) c.args.job.now c.args.tables.now.places (g.A.Areas.ledger c.args.areas.now) (g.A.Areas.finals c.args.areas.now));
 }

@@ -34,9 +34,9 @@ returns-clause-root g c =
     let p : PhaseView = phase_at me.job.now me.phase in
     let t : ℕ = c.args.task.0 in
     let notes : Notes = g.C.Cells.notes c.args.root.now in
-    subst (λ (ts : List TaskNo). HasJoined (g.C.Cells.is_pass me.cells.now) g.C.Cells.notes me.plan.now g.R.Runner.course me.job.now me.tables.now.places c.join.new.root (all_tasks p) ts)
+    subst (λ (ts : List TaskNo). HasJoined (g.C.Cells.is_pass me.cells.now) g.C.Cells.notes me.plan.now (g.R.Runner.course me.runner.now) me.job.now me.tables.now.places c.join.new.root (all_tasks p) ts)
     (sym (before_one p t c.requires.task))
-    (taken-one (g.C.Cells.is_pass me.cells.now) g.C.Cells.notes me.plan.now g.R.Runner.course me.job.now me.tables.now.places c.args.root.now c.join.new.root c.args.pass (all_tasks p) (tasks_before p t) t
+    (taken-one (g.C.Cells.is_pass me.cells.now) g.C.Cells.notes me.plan.now (g.R.Runner.course me.runner.now) me.job.now me.tables.now.places c.args.root.now c.join.new.root c.args.pass (all_tasks p) (tasks_before p t) t
     c.requires.fit.is_plan (not_before p t c.requires.task.exists) c.join.ensures.area (c.join.ensures.notes ∙ ap (λ (q : PlanView). after_join q notes (g.C.Cells.notes c.args.pass)) c.requires.fit.cells) c.requires.root c.requires.run)
 
 pub returns-clause-known : goal.returns-clause-known

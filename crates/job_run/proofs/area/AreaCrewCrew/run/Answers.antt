@@ -54,8 +54,8 @@ returns-clause-run g c =
     let f = c.requires.fit in
     let t : ℕ = c.args.task.0 in
     let new : Done = record { ending = Some c.run-ending.result; task = c.run-ending.new.task } in
-    let ran = subst (λ (p : PlanView). RanAs g.R.Runner.course p (g.C.Cells.notes c.args.pass.now) (g.C.Cells.notes c.run-ending.new.pass) c.args.done.now.task c.run-ending.new.task c.run-ending.result) f.cells c.run-ending.ensures.ran in
-    seen_by g.R.Runner.course (g.C.Cells.is_pass me.cells.now) g.C.Cells.notes me.plan.now me.job.now me.tables.now.places t (g.C.Cells.notes c.args.pass.now) (g.C.Cells.notes c.run-ending.new.pass) c.run-ending.new.pass
+    let ran = subst (λ (p : PlanView). RanAs (g.R.Runner.course me.runner.now) p (g.C.Cells.notes c.args.pass.now) (g.C.Cells.notes c.run-ending.new.pass) c.args.done.now.task c.run-ending.new.task c.run-ending.result) f.cells c.run-ending.ensures.ran in
+    seen_by (g.R.Runner.course me.runner.now) (g.C.Cells.is_pass me.cells.now) g.C.Cells.notes me.plan.now me.job.now me.tables.now.places t (g.C.Cells.notes c.args.pass.now) (g.C.Cells.notes c.run-ending.new.pass) c.run-ending.new.pass
     c.args.done.now new f.is_plan (plan_here me.plan.now me.job.now me.tables.now.places me.phase t f.its.plan c.requires.task.its) (is_task me.job.now t f.its.job c.requires.task.exists) c.run-ending.ensures.area
     c.requires.fresh.fresh refl c.requires.can.task (record { ending = c.run-ending.result; is = refl; ran = ran })
 
@@ -65,9 +65,9 @@ returns-clause-ends g c =
     let f = c.requires.fit in
     let t : ℕ = c.args.task.0 in
     let new : Done = record { ending = Some c.run-ending.result; task = c.run-ending.new.task } in
-    let ran = subst (λ (p : PlanView). RanAs g.R.Runner.course p (g.C.Cells.notes c.args.pass.now) (g.C.Cells.notes c.run-ending.new.pass) c.args.done.now.task c.run-ending.new.task c.run-ending.result) f.cells c.run-ending.ensures.ran in
+    let ran = subst (λ (p : PlanView). RanAs (g.R.Runner.course me.runner.now) p (g.C.Cells.notes c.args.pass.now) (g.C.Cells.notes c.run-ending.new.pass) c.args.done.now.task c.run-ending.new.task c.run-ending.result) f.cells c.run-ending.ensures.ran in
     record {
-      ended = has_ended g.R.Runner.course me.plan.now (g.C.Cells.notes c.args.pass.now) (g.C.Cells.notes c.run-ending.new.pass) me.job.now me.tables.now.places t c.args.done.now new
+      ended = has_ended (g.R.Runner.course me.runner.now) me.plan.now (g.C.Cells.notes c.args.pass.now) (g.C.Cells.notes c.run-ending.new.pass) me.job.now me.tables.now.places t c.args.done.now new
           (plan_here me.plan.now me.job.now me.tables.now.places me.phase t f.its.plan c.requires.task.its) c.requires.can.task.begun (record { ending = c.run-ending.result; is = refl; ran = ran });
       extra = c.run-ending.new.extra;
       left = refl;

@@ -24,9 +24,9 @@ returns-clause-root g c =
     let me = c.args.self.now in
     let p : PhaseView = phase_at me.job.now me.phase in
     let t : ℕ = c.args.task.0 in
-    subst (λ (ts : List TaskNo). HasJoined (g.C.Cells.is_pass me.cells.now) g.C.Cells.notes me.plan.now g.R.Runner.course me.job.now me.tables.now.places c.split.new.root ts [])
+    subst (λ (ts : List TaskNo). HasJoined (g.C.Cells.is_pass me.cells.now) g.C.Cells.notes me.plan.now (g.R.Runner.course me.runner.now) me.job.now me.tables.now.places c.split.new.root ts [])
     (sym (before_one p t c.requires.task))
-    (given-one (g.C.Cells.is_pass me.cells.now) g.C.Cells.notes me.plan.now g.R.Runner.course me.job.now me.tables.now.places c.args.root.now c.split.new.root (tasks_before p t) t
+    (given-one (g.C.Cells.is_pass me.cells.now) g.C.Cells.notes me.plan.now (g.R.Runner.course me.runner.now) me.job.now me.tables.now.places c.args.root.now c.split.new.root (tasks_before p t) t
     c.split.ensures.area c.split.ensures.notes c.requires.root)
 
 pub returns-clause-fresh : goal.returns-clause-fresh
