@@ -1,17 +1,40 @@
 -- A schedule played on a core.
-use Rattle.std.specs.Prelude.{◌≡◌, ℕ, Option, Some, None, List}
+use Rattle.std.specs.Prelude.{◌≡◌, ℕ, Option, Some, None, List, option_and_then}
 use Rattle.brk_table.specs.Meaning.{TablesView}
 use Rattle.session_book.specs.Meaning.{JobView}
-use Rattle.interleave_core.specs.Meaning.{Parts}
+use Rattle.interleave_core.specs.Meaning.{Parts, Stepped, parts_step}
+use Rattle.interleave_core.specs.Results.{Fits}
 use Rattle.interleave_core.specs.Views.{CoreView}
+use Rattle.interleave_core.specs.declared.events.Event.{Event}
 use Rattle.job_text.specs.Meaning.{LineView, lines_of, item_at}
+use Rattle.job_text.specs.declared.schedule.Item.{Item}
 use Rattle.schedule_play.specs.declared.playing.Played.{Played}
 use Rattle.schedule_play.specs.declared.playing.ScheduleFault.{ScheduleFault}
 use Rattle.schedule_play.specs.declared.playing.ScheduleFault.TheVariants as fault
-use Rattle.schedule_play.specs.Meaning.{Play, Bad, with_item, play_end, play_line, play, play_of}
+use Rattle.schedule_play.specs.Meaning.{Play, Bad, Whole, with_item, play_item, play_end, play_line, play, play_of}
+
+-- the same world's core, in range where it was
+pub record Stays (old new : CoreView) : Type 0 where
+  pub world : new.world ≡ old.world
+  pub fits : Fits old.world old.parts → Fits new.world new.parts
+
+-- what an event, where there is one, and an item make of a core
+abbrev pub event_step : CoreView → Option Event → Option Stepped
+event_step c made = option_and_then (parts_step c.world c.parts) made
+
+abbrev pub item_step : CoreView → Item → Option Stepped
+item_step c item = play_item c.world c.parts item
+
+-- the lines of these bytes played on a core, the first of which is line n of the input
+abbrev pub play_bytes : CoreView → ℕ → List ℕ → Play
+play_bytes c n bytes = play c.world n c.parts (lines_of bytes)
 
 abbrev pub play_behind : JobView → TablesView → ℕ → List ℕ → Play
 play_behind j tables count bytes = play_of j tables.places count (lines_of bytes)
+
+-- the schedule is played to its end, which leaves this core, and its items have shown this
+abbrev pub PlaysTo : Play → CoreView → List Played → Type 0
+PlaysTo p core items = p ≡ Whole core.parts items
 
 -- a line that was played, or that ended the schedule
 abbrev pub IsLine : Option Played → Play → (Played → Play) → Play → Type 0

@@ -1,14 +1,14 @@
 //! A schedule behind a job, played on the core.
-ghost use Rattle.std.specs.Prelude.{◌≡◌, ◌≢◌, ℕ, [], ◌+◌, ◌<◌, ◌^◌, nat_eq, length, None, Some, option_and_then, IfOk, IfErr, OnErr, All};
+ghost use Rattle.std.specs.Prelude.{◌≡◌, ◌≢◌, ℕ, [], ◌+◌, ◌<◌, ◌^◌, nat_eq, length, None, Some, IfOk, IfErr, OnErr, All};
 ghost use Rattle.brk_table.specs.Places.{IsIn};
 ghost use Rattle.job_text.specs.Meaning.{lines_of};
 ghost use Rattle.module_area.specs.Meaning.{word_at, window_at};
-ghost use Rattle.interleave_core.specs.Meaning.{plan_in, first_parts, parts_step, run_on};
+ghost use Rattle.interleave_core.specs.Meaning.{plan_in, first_parts, run_on};
 ghost use Rattle.interleave_core.specs.World.{IsWorld, world_of};
 ghost use Rattle.interleave_core.specs.Results.{Fits};
 ghost use Rattle.interleave_core.specs.Views.{Leaves};
-ghost use Rattle.schedule_play.specs.Meaning.{Play, plant_at, plants, if_plants, if_closes, item_event, play, play_item, IsRun};
-ghost use Rattle.schedule_play.specs.Play.{play_behind, IsLineOf, IsBadLine, IsUnplayed};
+ghost use Rattle.schedule_play.specs.Meaning.{plant_at, plants, if_plants, if_closes, item_event, IsRun};
+ghost use Rattle.schedule_play.specs.Play.{Stays, event_step, item_step, play_bytes, play_behind, PlaysTo, IsLineOf, IsBadLine, IsUnplayed};
 
 use brk_table::Tables;
 use cov_base::{NoMemory, PlaceNo, SessNo};
@@ -100,10 +100,9 @@ fn item_event<'a>(core: &Core<'a>, item: Item) -> Option<Event>
 
 /// Makes the event, where there is one.
 fn play_event<'a>(core: &mut Core<'a>, event: Option<Event>) -> Result<Shown, NotPossible>
-    ensures possible { IfOk result (Leaves (option_and_then (parts_step core.old.world core.old.parts) event) core.new.parts) }
-    ensures refused { OnErr result (option_and_then (parts_step core.old.world core.old.parts) event ≡ None) }
-    ensures world { core.new.world ≡ core.old.world }
-    ensures fits { Fits core.old.world core.old.parts → Fits core.new.world core.new.parts }
+    ensures possible { IfOk result (Leaves (event_step core.old event) core.new.parts) }
+    ensures refused { OnErr result (event_step core.old event ≡ None) }
+    ensures stays { Stays core.old core.new }
 {
     match event {
         Some(event) => core.apply(event),
@@ -118,10 +117,9 @@ fn play_item<'a>(
     event: Option<Event>,
 ) -> Result<Shown, NotPossible>
     requires { event ≡ item_event core.old.world core.old.parts item }
-    ensures possible { IfOk result (Leaves (play_item core.old.world core.old.parts item) core.new.parts) }
-    ensures refused { OnErr result (play_item core.old.world core.old.parts item ≡ None) }
-    ensures world { core.new.world ≡ core.old.world }
-    ensures fits { Fits core.old.world core.old.parts → Fits core.new.world core.new.parts }
+    ensures possible { IfOk result (Leaves (item_step core.old item) core.new.parts) }
+    ensures refused { OnErr result (item_step core.old item ≡ None) }
+    ensures stays { Stays core.old core.new }
 {
     match item {
         Item::Go(t) => match core.go(t) {
@@ -138,8 +136,7 @@ fn plant<'a>(core: &mut Core<'a>, s: u32, p: u32)
     requires place { p < length core.old.world.places }
     requires is_world { IsWorld core.old.world }
     requires fresh { (word_at core.old.parts.cells p).tag ≡ 0 }
-    ensures world { core.new.world ≡ core.old.world }
-    ensures fits { Fits core.old.world core.old.parts → Fits core.new.world core.new.parts }
+    ensures stays { Stays core.old core.new }
     ensures planted { run_on core.old.world core.old.parts (plant_at core.old.world p) ≡ Some core.new.parts }
     ensures others { (q : ℕ) → p < q → word_at core.new.parts.cells q ≡ word_at core.old.parts.cells q }
 {
@@ -156,8 +153,7 @@ fn plant_all<'a>(core: &mut Core<'a>, windows: &[u32])
     requires windows { windows.now ≡ (plan_in core.old.world).windows }
     requires is_world { IsWorld core.old.world }
     requires fresh { (p : ℕ) → (word_at core.old.parts.cells p).tag ≡ 0 }
-    ensures world { core.new.world ≡ core.old.world }
-    ensures fits { Fits core.old.world core.old.parts → Fits core.new.world core.new.parts }
+    ensures stays { Stays core.old core.new }
     ensures planted { run_on core.old.world core.old.parts (plants core.old.world) ≡ Some core.new.parts }
 {
     for p in 0..windows.len() {
@@ -191,8 +187,7 @@ fn play_line<'a>(core: &mut Core<'a>, job: &Job, line: &[u8]) -> Result<Option<P
     requires { core.old.world.job ≡ job.now }
     ensures played { IfOk result (IsLineOf job.now line.now core.old core.new) }
     ensures refused { OnErr result (IsBadLine job.now line.now core.old) }
-    ensures world { core.new.world ≡ core.old.world }
-    ensures fits { Fits core.old.world core.old.parts → Fits core.new.world core.new.parts }
+    ensures stays { Stays core.old core.new }
 {
     let item = item_of(job, line).ok_or(NotPossible)?;
     if item == Item::End {
@@ -225,11 +220,10 @@ fn play<'a>(
 ) -> Result<Vec<Played>, ScheduleFault>
     requires job { core.old.world.job ≡ job.now }
     requires numbers { first + length lines.now < 2 ^ 32 }
-    ensures whole { IfOk result (λ v. play core.old.world first core.old.parts (lines_of lines.now) ≡ Play.Whole core.new.parts v.items) }
+    ensures whole { IfOk result (λ v. PlaysTo (play_bytes core.old first lines.now) core.new v.items) }
     ensures few { IfOk result (λ v. length v.items < 2 ^ 32) }
-    ensures world { core.new.world ≡ core.old.world }
-    ensures fits { Fits core.old.world core.old.parts → Fits core.new.world core.new.parts }
-    ensures bad { IfErr result (IsUnplayed (play core.old.world first core.old.parts (lines_of lines.now))) }
+    ensures stays { Stays core.old core.new }
+    ensures bad { IfErr result (IsUnplayed (play_bytes core.old first lines.now)) }
 {
     let mut played = Vec::new(alloc);
     let mut rest = lines;
@@ -259,7 +253,7 @@ pub fn replay<'a>(
 ) -> Result<Replayed<'a>, ScheduleFault>
     requires numbers { count + 1 + length schedule.now < 2 ^ 32 }
     requires places { All (IsIn job.now.images) tables.now.places }
-    ensures whole { IfOk result (λ r. play_behind job.now tables.now count schedule.now ≡ Play.Whole r.core.parts r.played.items) }
+    ensures whole { IfOk result (λ r. PlaysTo (play_behind job.now tables.now count schedule.now) r.core r.played.items) }
     ensures few { IfOk result (λ r. length r.played.items < 2 ^ 32) }
     ensures world { IfOk result (λ r. r.core.world ≡ world_of job.now tables.now) }
     ensures fits { IfOk result (λ r. Fits r.core.world r.core.parts) }

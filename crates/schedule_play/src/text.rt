@@ -7,7 +7,7 @@ ghost use Rattle.cov_base.specs.Meaning.{unpadded};
 ghost use Rattle.interleave_core.specs.Results.{Fits};
 ghost use Rattle.interleave_core.specs.World.{world_of};
 ghost use Rattle.report_text.specs.Conditions.{HasFewLines};
-ghost use Rattle.report_text.specs.Writes.{WritesLines};
+ghost use Rattle.report_text.specs.Writes.{Prints};
 ghost use Rattle.session_book.specs.Meaning.{task_of};
 ghost use Rattle.schedule_play.specs.Meaning.{letters, or_dash, shown_words, item_words, at_words, place_words, event_line, event_lines, replay_lines};
 
@@ -158,7 +158,7 @@ fn events_text<K: Sink>(
     played: &[Played],
 ) -> Result<(), Failed>
     requires { length played.now < 2 ^ 32 }
-    ensures { WritesLines K.written K.faults sink.old sink.new result (event_lines job.now tables.now.places played.now) }
+    ensures { Prints K.Sink sink.old sink.new result (event_lines job.now tables.now.places played.now) }
 {
     for i in 0..played.len() {
         put(sink, event_line(job, tables, i as u32 + 1, played[i]))?;
@@ -181,7 +181,7 @@ pub fn replay_text<K: Sink>(
     requires core { core.now.world ≡ world_of job.now tables.now }
     requires fits { Fits core.now.world core.now.parts }
     requires items { length played.now < 2 ^ 32 }
-    ensures { WritesLines K.written K.faults sink.old sink.new result (replay_lines job.now tables.now core.now.parts played.now) }
+    ensures { Prints K.Sink sink.old sink.new result (replay_lines job.now tables.now core.now.parts played.now) }
 {
     put(sink, words_line(b"COVERAGE REPLAY"))?;
     events_text(sink, job, tables, played)?;

@@ -1,5 +1,5 @@
 use Rattle.std.proofs.Common.{arith}
-use Rattle.schedule_play.proofs.PlantLemmas.{never_refused, no_plant, one_plant, others_stay}
+use Rattle.schedule_play.proofs.PlantLemmas.{never_refused}
 use Rattle.schedule_play.proofs.playing.plant.Goals as goal
 
 pub unreachable-requires : goal.unreachable-requires

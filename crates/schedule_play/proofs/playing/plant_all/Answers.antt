@@ -7,25 +7,27 @@ use Rattle.schedule_play.proofs.PlantLemmas.{plants_from, planted_next, planted_
 use Rattle.schedule_play.proofs.playing.plant_all.Goals as goal
 
 pub plant-requires-clause-window : goal.plant-requires-clause-window
-plant-requires-clause-window c = ap (λ ws. get_or ws c.loop-p.p 0) c.requires.windows ∙ ap (λ (w : World). window_at (plan_in w) c.loop-p.p) (sym c.loop-p.invariant.world)
+plant-requires-clause-window c = ap (λ ws. get_or ws c.loop-p.p 0) c.requires.windows ∙ ap (λ (w : World). window_at (plan_in w) c.loop-p.p) (sym c.loop-p.invariant.stays.world)
 
 pub plant-requires-clause-place : goal.plant-requires-clause-place
 plant-requires-clause-place c =
     let here : c.loop-p.p < length c.args.windows.now = c.loop-p-test.true in
-    subst (λ (w : World). c.loop-p.p < length w.places) (sym c.loop-p.invariant.world) (omega (arith, here, ap length c.requires.windows, c.requires.is_world.is_plan.windows))
+    subst (λ (w : World). c.loop-p.p < length w.places) (sym c.loop-p.invariant.stays.world) (omega (arith, here, ap length c.requires.windows, c.requires.is_world.is_plan.windows))
 
 pub plant-requires-clause-is_world : goal.plant-requires-clause-is_world
-plant-requires-clause-is_world c = subst IsWorld (sym c.loop-p.invariant.world) c.requires.is_world
+plant-requires-clause-is_world c = subst IsWorld (sym c.loop-p.invariant.stays.world) c.requires.is_world
 
 pub plant-requires-clause-fresh : goal.plant-requires-clause-fresh
 plant-requires-clause-fresh c = c.loop-p.invariant.fresh c.loop-p.p (omega arith)
 
 pub loop-p-preserved : goal.loop-p-preserved
 loop-p-preserved c = record {
-  world = c.plant.ensures.world ∙ c.loop-p.invariant.world;
-  fits = λ f. c.plant.ensures.fits (c.loop-p.invariant.fits f);
+  stays = record {
+    world = c.plant.ensures.stays.world ∙ c.loop-p.invariant.stays.world;
+    fits = λ f. c.plant.ensures.stays.fits (c.loop-p.invariant.stays.fits f);
+  };
   fresh = λ q le. ap (λ (x : Cell). x.tag) (c.plant.ensures.others q (omega (arith, le))) ∙ c.loop-p.invariant.fresh q (omega (arith, le));
-  planted = rw c.plant.ensures.world (c.loop-p.invariant.planted ∙ planted_next c.loop-p.core.world c.loop-p.p (length c.args.windows.now) c.loop-p.core.parts c.plant.new.core.parts c.loop-p-test.true c.plant.ensures.planted);
+  planted = rw c.plant.ensures.stays.world (c.loop-p.invariant.planted ∙ planted_next c.loop-p.core.world c.loop-p.p (length c.args.windows.now) c.loop-p.core.parts c.plant.new.core.parts c.loop-p-test.true c.plant.ensures.planted);
 }
 
 pub returns-clause-planted : goal.returns-clause-planted
