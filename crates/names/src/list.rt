@@ -10,15 +10,17 @@ use std::marker::Model;
 /// Distinct names in the order in which they were added. Contracts see the list; what finds a name is a map.
 #[derive(Drop)]
 pub struct NameList {
-    names: IndexSet<Name>,
+    // In an array, behind which a proof about a struct that holds lists doesn't look.
+    names: [IndexSet<Name>; 1],
 }
 
 impl Model for NameList {
     ghost use Rattle.std.specs.Prelude.{ℕ, List};
+    ghost use Rattle.names.specs.Inside.{keys_of};
 
     ghost Value = { List (List ℕ) };
 
-    ghost view = { λ l. l.names.keys };
+    ghost view = { keys_of };
 }
 
 impl NameList {
@@ -27,7 +29,7 @@ impl NameList {
         ensures { result ≡ [] }
     {
         NameList {
-            names: IndexSet::new(alloc),
+            names: [IndexSet::new(alloc)],
         }
     }
 
@@ -43,11 +45,17 @@ impl NameList {
         Ok(list)
     }
 
+    fn set(&self) -> &IndexSet<Name>
+        ensures { result.now.keys ≡ self.now }
+    {
+        &self.names[0]
+    }
+
     /// How many names there are.
     pub fn len(&self) -> usize
         ensures { result ≡ length self.now }
     {
-        self.names.len()
+        self.set().len()
     }
 
     /// The name at an index.
@@ -55,7 +63,7 @@ impl NameList {
         requires { at < length self.now }
         ensures { slice_get self.now at ≡ Some result.now }
     {
-        &self.names.as_slice()[at]
+        &self.set().as_slice()[at]
     }
 
     /// The index of the name, the only one that it has; none exactly where it isn't there.
@@ -64,15 +72,15 @@ impl NameList {
         ensures within { IfSome result (λ at. at < length self.now) }
         ensures only { Differ self.now }
     {
-        let _count = self.names.len();
-        self.names.get_index_of(name)
+        let _count = self.set().len();
+        self.set().get_index_of(name)
     }
 
     /// Whether the name is there.
     pub fn has(&self, name: &Name) -> bool
         ensures { result ≡ has self.now name.now }
     {
-        self.names.contains(name)
+        self.set().contains(name)
     }
 
     /// Adds the name behind the others where it isn't there; else tells its index. Where memory is wanting nothing changes.
@@ -81,7 +89,7 @@ impl NameList {
         ensures names { IfOk result (λ _. self.new ≡ added self.old name) }
         ensures kept { IfErr result (λ _. self.new ≡ self.old) }
     {
-        let (at, is_new) = self.names.insert_full(name)?;
+        let (at, is_new) = self.names[0].insert_full(name)?;
         if is_new {
             return Ok(None);
         }
