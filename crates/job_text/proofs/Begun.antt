@@ -12,15 +12,17 @@ use Rattle.std.proofs.lemmas.Bool.{and_from, and_parts, not-true, or_right}
 use Rattle.hex.proofs.OnLiterals.{hex_on_literals}
 use Rattle.cov_base.specs.Meaning.{is_name_byte, name_at, unpadded}
 use Rattle.session_book.specs.Meaning.{TaskView}
-use Rattle.job_text.specs.Meaning.{LineView, listing_text, SessionDraft, DraftView, Present, is_controller, is_met_by, is_met, are_met, words, CardView, Cover, Module, Text, Listing, Phase, Session, Task, Reg, Data, Input, End, card_at, card_of, with_module, with_phase, this_phase, may_have, with_session, has_task, with_task, JobBegins}
+use Rattle.job_text.specs.Meaning.{LineView, listing_text, SessionDraft, DraftView, Present, is_controller, is_met_by, is_met, are_met, words, CardView, Cover, Module, Text, Listing, Phase, Session, Task, Reg, Data, Input, End, card_at, card_of, with_module, with_phase, this_phase, may_have, with_session, has_task, with_task, JobBegins, Serve, with_service}
+use Rattle.session_book.specs.declared.services.Service.{Service}
+use Rattle.job_text.specs.declared.grammar.Grammar.{Grammar}
 use Rattle.job_text.specs.TaskParts.{fresh_task, task_more}
 use Rattle.job_text.specs.declared.limit.Limit.{Limit}
 use Rattle.job_text.specs.declared.parts.Part.{Part}
 use Rattle.job_text.specs.declared.parts.Part.TheVariants as part
-use Rattle.job_text.specs.Steps.{State, state, start, is_start, is_sessions, is_done, closed_module, closed_task, closed, no_bytes, module_over, session_over, phase_over, task_over, open_module, open_task, open_phase, add_session, take_text, take_listing, take_more, end, takes_raw, take_raw, take_card, step, run}
+use Rattle.job_text.specs.Steps.{State, state, start, is_start, is_sessions, is_done, closed_module, closed_service, closed_task, closed, no_bytes, module_over, session_over, phase_over, task_over, open_module, open_task, add_service, open_phase, add_session, take_text, take_listing, take_more, end, takes_raw, take_raw, take_card, step, run}
 use Rattle.job_text.proofs.Guards.{guard_more, guard_none, map_some, then_some, choose}
 use Rattle.job_text.proofs.CardFacts.{IsName, Good, card_good}
-use Rattle.job_text.proofs.Named.{session_added}
+use Rattle.job_text.proofs.Named.{service_added, session_added}
 use Rattle.job_text.proofs.Spelled.{run_append, card_step, task_raw, closed_of_task, closed_raw}
 use Rattle.job_text.proofs.Rests.{run_spells}
 use Rattle.job_text.proofs.Shortest.{sofar_at, Completes, completes_at}
@@ -114,6 +116,13 @@ module_early (part.Texts i left) j k e early = sessions_of (with_module j i None
 module_early (part.Listed i left texts) j k e early = sessions_of (with_module j i (Some texts)) k (cond_some (nat_eq left 0) (with_module j i (Some texts)) k e).1 early
 module_early p j k e early = absurd cc
 
+service_sessions : (j k : DraftView) (v : Service) → with_service j v ≡ Some k → k.sessions ≡ j.sessions
+service_sessions j k v e = ap (λ (x : DraftView). x.sessions) (sym (service_added j k v e).is)
+
+service_early : (p : Part) (j k : DraftView) → closed_service p j ≡ Some k → Early p j → k.sessions ≡ []
+service_early part.Services j k e early = sessions_of j k (same_Some j k e) early
+service_early p j k e early = module_early p j k e early
+
 task_wants : (p : Part) (j k : DraftView) → closed_task p j ≡ Some k → Wants j → Wants k
 task_wants part.Sessions j k e w = subst Wants (same_Some j k e) w
 task_wants (part.Task t) j k e w = subst Wants (same_Some (with_task j t.task) k e) (wants_task j t.task w)
@@ -126,7 +135,7 @@ closed_wants (part.Task t) j k e w =
     (subst Wants g.1 (wants_task j t.task w.wants), subst (λ (x : DraftView). are_met Present x ≡ true) g.1 g.0)
 closed_wants part.Start j k e w = absurd cc
 closed_wants part.Done j k e w = absurd cc
-closed_wants p j k e w = let none = module_early p j k e w.early in (none_wanted k none, none_met k none)
+closed_wants p j k e w = let none = service_early p j k e w.early in (none_wanted k none, none_met k none)
 
 raw_waits : (p : Part) (j : DraftView) (text : List ℕ) (s : State) → take_raw p j text ≡ Some s → Waits p j → WaitsAt s
 raw_waits (part.Listed i left texts) j text s e w = subst WaitsAt (same_Some _ s e) (record { wants = w.wants; early = w.early })
@@ -161,6 +170,11 @@ card_waits (Module name base size) st s good e w =
     subst WaitsAt g.1 (record { wants = none_wanted t.from none; early = none })
 card_waits (Text bytes) st s good e w = text_waits st.part st.job bytes s e w
 card_waits (Listing n) st s good e w = listing_waits st.part st.job n s e w
+card_waits (Serve v) st s good e w =
+    let t = then_some (add_service v) (closed_service st.part st.job) s e in
+    let m = map_some (λ k. state part.Services k None) (with_service t.from v) s t.gives in
+    let none = service_sessions t.from m.from v m.was ∙ service_early st.part st.job t.from t.was w.early in
+    subst WaitsAt m.gives (record { wants = none_wanted m.from none; early = none })
 card_waits (Phase name) st s good e w =
     let t = then_some (open_phase name) (closed Present st.part st.job) s e in
     let m = map_some (λ k. state part.Sessions k (phase_over t.from)) (with_phase t.from name) s t.gives in
@@ -310,12 +324,12 @@ present_ends (part.Task t) j over w = ends_met (state (part.Task t) j over) (wit
 present_ends part.Done j over w = record { lines = []; end = state part.Done j over; runs = refl; done = refl }
 present_ends p j over w = ending_of (state p j over) (completes_at Present p j over (none_met (sofar_at p j) w.early))
 
-ends : (lines : List LineView) (st : State) → run Present start lines ≡ Some st → Ending st
-ends lines st e = present_ends st.part st.job st.over (run_waits lines start st e (record { wants = none_wanted start.job refl; early = refl }))
+ends : (cards : Grammar) (lines : List LineView) (st : State) → run Present (start cards) lines ≡ Some st → Ending st
+ends cards lines st e = present_ends st.part st.job st.over (run_waits lines (start cards) st e (record { wants = none_wanted (start cards).job refl; early = refl }))
 
 -- lines that run begin a job
-pub run_begins : (lines : List LineView) (st : State) → run Present start lines ≡ Some st → JobBegins lines
-run_begins lines st e =
-    let c = ends lines st e in
-    let r : run Present start (lines ++ c.lines) ≡ Some c.end = run_append Present start lines c.lines ∙ (rw e c.runs) in
+pub run_begins : {cards : Grammar} (lines : List LineView) (st : State) → run Present (start cards) lines ≡ Some st → JobBegins cards lines
+run_begins {cards} lines st e =
+    let c = ends cards lines st e in
+    let r : run Present (start cards) (lines ++ c.lines) ≡ Some c.end = run_append Present (start cards) lines c.lines ∙ (rw e c.runs) in
     record { rest = c.lines; job = _; spells = run_spells Present (lines ++ c.lines) c.end r c.done }

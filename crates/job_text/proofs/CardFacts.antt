@@ -9,7 +9,7 @@ use Rattle.cov_base.proofs.NameLemmas.{unpadded-padded}
 use Rattle.hex.specs.Hex.{decode_sized}
 use Rattle.hex.specs.declared.error.FromHexError.{FromHexError}
 use Rattle.hex.proofs.HexLemmas.{decode_sized-ok, decode_sized-twice, decode_of-ok}
-use Rattle.job_text.specs.Meaning.{CardView, Cover, Module, Text, Listing, Phase, Session, Task, Reg, Data, Input, End, words, number_at, bytes_at, ok_of, address_in, address_at, word_at, put_name, names_on, names_at, may_stand, as_module, as_session, as_controlled, controlled_card, session_card, as_task, as_reg, as_data, short_card, pair_card, long_card, card_of, card_at}
+use Rattle.job_text.specs.Meaning.{CardView, Cover, Module, Text, Listing, Phase, Session, Task, Reg, Data, Input, End, words, number_at, bytes_at, ok_of, address_in, address_at, word_at, put_name, names_on, names_at, may_stand, as_module, as_session, as_controlled, controlled_card, session_card, as_task, as_reg, as_data, short_card, pair_card, long_card, card_of, card_at, Serve, as_service}
 use Rattle.job_text.proofs.Guards.{guard_more}
 
 -- a name filled with blanks
@@ -104,6 +104,15 @@ data_good (Some n) (Some v) c e = let same : Data (record { offset = n; bytes = 
 data_good (Some n) None c e = absurd cc
 data_good None v c e = absurd cc
 
+service_good : (n e : Option ℕ) (c : CardView) → as_service n e ≡ Some c → Good c
+service_good (Some n) (Some e) c f = let g = cond_some _ (Serve (record { number = n; entry = e })) c f in subst Good g.1 tt
+service_good (Some n) None c f = absurd cc
+service_good None e c f = absurd cc
+
+data_or_more : (q : Bool) (n : Option ℕ) (v : Option (List ℕ)) (more : Option CardView) (c : CardView) → (more ≡ Some c → Good c) → cond q (as_data n v) more ≡ Some c → Good c
+data_or_more true n v more c g e = data_good n v c e
+data_or_more false n v more c g e = g e
+
 last_good : (q : Bool) (c d : CardView) → Good d → cond q (Some d) None ≡ Some c → Good c
 last_good true c d g e = let same : d ≡ c = cc in subst Good same g
 last_good false c d g e = absurd cc
@@ -143,7 +152,8 @@ reg_or_more false n v more c g e = g e
 pair_good : (key a b : List ℕ) (c : CardView) → pair_card key a b ≡ Some c → Good c
 pair_good key a b c e =
     reg_or_more (bytes_eq key (codes "REG")) (number_at a) (word_at b) _ c
-    (λ d. let g = guard_more (bytes_eq key (codes "DATA")) (as_data (number_at a) (bytes_at b)) c d in data_good (number_at a) (bytes_at b) c g.1) e
+    (data_or_more (bytes_eq key (codes "DATA")) (number_at a) (bytes_at b) _ c
+    (λ d. let g = guard_more (bytes_eq key (codes "SERVICE")) (as_service (number_at a) (address_at b)) c d in service_good (number_at a) (address_at b) c g.1)) e
 
 long_good : (key a : List ℕ) (ws : List (List ℕ)) (c : CardView) → long_card key a ws ≡ Some c → Good c
 long_good key a [] c e = absurd cc

@@ -9,7 +9,8 @@ use Rattle.std.proofs.lemmas.Bool.{and_from, and_parts, and_right}
 use Rattle.cov_base.specs.Meaning.{ImageView}
 use Rattle.cov_base.specs.declared.limits.TheConstants.{MODULE_LIMIT, SIZE_LIMIT, LINE_LIMIT, PHASE_LIMIT, SESSION_LIMIT, TASK_LIMIT, PRIVATE_LIMIT, BUDGET_LIMIT, ROOM_LIMIT}
 use Rattle.session_book.specs.Meaning.{JobView, TaskView}
-use Rattle.job_text.specs.Meaning.{DraftView, Controllers, bound, LineView, listing_text, CardView, Cover, Module, Text, Listing, Phase, Session, Task, Reg, Data, Input, End, card_at, fits, with_module, with_phase, put_session, with_session, has_task, with_task, are_short, is_small, has_private, has_budget, has_room, keeps, IsWithin, rank}
+use Rattle.job_text.specs.Meaning.{DraftView, Controllers, bound, LineView, listing_text, CardView, Cover, Module, Text, Listing, Phase, Session, Task, Reg, Data, Input, End, card_at, fits, with_module, with_phase, put_session, with_session, has_task, with_task, are_short, keeps, IsWithin, rank, Serve, with_service}
+use Rattle.session_book.specs.declared.services.Service.{Service}
 use Rattle.job_text.specs.TaskParts.{part, takes_reg, takes_data, is_inside, with_reg, with_data, fresh_task, task_more}
 use Rattle.job_text.specs.declared.task.TaskPart.{TaskPart}
 use Rattle.job_text.specs.declared.task.TaskStage.TheVariants as stage
@@ -17,10 +18,10 @@ use Rattle.job_text.specs.declared.limit.Limit.{Limit}
 use Rattle.job_text.specs.declared.limit.Limit.TheVariants as limit
 use Rattle.job_text.specs.declared.parts.Part.{Part}
 use Rattle.job_text.specs.declared.parts.Part.TheVariants as kind
-use Rattle.job_text.specs.Steps.{State, state, is_start, is_sessions, closed_module, closed_task, closed, no_bytes, with_bytes, module_over, line_over, phase_over, session_over, task_over, open_module, open_task, open_phase, add_session, take_text, take_listing, take_more, end, takes_raw, take_raw, take_card, step, run}
+use Rattle.job_text.specs.Steps.{State, state, is_start, is_sessions, closed_module, closed_service, closed_task, closed, no_bytes, with_bytes, module_over, line_over, phase_over, session_over, task_over, open_module, open_task, add_service, open_phase, add_session, take_text, take_listing, take_more, end, takes_raw, take_raw, take_card, step, run}
 use Rattle.job_text.proofs.Guards.{guard_more, map_some, then_some, choose, guard_none}
-use Rattle.job_text.proofs.Named.{session_added}
-use Rattle.job_text.proofs.Spelled.{closed_of_module}
+use Rattle.job_text.proofs.Named.{service_added, session_added}
+use Rattle.job_text.proofs.Spelled.{closed_of_service, closed_of_module}
 use Rattle.job_text.proofs.Shortest.{sofar_at, draft_sofar, sofar, closed_sofar, task_sofar}
 
 -- this limit was passed, and none before it in the order of limits; or none at all
@@ -109,6 +110,9 @@ no_room : {X : Type 0} (xs : List X) (x : X) (n : ℕ) → nat_le n (length xs) 
 no_room xs x n e = let one : length (xs ++ x ∷ []) ≡ length xs + 1 = omega (arith, length-append xs (x ∷ [])) in grind (arith, nat_tests)
 
 -- a module more
+
+abbrev is_small : ImageView → Bool
+is_small i = nat_le (length i.bytes) SIZE_LIMIT
 
 module_more : (j : DraftView) (i : ImageView) (listing : Option (List (List ℕ))) (w : Limit) → holds w (with_module j i listing) ≡ true → holds w j ≡ true
 module_more j i listing limit.Modules e = fewer j.images i MODULE_LIMIT e
@@ -224,6 +228,26 @@ line_grown j i texts t m n =
       judged = line_judged j i texts t m n (is_short t) refl;
     }
 
+-- a service more
+
+service_alike : (j : DraftView) (services : Option (List Service)) (w : Limit) → holds w j ≡ holds w (record j { services = services })
+service_alike j services limit.Sessions = refl
+service_alike j services limit.Input = refl
+service_alike j services limit.Modules = refl
+service_alike j services limit.Size = refl
+service_alike j services limit.Line = refl
+service_alike j services limit.Places = refl
+service_alike j services limit.Phases = refl
+service_alike j services limit.Tasks = refl
+service_alike j services limit.Private = refl
+service_alike j services limit.Budget = refl
+service_alike j services limit.Room = refl
+
+service_grown : (j k : DraftView) (v : Service) → with_service j v ≡ Some k → More j k None
+service_grown j k v e =
+    let m = service_added j k v e in
+    subst (λ (x : DraftView). More j x None) m.is (alike j _ (service_alike j (Some m.services)))
+
 -- a phase more, a session more
 
 abbrev put_phase : DraftView → List ℕ → DraftView
@@ -272,6 +296,15 @@ session_grown j k name by names e =
     subst (λ (x : DraftView). More j x (session_over j)) m.is (record { more = session_more j name by m.modules; judged = session_judged j name by m.modules (nat_le SESSION_LIMIT (length j.sessions)) refl })
 
 -- a task more
+
+abbrev has_private : TaskView → Bool
+has_private t = nat_le t.private PRIVATE_LIMIT
+
+abbrev has_budget : TaskView → Bool
+has_budget t = nat_le t.budget BUDGET_LIMIT
+
+abbrev has_room : TaskView → Bool
+has_room t = nat_le t.room ROOM_LIMIT
 
 task_more_of : (j : DraftView) (t : TaskView) (w : Limit) → holds w (with_task j t) ≡ true → holds w j ≡ true
 task_more_of j t limit.Tasks e = fewer j.tasks _ TASK_LIMIT e
@@ -406,6 +439,10 @@ card_grows ask (Module name base size) st s e =
     grows_to st s next g.1 (from_closed ask st.part st.job t.from (draft_sofar next) (module_over t.from size) (closed_of_module ask st.part st.job t.from t.was) (module_grown t.from name base size))
 card_grows ask (Text bytes) st s e = text_grows st.part st.job bytes s e
 card_grows ask (Listing n) st s e = listing_grows st.part st.job n s e
+card_grows ask (Serve v) st s e =
+    let t = then_some (add_service v) (closed_service st.part st.job) s e in
+    let m = map_some (λ k. state kind.Services k None) (with_service t.from v) s t.gives in
+    grows_to st s (state kind.Services m.from None) m.gives (from_closed ask st.part st.job t.from m.from None (closed_of_service ask st.part st.job t.from t.was) (service_grown t.from m.from v m.was))
 card_grows ask (Phase name) st s e =
     let t = then_some (open_phase name) (closed ask st.part st.job) s e in
     let m = map_some (λ k. state kind.Sessions k (phase_over t.from)) (with_phase t.from name) s t.gives in

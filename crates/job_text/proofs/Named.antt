@@ -4,7 +4,9 @@ use Rattle.std.specs.List.{list_any}
 use Rattle.std.specs.Str.{bytes_eq}
 use Rattle.std.proofs.lemmas.Option.{cond_some}
 use Rattle.session_book.specs.Meaning.{JobView}
-use Rattle.job_text.specs.Meaning.{LineView, listing_text, DraftView, Controllers, Named, are_met, CardView, Phase, End, card_at, with_task, indices_on, put_session, may_have, with_session, IsPhase, ArePhases, Spells}
+use Rattle.job_text.specs.Meaning.{LineView, listing_text, DraftView, Controllers, Named, are_met, CardView, Phase, End, card_at, with_task, indices_on, put_session, may_have, with_session, IsPhase, Spells, Lead, with_service, put_service}
+use Rattle.session_book.specs.declared.services.Service.{Service}
+use Rattle.job_text.specs.declared.grammar.Grammar.{Grammar}
 use Rattle.job_text.specs.declared.parts.Part.{Part}
 use Rattle.job_text.specs.declared.parts.Part.TheVariants as part
 use Rattle.job_text.specs.Steps.{State, closed, open_phase, end, takes_raw, take_raw, take_card, step, run}
@@ -25,28 +27,41 @@ session_added j after name by names e =
     let m = map_some (put_session j name by) (indices_on j by (Some []) names) after h.1 in
     record { new = g.0; may = h.0; modules = m.from; are = m.was; is = m.gives }
 
-named_phases : (ask : Controllers) (blocks : List (List LineView)) (j after : DraftView) → ArePhases ask j blocks after → ArePhases Named j blocks after
+-- a service that was added
+pub record AddedService (j after : DraftView) : Type 0 where
+  pub services : List Service
+  pub is : record j { services = Some services } ≡ after
+
+pub service_added : (j after : DraftView) (s : Service) → with_service j s ≡ Some after → AddedService j after
+service_added j after s e =
+    let m = map_some (λ (services : List Service). record j { services = Some services }) (option_and_then (put_service s) j.services) after e in
+    record { services = m.from; is = m.gives }
+
+named_phases : (ask : Controllers) (blocks : List (List LineView)) (j after : DraftView) → Lead (IsPhase ask) j blocks after → Lead (IsPhase Named) j blocks after
 named_phases ask [] j after are = are
 named_phases ask (block ∷ blocks) j after are =
-    let p : IsPhase ask j block are.mid = are.is_phase in
+    let p : IsPhase ask j block are.mid = are.is in
     record {
       mid = are.mid;
-      is_phase = record { head = p.head; sessions = p.sessions; tasks = p.tasks; whole = p.whole; name = p.name; named = p.named; mid = p.mid; card = p.card; adds = p.adds; are_sessions = p.are_sessions; are_tasks = p.are_tasks; met = refl };
+      is = record { head = p.head; sessions = p.sessions; tasks = p.tasks; whole = p.whole; name = p.name; named = p.named; mid = p.mid; card = p.card; adds = p.adds; are_sessions = p.are_sessions; are_tasks = p.are_tasks; met = refl };
       follows = named_phases ask blocks are.mid after are.follows;
     }
 
-pub named_spells : (ask : Controllers) (ls : List LineView) (job : JobView) → Spells ask ls job → Spells Named ls job
+pub named_spells : {cards : Grammar} (ask : Controllers) (ls : List LineView) (job : JobView) → Spells cards ask ls job → Spells cards Named ls job
 named_spells ask ls job s = record {
   first = s.first;
   modules = s.modules;
+  services = s.services;
   phases = s.phases;
   last = s.last;
   whole = s.whole;
   mid = s.mid;
+  served = s.served;
   draft = s.draft;
   cover = s.cover;
   are_modules = s.are_modules;
-  are_phases = named_phases ask s.phases s.mid s.draft s.are_phases;
+  are_services = s.are_services;
+  are_phases = named_phases ask s.phases s.served s.draft s.are_phases;
   ends = s.ends;
   is = s.is;
 }

@@ -11,6 +11,7 @@ use Rattle.job_text.specs.Pieces.{fault_line, IsTold, IsOpen, IsEnded, used_of}
 use Rattle.job_text.specs.Refusals.{IsRead}
 use Rattle.job_text.specs.Steps.{State, start, plain, is_done, step, run}
 use Rattle.job_text.specs.Taken.{IsNext, IsFaultOf, HasRun, has_lf, HasTaken, size_of}
+use Rattle.job_text.specs.declared.grammar.Grammar.{Grammar}
 use Rattle.job_text.specs.declared.jobs.JobFault.{JobFault}
 use Rattle.job_text.specs.declared.jobs.JobFault.TheVariants as fault
 use Rattle.job_text.specs.declared.jobs.ReadJob.{ReadJob}
@@ -35,7 +36,7 @@ use Rattle.job_text.proofs.Verdicts.{over_passes, goes_on, bad_here, over_here, 
 take_less : (ls ms : List LineView) (m n : ℕ) → m ≤ n → take n ms ≡ take n ls → take m ms ≡ take m ls
 take_less ls ms m n h e = sym (take-take m n ms h) ∙ (ap (λ (x : List LineView). take m x) e ∙ take-take m n ls h)
 
-bad_same : (ls ms : List LineView) (n : ℕ) → n ≤ length ls → n ≤ length ms → take n ms ≡ take n ls → IsBadAt ls n → IsBadAt ms n
+bad_same : {cards : Grammar} (ls ms : List LineView) (n : ℕ) → n ≤ length ls → n ≤ length ms → take n ms ≡ take n ls → IsBadAt cards ls n → IsBadAt cards ms n
 bad_same ls ms n h k e b =
     let less : take (n - 1) ms ≡ take (n - 1) ls = take_less ls ms (n - 1) n (omega arith) e in
     record {
@@ -47,36 +48,36 @@ bad_same ls ms n h k e b =
       ];
     }
 
-over_same : (ls ms : List LineView) (what : Limit) (n : ℕ) → n ≤ length ms → take n ms ≡ take n ls → IsOverAt ls what n → IsOverAt ms what n
-over_same ls ms what n k e o =
+over_same : {cards : Grammar} (ls ms : List LineView) (what : Limit) (n : ℕ) → n ≤ length ms → take n ms ≡ take n ls → IsOverAt cards ls what n → IsOverAt cards ms what n
+over_same {cards} ls ms what n k e o =
     let less : take (n - 1) ms ≡ take (n - 1) ls = take_less ls ms (n - 1) n (omega arith) e in
     record {
       counts = o.counts;
       inside = k;
       before = rw less o.before;
       begins = rw e o.begins;
-      passes = subst (Passes what) (sym e) o.passes;
-      first = λ w l p. o.first w l (subst (Passes w) e p);
+      passes = subst (Passes cards what) (sym e) o.passes;
+      first = λ w l p. o.first w l (subst (Passes cards w) e p);
     }
 
-refusal_more : (bytes more : List ℕ) (e : JobFault) → fault_line e ≤ length (ended_lines (lines_of bytes)) → IsRefusal (lines_of bytes) e → IsRefusal (lines_of (bytes ++ more)) e
-refusal_more bytes more (fault.BadJob n) h r =
+refusal_more : (cards : Grammar) (bytes more : List ℕ) (e : JobFault) → fault_line e ≤ length (ended_lines (lines_of bytes)) → IsRefusal cards (lines_of bytes) e → IsRefusal cards (lines_of (bytes ++ more)) e
+refusal_more cards bytes more (fault.BadJob n) h r =
     let k : Kept bytes more = kept bytes more in
     bad_same (lines_of bytes) (lines_of (bytes ++ more)) n (omega (arith, h, k.less)) (omega (arith, h, k.within)) (k.first n h) r
-refusal_more bytes more (fault.TooLarge what n) h r =
+refusal_more cards bytes more (fault.TooLarge what n) h r =
     let k : Kept bytes more = kept bytes more in
     over_same (lines_of bytes) (lines_of (bytes ++ more)) what n (omega (arith, h, k.within)) (k.first n h) r
-refusal_more bytes more fault.NoMemory h r = tt
+refusal_more cards bytes more fault.NoMemory h r = tt
 
-behind : (ls : List LineView) (e : JobFault) (n : ℕ) (job : JobView) → IsRefusal ls e → fault_line e ≤ n → n ≤ length ls → Spells Present (take n ls) job → IsWithin job → e ≡ fault.NoMemory
+behind : {cards : Grammar} (ls : List LineView) (e : JobFault) (n : ℕ) (job : JobView) → IsRefusal cards ls e → fault_line e ≤ n → n ≤ length ls → Spells cards Present (take n ls) job → IsWithin job → e ≡ fault.NoMemory
 behind ls (fault.BadJob m) n job r h k p within = absurd (bad_later ls job m n h k p r)
 behind ls (fault.TooLarge what m) n job r h k p within = absurd (never_over_first ls n job what m k p within r)
 behind ls fault.NoMemory n job r h k p within = refl
 
-pub told_more : (bytes more : List ℕ) (e : JobFault) → IsTold bytes e → IsTold (bytes ++ more) e
-told_more bytes more e t =
+pub told_more : {cards : Grammar} (bytes more : List ℕ) (e : JobFault) → IsTold cards bytes e → IsTold cards (bytes ++ more) e
+told_more {cards} bytes more e t =
     let k : Kept bytes more = kept bytes more in
-    let r : IsRefusal (lines_of (bytes ++ more)) e = refusal_more bytes more e t.ended t.refusal in
+    let r : IsRefusal cards (lines_of (bytes ++ more)) e = refusal_more cards bytes more e t.ended t.refusal in
     record {
       refusal = r;
       ended = omega (arith, t.ended, k.more);
@@ -88,7 +89,7 @@ told_more bytes more e t =
 
 -- one line more
 
-pub within_of : (ls : List LineView) (s : State) → run Present start ls ≡ Some s → GoesOn ls → IsWithin (sofar s)
+pub within_of : {cards : Grammar} (ls : List LineView) (s : State) → run Present (start cards) ls ≡ Some s → GoesOn cards ls → IsWithin (sofar s)
 within_of ls s r g = λ w. true_from_ne_false (keeps w (sofar s)) (λ over. g.within w (over_passes ls s w r over))
 
 run_next : (bytes more : List ℕ) (a b : Taken) (l : LineView) → lines_of (bytes ++ more) ≡ lines_of bytes ++ l ∷ [] → length more ≡ span l → HasRun bytes a → IsNext a b l → HasRun (bytes ++ more) b
@@ -96,12 +97,12 @@ run_next bytes more a b l whole size h n =
     let ls : List LineView = lines_of bytes in
     let s : State = plain a.reader in
     let t : State = plain b.reader in
-    let runs : run Present start (ls ++ l ∷ []) ≡ Some t = run_append Present start ls (l ∷ []) ∙ (rw (h.runs, n.steps) refl) in
+    let runs : run Present (start a.grammar) (ls ++ l ∷ []) ≡ Some t = run_append Present (start a.grammar) ls (l ∷ []) ∙ (rw (h.runs, n.steps) refl) in
     let within : IsWithin (sofar t) = (step_grows Present s t l n.steps).judged (within_of ls s h.runs h.goes_on) in
     let one : length (ls ++ l ∷ []) ≡ length ls + 1 = omega (arith, length-append ls (l ∷ [])) in
     record {
-      runs = rw whole runs;
-      goes_on = rw whole (goes_on (ls ++ l ∷ []) t runs within);
+      runs = rw (whole, n.grammar) runs;
+      goes_on = rw (whole, n.grammar) (goes_on (ls ++ l ∷ []) t runs within);
       count = rw whole (omega (arith, n.lines, h.count, one));
       size = omega (arith, n.bytes, h.size, size, length-append bytes more);
     }
@@ -135,10 +136,10 @@ next_lines bytes line rest p h e =
     let parts : lines_of ((cut ++ line) ++ 10 ∷ rest) ≡ ended_line (cut ++ line) ∷ lines_of rest = line_ended (cut ++ line) rest (partial_append cut line h.partial e) in
     ap lines_of again ∙ (closed_more h.front ((cut ++ line) ++ 10 ∷ rest) h.closed ∙ ap (λ (x : List LineView). lines_of h.front ++ x) parts)
 
-begin_empty : GoesOn []
-begin_empty = goes_on [] start refl (λ w. begin_keeps w)
+begin_empty : {cards : Grammar} → GoesOn cards []
+begin_empty {cards} = goes_on [] (start cards) refl (λ w. begin_keeps w)
   where
-    begin_keeps : (w : Limit) → keeps w (sofar start) ≡ true
+    begin_keeps : (w : Limit) → keeps w (sofar (start cards)) ≡ true
     begin_keeps limit.Input = refl
     begin_keeps limit.Modules = refl
     begin_keeps limit.Size = refl
@@ -152,12 +153,12 @@ begin_empty = goes_on [] start refl (λ w. begin_keeps w)
     begin_keeps limit.Room = refl
 
 -- no bytes were fed
-pub nothing_taken : (p : Pieces) → p.taken.reader ≡ start → p.taken.lines ≡ 0 → p.taken.bytes ≡ 0 → p.cut.items ≡ [] → HasTaken [] p
-nothing_taken p reader lines bytes none = record {
+pub nothing_taken : (cards : Grammar) (p : Pieces) → p.taken.grammar ≡ cards → p.taken.reader ≡ start cards → p.taken.lines ≡ 0 → p.taken.bytes ≡ 0 → p.cut.items ≡ [] → HasTaken [] p
+nothing_taken cards p grammar reader lines bytes none = record {
   front = [];
   whole = sym none;
   closed = refl;
-  ran = record { runs = rw reader refl; goes_on = begin_empty; count = lines; size = bytes };
+  ran = record { runs = rw (grammar, reader) refl; goes_on = rw grammar begin_empty; count = lines; size = bytes };
   partial = rw none refl;
   end = λ done. none;
 }
@@ -207,41 +208,45 @@ nothing_left bytes p none h =
     let same : bytes ≡ h.front = h.whole ∙ (rw (none, append-nil {A = ℕ}) refl) in
     rw same h.ran
 
+-- want of memory is told without a line
+pub told_nothing : (cards : Grammar) (bytes : List ℕ) → IsTold cards bytes fault.NoMemory
+told_nothing cards bytes = record { refusal = tt; ended = omega arith; only = λ n job i p w. refl }
+
 -- a line that isn't taken
 
-pub record Refuted (ls : List LineView) (e : JobFault) (n : ℕ) : Type 0 where
-  pub refusal : IsRefusal ls e
+pub record Refuted (cards : Grammar) (ls : List LineView) (e : JobFault) (n : ℕ) : Type 0 where
+  pub refusal : IsRefusal cards ls e
   pub line : fault_line e ≤ n
-  pub only : (m : ℕ) (job : JobView) → m ≤ length ls → Spells Present (take m ls) job → IsWithin job → e ≡ fault.NoMemory
+  pub only : (m : ℕ) (job : JobView) → m ≤ length ls → Spells cards Present (take m ls) job → IsWithin job → e ≡ fault.NoMemory
 
-refuted_at : (ls : List LineView) (n : ℕ) (l : LineView) (more : List LineView) (s : State) (e : JobFault) → drop n ls ≡ l ∷ more → run Present start (take n ls) ≡ Some s → n ≤ length ls → IsWithin (sofar s) → is_done s.part ≡ false → IsFaultOf (step Present s l) (n + 1) e → Refuted ls e (n + 1)
-refuted_at ls n l more s (fault.BadJob k) d r h within reading f =
-    let b : IsBadAt ls (n + 1) = bad_here ls n l more s d r within f.0 in
+refuted_at : {cards : Grammar} (ls : List LineView) (n : ℕ) (l : LineView) (more : List LineView) (s : State) (e : JobFault) → drop n ls ≡ l ∷ more → run Present (start cards) (take n ls) ≡ Some s → n ≤ length ls → IsWithin (sofar s) → is_done s.part ≡ false → IsFaultOf (step Present s l) (n + 1) e → Refuted cards ls e (n + 1)
+refuted_at {cards} ls n l more s (fault.BadJob k) d r h within reading f =
+    let b : IsBadAt cards ls (n + 1) = bad_here ls n l more s d r within f.0 in
     record {
       refusal = rw f.1 b;
       line = omega (arith, f.1);
       only = λ m job i p w. absurd (bad_none ls n m s job h r reading b i p);
     }
-refuted_at ls n l more s (fault.TooLarge what k) d r h within reading f =
-    let o : IsOverAt ls what (n + 1) = over_here ls n l more s what d r within f.0 in
+refuted_at {cards} ls n l more s (fault.TooLarge what k) d r h within reading f =
+    let o : IsOverAt cards ls what (n + 1) = over_here ls n l more s what d r within f.0 in
     record {
       refusal = rw f.1 o;
       line = omega (arith, f.1);
       only = λ m job i p w. absurd (never_over_first ls m job what (n + 1) i p w o);
     }
-refuted_at ls n l more s fault.NoMemory d r h within reading f = record { refusal = tt; line = omega arith; only = λ m job i p w. refl }
+refuted_at {cards} ls n l more s fault.NoMemory d r h within reading f = record { refusal = tt; line = omega arith; only = λ m job i p w. refl }
 
-refuted : (front : List ℕ) (l : LineView) (more : List LineView) (t : Taken) (e : JobFault) → HasRun front t → is_done t.reader.part ≡ false → IsFaultOf (step Present t.reader l) (t.lines + 1) e → Refuted (lines_of front ++ l ∷ more) e (length (lines_of front) + 1)
+refuted : (front : List ℕ) (l : LineView) (more : List LineView) (t : Taken) (e : JobFault) → HasRun front t → is_done t.reader.part ≡ false → IsFaultOf (step Present t.reader l) (t.lines + 1) e → Refuted t.grammar (lines_of front ++ l ∷ more) e (length (lines_of front) + 1)
 refuted front l more t e h reading f =
     let ls : List LineView = lines_of front in
     refuted_at (ls ++ l ∷ more) (length ls) l more (plain t.reader) e (drop_front ls (l ∷ more)) (rw (take_front ls (l ∷ more)) h.runs) (omega (arith, length-append ls (l ∷ more))) (within_of ls (plain t.reader) h.runs h.goes_on) reading (rw h.count at f)
 
 -- by a line whose LF has come
-pub line_told : (bytes line rest : List ℕ) (p : Pieces) (e : JobFault) → has_lf line ≡ false → HasTaken bytes p → is_done p.taken.reader.part ≡ false → IsFaultOf (step Present p.taken.reader (ended_line (p.cut.items ++ line))) (p.taken.lines + 1) e → IsTold (bytes ++ (line ++ 10 ∷ rest)) e
+pub line_told : (bytes line rest : List ℕ) (p : Pieces) (e : JobFault) → has_lf line ≡ false → HasTaken bytes p → is_done p.taken.reader.part ≡ false → IsFaultOf (step Present p.taken.reader (ended_line (p.cut.items ++ line))) (p.taken.lines + 1) e → IsTold p.taken.grammar (bytes ++ (line ++ 10 ∷ rest)) e
 line_told bytes line rest p e partial h reading f =
     let l : LineView = ended_line (p.cut.items ++ line) in
     let lines = next_lines bytes line rest p h partial in
-    let x : Refuted (lines_of h.front ++ l ∷ lines_of rest) e (length (lines_of h.front) + 1) = refuted h.front l (lines_of rest) p.taken e h.ran reading f in
+    let x : Refuted p.taken.grammar (lines_of h.front ++ l ∷ lines_of rest) e (length (lines_of h.front) + 1) = refuted h.front l (lines_of rest) p.taken e h.ran reading f in
     let ended : ended_lines (lines_of h.front ++ l ∷ lines_of rest) ≡ lines_of h.front ++ l ∷ ended_lines (lines_of rest) = ended_append (lines_of h.front) (l ∷ lines_of rest) h.closed in
     let count : length (lines_of h.front ++ l ∷ ended_lines (lines_of rest)) ≡ length (lines_of h.front) + length (l ∷ ended_lines (lines_of rest)) = length-append (lines_of h.front) (l ∷ ended_lines (lines_of rest)) in
     record {
@@ -251,27 +256,27 @@ line_told bytes line rest p e partial h reading f =
     }
 
 -- by the last line, which lacks its LF
-pub last_refuted : (bytes : List ℕ) (p : Pieces) (e : JobFault) → 0 < length p.cut.items → HasTaken bytes p → is_done p.taken.reader.part ≡ false → IsFaultOf (step Present p.taken.reader (open_line p.cut.items)) (p.taken.lines + 1) e → Refuted (lines_of bytes) e (length (lines_of bytes))
+pub last_refuted : (bytes : List ℕ) (p : Pieces) (e : JobFault) → 0 < length p.cut.items → HasTaken bytes p → is_done p.taken.reader.part ≡ false → IsFaultOf (step Present p.taken.reader (open_line p.cut.items)) (p.taken.lines + 1) e → Refuted p.taken.grammar (lines_of bytes) e (length (lines_of bytes))
 last_refuted bytes p e some h reading f =
     let l : LineView = open_line p.cut.items in
     let last : lines_of p.cut.items ≡ l ∷ [] = line_partial p.cut.items h.partial ∙ whole_some p.cut.items some in
     let lines : lines_of bytes ≡ lines_of h.front ++ l ∷ [] = ap lines_of h.whole ∙ (closed_more h.front p.cut.items h.closed ∙ ap (λ (x : List LineView). lines_of h.front ++ x) last) in
-    let x : Refuted (lines_of h.front ++ l ∷ []) e (length (lines_of h.front) + 1) = refuted h.front l [] p.taken e h.ran reading f in
+    let x : Refuted p.taken.grammar (lines_of h.front ++ l ∷ []) e (length (lines_of h.front) + 1) = refuted h.front l [] p.taken e h.ran reading f in
     let one : length (lines_of h.front ++ l ∷ []) ≡ length (lines_of h.front) + 1 = omega (arith, length-append (lines_of h.front) (l ∷ [])) in
     rw (lines, one) x
 
 -- the input ends early
-pub early_refuted : (bytes : List ℕ) (t : Taken) (e : JobFault) → HasRun bytes t → is_done t.reader.part ≡ false → e ≡ fault.BadJob (t.lines + 1) → IsRefusal (lines_of bytes) e × ((n : ℕ) (job : JobView) → n ≤ length (lines_of bytes) → Spells Present (take n (lines_of bytes)) job → IsWithin job → e ≡ fault.NoMemory)
+pub early_refuted : (bytes : List ℕ) (t : Taken) (e : JobFault) → HasRun bytes t → is_done t.reader.part ≡ false → e ≡ fault.BadJob (t.lines + 1) → IsRefusal t.grammar (lines_of bytes) e × ((n : ℕ) (job : JobView) → n ≤ length (lines_of bytes) → Spells t.grammar Present (take n (lines_of bytes)) job → IsWithin job → e ≡ fault.NoMemory)
 early_refuted bytes t e h reading is =
     let ls : List LineView = lines_of bytes in
     let s : State = plain t.reader in
-    let runs : run Present start (take (length ls) ls) ≡ Some s = rw (take-length ls) h.runs in
-    let b : IsBadAt ls (length ls + 1) = ends_early ls (length ls) s (drop-length ls) (omega arith) runs (within_of ls s h.runs h.goes_on) reading in
+    let runs : run Present (start t.grammar) (take (length ls) ls) ≡ Some s = rw (take-length ls) h.runs in
+    let b : IsBadAt t.grammar ls (length ls + 1) = ends_early ls (length ls) s (drop-length ls) (omega arith) runs (within_of ls s h.runs h.goes_on) reading in
     (rw (is, h.count) b, λ n job i p w. absurd (bad_none ls (length ls) n s job (omega arith) runs reading b i p))
 
 -- the job was taken
 
-pub taken_job : (bytes : List ℕ) (t : Taken) (r : ReadJob) → HasRun bytes t → is_done t.reader.part ≡ true → r.job ≡ bound t.reader.job → r.end ≡ t.bytes → r.lines ≡ t.lines → IsRead bytes r
+pub taken_job : (bytes : List ℕ) (t : Taken) (r : ReadJob) → HasRun bytes t → is_done t.reader.part ≡ true → r.job ≡ bound t.reader.job → r.end ≡ t.bytes → r.lines ≡ t.lines → IsRead t.grammar bytes r
 taken_job bytes t r h done job end count =
     let ls : List LineView = lines_of bytes in
     let s : State = plain t.reader in
@@ -284,7 +289,7 @@ taken_job bytes t r h done job end count =
       within = rw job (job_within s done (within_of ls s h.runs h.goes_on));
     }
 
-pub taken_only : (bytes : List ℕ) (t : Taken) → HasRun bytes t → is_done t.reader.part ≡ true → (n : ℕ) (job : JobView) → n ≤ length (lines_of bytes) → Spells Present (take n (lines_of bytes)) job → (bound t.reader.job ≡ job) × (t.lines ≡ n)
+pub taken_only : (bytes : List ℕ) (t : Taken) → HasRun bytes t → is_done t.reader.part ≡ true → (n : ℕ) (job : JobView) → n ≤ length (lines_of bytes) → Spells t.grammar Present (take n (lines_of bytes)) job → (bound t.reader.job ≡ job) × (t.lines ≡ n)
 taken_only bytes t h done n job i p =
     let ls : List LineView = lines_of bytes in
     let a = alone Present ls (length ls) n (plain t.reader) job (omega arith) (rw (take-length ls) h.runs) done i p in
@@ -292,7 +297,7 @@ taken_only bytes t h done n job i p =
 
 -- what is answered to a piece
 
-pub is_open : (bytes : List ℕ) (p : Pieces) → HasTaken bytes p → is_done p.taken.reader.part ≡ false → IsOpen bytes
+pub is_open : (bytes : List ℕ) (p : Pieces) → HasTaken bytes p → is_done p.taken.reader.part ≡ false → IsOpen p.taken.grammar bytes
 is_open bytes p h reading =
     let lines : lines_of bytes ≡ lines_of h.front ++ lines_of p.cut.items = ap lines_of h.whole ∙ closed_more h.front p.cut.items h.closed in
     let ended : ended_lines (lines_of bytes) ≡ lines_of h.front =
@@ -300,14 +305,14 @@ is_open bytes p h reading =
     record {
       goes_on = rw ended h.ran.goes_on;
       no_job = λ job s.
-          let x : Reaches Present start (lines_of h.front) (Ends job) = run_spelled Present (lines_of h.front) job (rw ended at s) in
+          let x : Reaches Present (start p.taken.grammar) (lines_of h.front) (Ends job) = run_spelled Present (lines_of h.front) job (rw ended at s) in
           let end : x.end ≡ plain p.taken.reader = same_Some x.end (plain p.taken.reader) (sym x.runs ∙ h.ran.runs) in
           let done : is_done x.end.part ≡ true = ap is_done x.holds.at in
           let still : is_done x.end.part ≡ false = ap (λ (t : State). is_done t.part) end ∙ reading in
           absurd cc;
     }
 
-pub is_ended : (before piece : List ℕ) (used : ℕ) (p : Pieces) → 1 ≤ used → used ≤ length piece → HasTaken (before ++ take used piece) p → is_done p.taken.reader.part ≡ true → IsEnded before piece used
+pub is_ended : (before piece : List ℕ) (used : ℕ) (p : Pieces) → 1 ≤ used → used ≤ length piece → HasTaken (before ++ take used piece) p → is_done p.taken.reader.part ≡ true → IsEnded p.taken.grammar before piece used
 is_ended before piece used p some inside h done =
     let bytes : List ℕ = before ++ take used piece in
     let same : bytes ≡ h.front = h.whole ∙ (rw (h.end done, append-nil {A = ℕ}) refl) in

@@ -2,15 +2,18 @@
 use Rattle.std.proofs.Common.{◌≡◌, ℕ, ◌-◌, ◌<◌, ◌≤◌, true, false, nat_eq, nat_le, cond, Option, Some, None, List, [], ◌∷◌, ◌++◌, length, map, refl, ap, subst, option_and_then, sym, arith, append_assoc, append-nil, length-append, inl, inr}
 use Rattle.std.proofs.lemmas.Bool.Decides.{nat_tests}
 use Rattle.std.proofs.lemmas.Option.{same_Some, cond_some}
+use Rattle.std.specs.List.{concat}
 use Rattle.cov_base.specs.Meaning.{ImageView}
 use Rattle.session_book.specs.Meaning.{TaskView, first_regs}
-use Rattle.job_text.specs.Meaning.{DraftView, Controllers, are_met, bound, LineView, listing_text, CardView, Cover, Module, Text, Listing, Phase, Session, Task, Reg, Data, Input, End, IsCard, card_at, task_view, no_job, fits, with_module, with_phase, with_session, has_task, with_task, joined, AreTexts, IsListed, AreModules, AreSessions, AreTasks, ArePhases, Spells}
+use Rattle.job_text.specs.Meaning.{DraftView, Controllers, are_met, bound, LineView, listing_text, CardView, Cover, Module, Text, Listing, Phase, Session, Task, Reg, Data, Input, End, IsCard, card_at, task_view, no_job, fits, with_module, with_phase, with_session, has_task, with_task, joined, AreCards, IsListed, Spells, Lead, IsModule, IsServiceCard, IsSessionCard, IsTaskBlock, IsPhase, Serve, with_service}
+use Rattle.session_book.specs.declared.services.Service.{Service}
+use Rattle.job_text.specs.declared.grammar.Grammar.{Grammar}
 use Rattle.job_text.specs.TaskParts.{fresh_task, task_more}
 use Rattle.job_text.specs.declared.parts.Part.{Part}
 use Rattle.job_text.specs.declared.parts.Part.TheVariants as part
-use Rattle.job_text.specs.Steps.{State, state, start, is_start, is_sessions, is_done, closed_module, closed_task, met_of, closed, no_bytes, with_bytes, module_over, line_over, phase_over, session_over, task_over, open_module, open_task, open_phase, add_session, take_text, take_listing, take_more, end, takes_raw, take_raw, take_card, step, run}
+use Rattle.job_text.specs.Steps.{State, state, start, is_start, is_sessions, is_done, closed_module, closed_service, closed_task, met_of, closed, no_bytes, with_bytes, module_over, line_over, phase_over, session_over, task_over, open_module, open_task, add_service, open_phase, add_session, take_text, take_listing, take_more, end, takes_raw, take_raw, take_card, step, run}
 use Rattle.job_text.proofs.Guards.{guard_more, map_some, then_some, choose, guard_none}
-use Rattle.job_text.proofs.TaskCards.{with_regs, with_cards, with_inputs, AtInputs, AtData, AtRegs, AtPart, stage_ends, more_back}
+use Rattle.job_text.proofs.TaskCards.{cards_more, rise_pairs, with_regs, with_cards, with_inputs, AtInputs, AtData, AtRegs, AtPart, stage_ends, more_back}
 
 -- what may still come, behind each line
 
@@ -18,7 +21,7 @@ pub record RestEnd (ask : Controllers) (j : DraftView) (ls : List LineView) (d :
   pub blocks : List (List LineView)
   pub last : LineView
   pub whole : ls ≡ joined blocks ++ last ∷ []
-  pub are : ArePhases ask j blocks d
+  pub are : Lead (IsPhase ask) j blocks d
   pub ends : IsCard last End
 
 pub record RestTasks (ask : Controllers) (j : DraftView) (ls : List LineView) (d : DraftView) : Type 0 where
@@ -26,7 +29,7 @@ pub record RestTasks (ask : Controllers) (j : DraftView) (ls : List LineView) (d
   pub rest : List LineView
   pub mid : DraftView
   pub whole : ls ≡ joined blocks ++ rest
-  pub are : AreTasks j blocks mid
+  pub are : Lead IsTaskBlock j blocks mid
   pub met : are_met ask mid ≡ true
   pub after : RestEnd ask mid rest d
 
@@ -35,16 +38,24 @@ pub record RestSessions (ask : Controllers) (j : DraftView) (ls : List LineView)
   pub rest : List LineView
   pub mid : DraftView
   pub whole : ls ≡ sessions ++ rest
-  pub are : AreSessions j sessions mid
+  pub are : Lead IsSessionCard j sessions mid
   pub after : RestTasks ask mid rest d
+
+pub record RestServices (ask : Controllers) (j : DraftView) (ls : List LineView) (d : DraftView) : Type 0 where
+  pub services : List LineView
+  pub rest : List LineView
+  pub mid : DraftView
+  pub whole : ls ≡ services ++ rest
+  pub are : Lead IsServiceCard j services mid
+  pub after : RestEnd ask mid rest d
 
 pub record RestModules (ask : Controllers) (j : DraftView) (ls : List LineView) (d : DraftView) : Type 0 where
   pub blocks : List (List LineView)
   pub rest : List LineView
   pub mid : DraftView
   pub whole : ls ≡ joined blocks ++ rest
-  pub are : AreModules j blocks mid
-  pub after : RestEnd ask mid rest d
+  pub are : Lead IsModule j blocks mid
+  pub after : RestServices ask mid rest d
 
 pub record RestListed (ask : Controllers) (i : ImageView) (left : ℕ) (texts : List (List ℕ)) (j : DraftView) (ls : List LineView) (d : DraftView) : Type 0 where
   pub lines : List LineView
@@ -57,13 +68,13 @@ pub record RestTexts (ask : Controllers) (i : ImageView) (left : ℕ) (j : Draft
   pub texts : List LineView
   pub listing : List LineView
   pub rest : List LineView
-  pub more : List ℕ
+  pub parts : List (List ℕ)
   pub listed : Option (List (List ℕ))
   pub whole : ls ≡ texts ++ (listing ++ rest)
-  pub are : AreTexts texts more
-  pub size : length more ≡ left
+  pub are : AreCards Text parts texts
+  pub size : length (concat parts) ≡ left
   pub is : IsListed listing listed
-  pub after : RestModules ask (with_module j (with_bytes i more) listed) rest d
+  pub after : RestModules ask (with_module j (with_bytes i (concat parts)) listed) rest d
 
 -- behind a task of the job
 abbrev pub Behind : Controllers → DraftView → DraftView → TaskView → List LineView → Type 0
@@ -81,6 +92,7 @@ Rest ask part.Start j ls d = RestAll ask j ls d
 Rest ask part.Modules j ls d = RestModules ask j ls d
 Rest ask (part.Texts i left) j ls d = RestTexts ask i left j ls d
 Rest ask (part.Listed i left texts) j ls d = RestListed ask i left texts j ls d
+Rest ask part.Services j ls d = RestServices ask j ls d
 Rest ask part.Sessions j ls d = RestSessions ask j ls d
 Rest ask (part.Task t) j ls d = AtPart t (Behind ask j d) ls
 Rest ask part.Done j ls d = (ls ≡ []) × (d ≡ j)
@@ -100,7 +112,10 @@ no_tasks ask j ls d met r = record { blocks = []; rest = ls; mid = j; whole = re
 no_sessions : (ask : Controllers) (j : DraftView) (ls : List LineView) (d : DraftView) → RestTasks ask j ls d → RestSessions ask j ls d
 no_sessions ask j ls d r = record { sessions = []; rest = ls; mid = j; whole = refl; are = refl; after = r }
 
-no_modules : (ask : Controllers) (j : DraftView) (ls : List LineView) (d : DraftView) → RestEnd ask j ls d → RestModules ask j ls d
+no_services : (ask : Controllers) (j : DraftView) (ls : List LineView) (d : DraftView) → RestEnd ask j ls d → RestServices ask j ls d
+no_services ask j ls d r = record { services = []; rest = ls; mid = j; whole = refl; are = refl; after = r }
+
+no_modules : (ask : Controllers) (j : DraftView) (ls : List LineView) (d : DraftView) → RestServices ask j ls d → RestModules ask j ls d
 no_modules ask j ls d r = record { blocks = []; rest = ls; mid = j; whole = refl; are = refl; after = r }
 
 -- what may come behind the closed job may come here
@@ -115,7 +130,7 @@ texts_whole ask i left j k ls d e r =
       texts = [];
       listing = [];
       rest = ls;
-      more = [];
+      parts = [];
       listed = None;
       whole = refl;
       are = refl;
@@ -136,6 +151,10 @@ module_closes ask (part.Texts i left) j k ls d e r = texts_whole ask i left j k 
 module_closes ask (part.Listed i left texts) j k ls d e r = listed_whole ask i left texts j k ls d e r
 module_closes ask p j k ls d e r = absurd cc
 
+service_closes : (ask : Controllers) (p : Part) (j k : DraftView) (ls : List LineView) (d : DraftView) → closed_service p j ≡ Some k → RestServices ask k ls d → Rest ask p j ls d
+service_closes ask part.Services j k ls d e r = let same : j ≡ k = same_Some j k e in rw same r
+service_closes ask p j k ls d e r = module_closes ask p j k ls d e (no_modules ask k ls d r)
+
 task_closes : (ask : Controllers) (p : Part) (j k : DraftView) (ls : List LineView) (d : DraftView) → closed_task p j ≡ Some k → RestTasks ask k ls d → Rest ask p j ls d
 task_closes ask part.Sessions j k ls d e r = let same : j ≡ k = same_Some j k e in rw same (no_sessions ask k ls d r)
 task_closes ask (part.Task t) j k ls d e r = let same : with_task j t.task ≡ k = same_Some _ k e in stage_ends t.stage t.task (Behind ask j d) ls (rw same r)
@@ -147,7 +166,7 @@ met_closed ask j k e = let g = cond_some (are_met ask j) j k e in (subst (λ (x 
 closes : (ask : Controllers) (p : Part) (j k : DraftView) (ls : List LineView) (d : DraftView) → closed ask p j ≡ Some k → RestEnd ask k ls d → Rest ask p j ls d
 closes ask part.Sessions j k ls d e r = let g = met_closed ask j k e in task_closes ask part.Sessions j k ls d (ap (λ (x : DraftView). Some x) g.1) (no_tasks ask k ls d g.0 r)
 closes ask (part.Task t) j k ls d e r = let g = met_closed ask (with_task j t.task) k e in task_closes ask (part.Task t) j k ls d (ap (λ (x : DraftView). Some x) g.1) (no_tasks ask k ls d g.0 r)
-closes ask p j k ls d e r = module_closes ask p j k ls d e (no_modules ask k ls d r)
+closes ask p j k ls d e r = service_closes ask p j k ls d e (no_services ask k ls d r)
 
 -- a line first
 
@@ -175,13 +194,13 @@ text_back ask (part.Texts i left) j bytes l ls d s card e r =
       texts = l ∷ a.texts;
       listing = a.listing;
       rest = a.rest;
-      more = bytes ++ a.more;
+      parts = bytes ∷ a.parts;
       listed = a.listed;
       whole = ap (λ (x : List LineView). l ∷ x) a.whole;
-      are = record { first = bytes; others = a.more; card = card; whole = refl; follows = a.are };
-      size = omega (arith, a.size, length-append bytes a.more);
+      are = cards_more Text bytes a.parts l a.texts card a.are;
+      size = omega (arith, a.size, length-append bytes (concat a.parts));
       is = a.is;
-      after = rw (← append_assoc i.bytes bytes a.more) a.after;
+      after = rw (← append_assoc i.bytes bytes (concat a.parts)) a.after;
     }
 text_back ask p j bytes l ls d s card e r = absurd cc
 
@@ -194,7 +213,7 @@ listing_back ask (part.Texts i left) j n l ls d s card e r =
       texts = [];
       listing = l ∷ a.lines;
       rest = a.rest;
-      more = [];
+      parts = [];
       listed = Some (map listing_text a.lines);
       whole = ap (λ (x : List LineView). l ∷ x) a.whole;
       are = refl;
@@ -212,17 +231,19 @@ module_first ask j l ls d name base size card fit r = record {
   mid = r.after.mid;
   whole = rw (r.whole, r.after.whole) (simp append_assoc);
   are = record {
-    mid = with_module j (with_bytes (no_bytes name base) r.more) r.listed;
-    is_module = record {
+    mid = with_module j (with_bytes (no_bytes name base) (concat r.parts)) r.listed;
+    is = record {
       head = l;
       texts = r.texts;
       listing = r.listing;
       whole = refl;
-      image = with_bytes (no_bytes name base) r.more;
+      image = with_bytes (no_bytes name base) (concat r.parts);
+      parts = r.parts;
       listed = r.listed;
       card = rw r.size card;
       fit = rw r.size fit;
       are_texts = r.are;
+      filled = refl;
       is_listed = r.is;
       is_after = refl;
     };
@@ -238,6 +259,22 @@ module_back ask st s name base size l ls d card e r =
     let g = cond_some (fits t.from name base size) next s t.gives in
     module_closes ask st.part st.job t.from (l ∷ ls) d t.was (module_first ask t.from l ls d name base size card g.0 (was ask ls d next s g.1 r))
 
+service_first : (ask : Controllers) (j next : DraftView) (v : Service) (l : LineView) (ls : List LineView) (d : DraftView) → IsCard l (Serve v) → with_service j v ≡ Some next → RestServices ask next ls d → RestServices ask j (l ∷ ls) d
+service_first ask j next v l ls d card adds r = record {
+  services = l ∷ r.services;
+  rest = r.rest;
+  mid = r.mid;
+  whole = ap (λ (x : List LineView). l ∷ x) r.whole;
+  are = record { mid = next; is = record { service = v; card = card; adds = adds }; follows = r.are };
+  after = r.after;
+}
+
+service_back : (ask : Controllers) (st s : State) (v : Service) (l : LineView) (ls : List LineView) (d : DraftView) → IsCard l (Serve v) → take_card ask st (Serve v) ≡ Some s → RestOf ask s ls d → RestOf ask st (l ∷ ls) d
+service_back ask st s v l ls d card e r =
+    let t = then_some (add_service v) (closed_service st.part st.job) s e in
+    let m = map_some (λ k. state part.Services k None) (with_service t.from v) s t.gives in
+    service_closes ask st.part st.job t.from (l ∷ ls) d t.was (service_first ask t.from m.from v l ls d card m.was (was ask ls d (state part.Services m.from None) s m.gives r))
+
 phase_first : (ask : Controllers) (j named : DraftView) (l : LineView) (ls : List LineView) (d : DraftView) (name : List ℕ) → IsCard l (Phase name) → with_phase j name ≡ Some named → RestSessions ask named ls d → RestEnd ask j (l ∷ ls) d
 phase_first ask j named l ls d name card adds r =
     let t : RestTasks ask r.mid r.rest d = r.after in
@@ -248,7 +285,7 @@ phase_first ask j named l ls d name card adds r =
       whole = rw (r.whole, t.whole, p.whole) (simp append_assoc);
       are = record {
         mid = t.mid;
-        is_phase = record {
+        is = record {
           head = l;
           sessions = r.sessions;
           tasks = t.blocks;
@@ -282,7 +319,7 @@ session_back ask part.Sessions j s name by names l ls d card is e r =
       rest = a.rest;
       mid = a.mid;
       whole = ap (λ (x : List LineView). l ∷ x) a.whole;
-      are = record { name = name; by = by; names = names; mid = m.from; card = card; adds = m.was; follows = a.are };
+      are = record { mid = m.from; is = record { name = name; by = by; names = names; card = card; adds = m.was }; follows = a.are };
       after = a.after;
     }
 session_back ask p j s name by names l ls d card is e r = absurd cc
@@ -304,7 +341,7 @@ task_first ask j name entry private budget room l ls d card new r =
       whole = rw (a.whole, c.whole, b.whole, z.whole) (simp append_assoc);
       are = record {
         mid = with_task j task;
-        is_task = record {
+        is = record {
           head = l;
           reg_lines = a.lines;
           data_lines = c.lines;
@@ -321,7 +358,9 @@ task_first ask j name entry private budget room l ls d card new r =
           card = card;
           new = new;
           are_regs = a.are;
+          rise = rise_pairs 0 a.regs a.rise;
           are_data = c.are;
+          inside = c.inside;
           are_inputs = b.are;
           is_after = refl;
         };
@@ -361,6 +400,7 @@ card_back ask Cover st s l ls d card e r =
 card_back ask (Module n b size) st s l ls d card e r = module_back ask st s n b size l ls d card e r
 card_back ask (Text bytes) st s l ls d card e r = text_back ask st.part st.job bytes l ls d s card e r
 card_back ask (Listing n) st s l ls d card e r = listing_back ask st.part st.job n l ls d s card e r
+card_back ask (Serve v) st s l ls d card e r = service_back ask st s v l ls d card e r
 card_back ask (Phase n) st s l ls d card e r = phase_back ask st s n l ls d card e r
 card_back ask (Session n by ns) st s l ls d card e r =
     let g = guard_more (is_sessions st.part) (add_session st.job n by ns) s e in
@@ -387,25 +427,29 @@ rest_of ask (l ∷ ls) st e r done =
     let t = then_some (λ s. run ask s ls) (step ask st l) e r in
     step_back ask st t.from l ls e.job t.was (rest_of ask ls t.from e t.gives done)
 
-spells_of : (ask : Controllers) (ls : List LineView) (d : DraftView) → RestAll ask no_job ls d → Spells ask ls (bound d)
-spells_of ask ls d a =
-    let m : RestModules ask no_job a.rest d = a.after in
-    let p : RestEnd ask m.mid m.rest d = m.after in
+spells_of : {cards : Grammar} (ask : Controllers) (ls : List LineView) (d : DraftView) → RestAll ask (no_job cards) ls d → Spells cards ask ls (bound d)
+spells_of {cards} ask ls d a =
+    let m : RestModules ask (no_job cards) a.rest d = a.after in
+    let v : RestServices ask m.mid m.rest d = m.after in
+    let p : RestEnd ask v.mid v.rest d = v.after in
     record {
       first = a.first;
       modules = m.blocks;
+      services = v.services;
       phases = p.blocks;
       last = p.last;
-      whole = rw (a.whole, m.whole, p.whole) refl;
+      whole = rw (a.whole, m.whole, v.whole, p.whole) refl;
       mid = m.mid;
+      served = v.mid;
       draft = d;
       cover = a.cover;
       are_modules = m.are;
+      are_services = v.are;
       are_phases = p.are;
       ends = p.ends;
       is = refl;
     }
 
 -- lines that run to the end spell the job that was read
-pub run_spells : (ask : Controllers) (ls : List LineView) (e : State) → run ask start ls ≡ Some e → is_done e.part ≡ true → Spells ask ls (bound e.job)
-run_spells ask ls e r done = spells_of ask ls e.job (rest_of ask ls start e r done)
+pub run_spells : {cards : Grammar} (ask : Controllers) (ls : List LineView) (e : State) → run ask (start cards) ls ≡ Some e → is_done e.part ≡ true → Spells cards ask ls (bound e.job)
+run_spells {cards} ask ls e r done = spells_of ask ls e.job (rest_of ask ls (start cards) e r done)

@@ -6,10 +6,11 @@ use Rattle.hex.proofs.OnLiterals.{hex_on_literals}
 use Rattle.cov_base.specs.Meaning.{ImageView}
 use Rattle.session_book.specs.Meaning.{JobView}
 use Rattle.job_text.specs.Meaning.{DraftView, Controllers, Named, are_met, bound, LineView, Cover, Text, End, card_at, with_module, with_task, Spells}
+use Rattle.job_text.specs.declared.grammar.Grammar.{Grammar}
 use Rattle.job_text.specs.declared.limit.Limit.{Limit}
 use Rattle.job_text.specs.declared.parts.Part.{Part}
 use Rattle.job_text.specs.declared.parts.Part.TheVariants as part
-use Rattle.job_text.specs.Steps.{State, state, start, is_done, closed_module, closed_task, closed, with_bytes, end, takes_raw, take_card, step, run}
+use Rattle.job_text.specs.Steps.{State, state, start, is_done, closed_module, closed_service, closed_task, closed, with_bytes, end, takes_raw, take_card, step, run}
 use Rattle.job_text.proofs.Named.{named_run}
 use Rattle.job_text.proofs.Spelled.{run_append, card_step, closed_raw}
 use Rattle.job_text.proofs.Rests.{run_spells}
@@ -49,10 +50,14 @@ module_sofar (part.Texts i left) j k e = texts_sofar i left j k e
 module_sofar (part.Listed i left texts) j k e = listed_sofar i left texts j k e
 module_sofar p j k e = absurd cc
 
+pub service_sofar : (p : Part) (j k : DraftView) → closed_service p j ≡ Some k → k ≡ sofar_at p j
+service_sofar part.Services j k e = sym (same_Some j k e)
+service_sofar p j k e = module_sofar p j k e
+
 pub closed_sofar : (ask : Controllers) (p : Part) (j k : DraftView) → closed ask p j ≡ Some k → k ≡ sofar_at p j
 closed_sofar ask part.Sessions j k e = sym (cond_some (are_met ask j) j k e).1
 closed_sofar ask (part.Task t) j k e = sym (cond_some (are_met ask (with_task j t.task)) (with_task j t.task) k e).1
-closed_sofar ask p j k e = module_sofar p j k e
+closed_sofar ask p j k e = service_sofar p j k e
 
 pub task_sofar : (p : Part) (j k : DraftView) → closed_task p j ≡ Some k → k ≡ sofar_at p j
 task_sofar part.Sessions j k e = sym (same_Some j k e)
@@ -121,17 +126,18 @@ completes_at ask part.Start j over met = end_start ask j over
 completes_at ask part.Modules j over met = ends_now ask (state part.Modules j over) j refl
 completes_at ask (part.Texts i left) j over met = fill_texts ask left i j over
 completes_at ask (part.Listed i left texts) j over met = fill_listed ask left i texts j over
+completes_at ask part.Services j over met = ends_now ask (state part.Services j over) j refl
 completes_at ask part.Sessions j over met = ends_now ask (state part.Sessions j over) j (rw met refl)
 completes_at ask (part.Task t) j over met = ends_now ask (state (part.Task t) j over) (with_task j t.task) (rw met refl)
 completes_at ask part.Done j over met = done_now ask j over
 
 -- lines that run begin what adds nothing to that which was announced
-pub record Announced (lines : List LineView) (st : State) : Type 0 where
+pub record Announced (cards : Grammar) (lines : List LineView) (st : State) : Type 0 where
   pub rest : List LineView
-  pub spells : Spells Named (lines ++ rest) (sofar st)
+  pub spells : Spells cards Named (lines ++ rest) (sofar st)
 
-pub run_announces : (ask : Controllers) (lines : List LineView) (st : State) → run ask start lines ≡ Some st → Announced lines st
-run_announces ask lines st e =
+pub run_announces : {cards : Grammar} (ask : Controllers) (lines : List LineView) (st : State) → run ask (start cards) lines ≡ Some st → Announced cards lines st
+run_announces {cards} ask lines st e =
     let c : Completes Named st = completes_at Named st.part st.job st.over refl in
-    let r : run Named start (lines ++ c.lines) ≡ Some c.end = run_append Named start lines c.lines ∙ (rw (named_run ask lines start st e) c.runs) in
-    record { rest = c.lines; spells = subst (Spells Named (lines ++ c.lines)) (ap bound c.is) (run_spells Named (lines ++ c.lines) c.end r c.done) }
+    let r : run Named (start cards) (lines ++ c.lines) ≡ Some c.end = run_append Named (start cards) lines c.lines ∙ (rw (named_run ask lines (start cards) st e) c.runs) in
+    record { rest = c.lines; spells = subst (Spells cards Named (lines ++ c.lines)) (ap bound c.is) (run_spells Named (lines ++ c.lines) c.end r c.done) }

@@ -1,19 +1,22 @@
 -- Lines that spell a job run to its end.
-use Rattle.std.proofs.Common.{◌≡◌, ℕ, ◌-◌, ◌<◌, ◌≤◌, zero, true, false, nat_eq, nat_le, Option, Some, None, List, [], ◌∷◌, ◌++◌, length, map, take, refl, ap, option_map, option_and_then, sym, ◌∙◌, arith, append_assoc, append-nil, length-append, suc, inl, inr}
+use Rattle.std.proofs.Common.{◌≡◌, ℕ, ◌-◌, ◌<◌, ◌≤◌, zero, true, false, nat_eq, nat_le, Option, Some, None, List, [], ◌∷◌, ◌++◌, length, map, take, refl, ap, option_map, option_and_then, sym, ◌∙◌, arith, append_assoc, append-nil, length-append, ◌+◌, suc, inl, inr}
 use Rattle.std.proofs.lemmas.Bool.{cases_order}
 use Rattle.std.proofs.lemmas.Bool.Decides.{nat_tests}
 use Rattle.std.proofs.lemmas.Option.{same_Some, cond_some}
+use Rattle.std.specs.List.{concat}
 use Rattle.cov_base.specs.Meaning.{ImageView}
 use Rattle.session_book.specs.Meaning.{JobView}
-use Rattle.job_text.specs.Meaning.{DraftView, Controllers, are_met, bound, Present, LineView, listing_text, CardView, Cover, Module, Text, Listing, Phase, Session, Task, Reg, Data, Input, End, IsCard, card_at, no_job, with_module, with_task, joined, AreTexts, IsListed, IsModule, AreModules, AreSessions, IsTaskBlock, AreTasks, IsPhase, ArePhases, Spells, JobBegins}
+use Rattle.job_text.specs.Meaning.{DraftView, Controllers, are_met, bound, Present, LineView, listing_text, CardView, Cover, Module, Text, Listing, Phase, Session, Task, Reg, Data, Input, End, IsCard, card_at, no_job, with_module, with_task, joined, AreCards, IsListed, IsModule, IsTaskBlock, IsPhase, Spells, JobBegins, Lead, IsServiceCard, IsSessionCard, Serve}
+use Rattle.session_book.specs.declared.services.Service.{Service}
+use Rattle.job_text.specs.declared.grammar.Grammar.{Grammar}
 use Rattle.job_text.specs.TaskParts.{fresh_task, task_more}
 use Rattle.job_text.specs.declared.task.TaskPart.{TaskPart}
 use Rattle.job_text.specs.declared.limit.Limit.{Limit}
 use Rattle.job_text.specs.declared.parts.Part.{Part}
 use Rattle.job_text.specs.declared.parts.Part.TheVariants as part
-use Rattle.job_text.specs.Steps.{State, state, start, is_done, closed_module, closed_task, closed, no_bytes, with_bytes, module_over, line_over, phase_over, session_over, task_over, end, takes_raw, take_card, step, run}
+use Rattle.job_text.specs.Steps.{State, state, start, is_done, closed_module, closed_service, closed_task, closed, no_bytes, with_bytes, module_over, line_over, phase_over, session_over, task_over, end, takes_raw, take_card, step, run}
 use Rattle.job_text.proofs.Guards.{then_some}
-use Rattle.job_text.proofs.TaskCards.{more_step, more_run, cards_run}
+use Rattle.job_text.proofs.TaskCards.{cards_first, rise_from, more_step, more_run, cards_run}
 
 -- the state runs over the lines to one for which the fact holds
 pub record Reaches (ask : Controllers) (st : State) (ls : List LineView) (P : State → Type 0) : Type 0 where
@@ -41,10 +44,17 @@ reach_first ask st s l ls Q e r = record { end = r.end; runs = rw e r.runs; hold
 pub card_step : (ask : Controllers) (st s : State) (l : LineView) (c : CardView) → takes_raw st.part ≡ false → IsCard l c → take_card ask st c ≡ Some s → step ask st l ≡ Some s
 card_step ask st s l c raw card e = rw (raw, card) e
 
+pub service_of_module : (p : Part) (j k : DraftView) → closed_module p j ≡ Some k → closed_service p j ≡ Some k
+service_of_module part.Services j k e = absurd cc
+service_of_module p j k e = e
+
+pub closed_of_service : (ask : Controllers) (p : Part) (j k : DraftView) → closed_service p j ≡ Some k → closed ask p j ≡ Some k
+closed_of_service ask part.Sessions j k e = absurd cc
+closed_of_service ask (part.Task t) j k e = absurd cc
+closed_of_service ask p j k e = e
+
 pub closed_of_module : (ask : Controllers) (p : Part) (j k : DraftView) → closed_module p j ≡ Some k → closed ask p j ≡ Some k
-closed_of_module ask part.Sessions j k e = absurd cc
-closed_of_module ask (part.Task t) j k e = absurd cc
-closed_of_module ask p j k e = e
+closed_of_module ask p j k e = closed_of_service ask p j k (service_of_module p j k e)
 
 pub closed_of_task : (ask : Controllers) (p : Part) (j k : DraftView) → closed_task p j ≡ Some k → are_met ask k ≡ true → closed ask p j ≡ Some k
 closed_of_task ask part.Sessions j k e met = let same : j ≡ k = same_Some j k e in rw (same, met) refl
@@ -69,17 +79,25 @@ pub record Is (p : Part) (j : DraftView) (st : State) : Type 0 where
 is_here : (p : Part) (j : DraftView) (over : Option Limit) → Is p j (state p j over)
 is_here p j over = record { at = refl; is = refl }
 
-run_texts : (ask : Controllers) (ls : List LineView) (bytes : List ℕ) (i : ImageView) (j : DraftView) (over : Option Limit) → AreTexts ls bytes →
+run_texts : (ask : Controllers) (ls : List LineView) (parts : List (List ℕ)) (i : ImageView) (j : DraftView) (over : Option Limit) → AreCards Text parts ls →
+    Reaches ask (state (part.Texts i (length (concat parts))) j over) ls (Is (part.Texts (with_bytes i (concat parts)) 0) j)
+run_texts ask [] [] i j over are = rw (append-nil {A = ℕ}) (record { end = state (part.Texts i 0) j over; runs = refl; holds = is_here (part.Texts i 0) j over })
+run_texts ask [] (b ∷ bs) i j over are = absurd cc
+run_texts ask (l ∷ ls) [] i j over are = absurd cc
+run_texts ask (l ∷ ls) (b ∷ bs) i j over are =
+    let c = cards_first Text b bs l ls are in
+    let size : length (b ++ concat bs) ≡ length b + length (concat bs) = length-append b (concat bs) in
+    let fit : nat_le (length b) (length (b ++ concat bs)) ≡ true = grind (arith, nat_tests, size) in
+    let left : length (b ++ concat bs) - length b ≡ length (concat bs) = omega (arith, size) in
+    let now : State = state (part.Texts i (length (concat (b ∷ bs)))) j over in
+    let next : State = state (part.Texts (with_bytes i b) (length (concat bs))) j None in
+    let e : take_card ask now (Text b) ≡ Some next = rw (fit, left) refl in
+    let more : Reaches ask next ls (Is (part.Texts (with_bytes (with_bytes i b) (concat bs)) 0) j) = run_texts ask ls bs (with_bytes i b) j None c.1 in
+    reach_first ask now next l ls _ (card_step ask now next l (Text b) refl c.0 e) (rw (← append_assoc i.bytes b (concat bs)) more)
+
+run_filled : (ask : Controllers) (ls : List LineView) (parts : List (List ℕ)) (bytes : List ℕ) (i : ImageView) (j : DraftView) (over : Option Limit) → AreCards Text parts ls → bytes ≡ concat parts →
     Reaches ask (state (part.Texts i (length bytes)) j over) ls (Is (part.Texts (with_bytes i bytes) 0) j)
-run_texts ask [] bytes i j over are = rw (are, append-nil {A = ℕ}) (record { end = state (part.Texts i 0) j over; runs = refl; holds = is_here (part.Texts i 0) j over })
-run_texts ask (l ∷ ls) bytes i j over are =
-    let fit : nat_le (length are.first) (length bytes) ≡ true = rw are.whole (grind (arith, nat_tests, length-append {A = ℕ})) in
-    let left : length bytes - length are.first ≡ length are.others = rw are.whole (omega (arith, length-append {A = ℕ})) in
-    let now : State = state (part.Texts i (length bytes)) j over in
-    let next : State = state (part.Texts (with_bytes i are.first) (length are.others)) j None in
-    let e : take_card ask now (Text are.first) ≡ Some next = rw (fit, left) refl in
-    let more : Reaches ask next ls (Is (part.Texts (with_bytes (with_bytes i are.first) are.others) 0) j) = run_texts ask ls are.others (with_bytes i are.first) j None are.follows in
-    reach_first ask now next l ls _ (card_step ask now next l (Text are.first) refl are.card e) (rw (are.whole, ← append_assoc i.bytes are.first are.others) more)
+run_filled ask ls parts bytes i j over are e = rw e (run_texts ask ls parts i j over are)
 
 run_raw : (ask : Controllers) (ls : List LineView) (texts : List (List ℕ)) (i : ImageView) (j : DraftView) (over : Option Limit) →
     Reaches ask (state (part.Listed i (length ls) texts) j over) ls (Is (part.Listed i 0 (texts ++ map listing_text ls)) j)
@@ -97,6 +115,10 @@ run_raw ask (l ∷ ls) texts i j over =
 -- a module may come behind this job
 abbrev pub AtModules : DraftView → State → Type 0
 AtModules j st = closed_module st.part st.job ≡ Some j
+
+-- a service may come
+abbrev pub AtServices : DraftView → State → Type 0
+AtServices j st = closed_service st.part st.job ≡ Some j
 
 -- a phase or the end may come
 abbrev pub AtPhases : Controllers → DraftView → State → Type 0
@@ -123,22 +145,33 @@ run_module ask block j after st m a =
     let next : State = state (part.Texts (no_bytes m.image.name m.image.base) size) j (module_over j size) in
     let e : take_card ask st (Module m.image.name m.image.base size) ≡ Some next = rw (a, m.fit) refl in
     let raw : takes_raw st.part ≡ false = closed_raw ask st.part st.job j (closed_of_module ask st.part st.job j a) in
-    let texts : Reaches ask next m.texts (Is (part.Texts m.image 0) j) = run_texts ask m.texts m.image.bytes (no_bytes m.image.name m.image.base) j (module_over j size) m.are_texts in
+    let texts : Reaches ask next m.texts (Is (part.Texts m.image 0) j) = run_filled ask m.texts m.parts m.image.bytes (no_bytes m.image.name m.image.base) j (module_over j size) m.are_texts m.filled in
     rw (m.whole, m.is_after) (reach_first ask st next m.head (m.texts ++ m.listing) _ (card_step ask st next m.head _ raw m.card e)
     (reach_on ask next m.texts m.listing _ _ texts (λ s is. run_listed ask m.listing m.listed m.image j s m.is_listed is)))
 
-run_modules : (ask : Controllers) (blocks : List (List LineView)) (j after : DraftView) (st : State) → AreModules j blocks after → AtModules j st → Reaches ask st (joined blocks) (AtModules after)
+run_modules : (ask : Controllers) (blocks : List (List LineView)) (j after : DraftView) (st : State) → Lead IsModule j blocks after → AtModules j st → Reaches ask st (joined blocks) (AtModules after)
 run_modules ask [] j after st are a = rw (← are) (record { end = st; runs = refl; holds = a })
 run_modules ask (block ∷ blocks) j after st are a =
-    reach_on ask st block (joined blocks) _ _ (run_module ask block j are.mid st are.is_module a) (λ s b. run_modules ask blocks are.mid after s are.follows b)
+    reach_on ask st block (joined blocks) _ _ (run_module ask block j are.mid st are.is a) (λ s b. run_modules ask blocks are.mid after s are.follows b)
 
-run_sessions : (ask : Controllers) (ls : List LineView) (j after : DraftView) (st : State) → AreSessions j ls after → Is part.Sessions j st → Reaches ask st ls (Is part.Sessions after)
+run_service : (ask : Controllers) (l : LineView) (j after : DraftView) (st : State) → IsServiceCard j l after → AtServices j st → step ask st l ≡ Some (state part.Services after None)
+run_service ask l j after st m a =
+    let e : take_card ask st (Serve m.service) ≡ Some (state part.Services after None) = rw (a, m.adds) refl in
+    card_step ask st _ l _ (closed_raw ask st.part st.job j (closed_of_service ask st.part st.job j a)) m.card e
+
+run_services : (ask : Controllers) (ls : List LineView) (j after : DraftView) (st : State) → Lead IsServiceCard j ls after → AtServices j st → Reaches ask st ls (AtServices after)
+run_services ask [] j after st are a = rw (← are) (record { end = st; runs = refl; holds = a })
+run_services ask (l ∷ ls) j after st are a =
+    let next : State = state part.Services are.mid None in
+    reach_first ask st next l ls _ (run_service ask l j are.mid st are.is a) (run_services ask ls are.mid after next are.follows refl)
+
+run_sessions : (ask : Controllers) (ls : List LineView) (j after : DraftView) (st : State) → Lead IsSessionCard j ls after → Is part.Sessions j st → Reaches ask st ls (Is part.Sessions after)
 run_sessions ask [] j after st are a = rw (← are) (record { end = st; runs = refl; holds = a })
 run_sessions ask (l ∷ ls) j after st are a =
     let next : State = state part.Sessions are.mid (session_over j) in
-    let e : take_card ask st (Session are.name are.by are.names) ≡ Some next = rw (a.at, a.is, are.adds) refl in
+    let e : take_card ask st (Session are.is.name are.is.by are.is.names) ≡ Some next = rw (a.at, a.is, are.is.adds) refl in
     let raw : takes_raw st.part ≡ false = rw a.at refl in
-    reach_first ask st next l ls _ (card_step ask st next l _ raw are.card e) (run_sessions ask ls are.mid after next are.follows (is_here part.Sessions are.mid (session_over j)))
+    reach_first ask st next l ls _ (card_step ask st next l _ raw are.is.card e) (run_sessions ask ls are.mid after next are.follows (is_here part.Sessions are.mid (session_over j)))
 
 -- further cards of a task
 run_more : (ask : Controllers) (ls : List LineView) (t u : TaskPart) (j : DraftView) (over : Option Limit) → more_run t ls ≡ Some u → Reaches ask (state (part.Task t) j over) ls (Is (part.Task u) j)
@@ -155,6 +188,7 @@ run_more ask (l ∷ ls) t u j over e =
     more_taken ask (Module n b s) t u j over e = absurd cc
     more_taken ask (Text bytes) t u j over e = absurd cc
     more_taken ask (Listing n) t u j over e = absurd cc
+    more_taken ask (Serve s) t u j over e = absurd cc
     more_taken ask (Phase n) t u j over e = absurd cc
     more_taken ask (Session n by ns) t u j over e = absurd cc
     more_taken ask (Task n e p b r) t u j over f = absurd cc
@@ -168,15 +202,15 @@ run_task ask block j after st m a =
     let next : State = state (part.Task first) j over in
     let e : take_card ask st (Task m.name m.entry m.private m.budget m.room) ≡ Some next = rw (a, m.new) refl in
     let raw : takes_raw st.part ≡ false = task_raw st.part st.job j a in
-    let r = cards_run m.regs m.cards m.inputs m.reg_lines m.data_lines m.input_lines first.task 0 m.are_regs m.are_data m.are_inputs in
+    let r = cards_run m.regs m.cards m.inputs m.reg_lines m.data_lines m.input_lines first.task 0 m.are_regs (rise_from 0 m.regs (λ k d l. omega arith) m.rise) m.are_data m.inside m.are_inputs in
     let more = run_more ask (m.reg_lines ++ (m.data_lines ++ m.input_lines)) first _ j over r.runs in
     let holds : AtTasks after more.end = rw (more.holds.at, more.holds.is, m.is_after) refl in
     rw m.whole (reach_first ask st next m.head _ _ (card_step ask st next m.head _ raw m.card e) (record { end = more.end; runs = more.runs; holds = holds }))
 
-run_tasks : (ask : Controllers) (blocks : List (List LineView)) (j after : DraftView) (st : State) → AreTasks j blocks after → AtTasks j st → Reaches ask st (joined blocks) (AtTasks after)
+run_tasks : (ask : Controllers) (blocks : List (List LineView)) (j after : DraftView) (st : State) → Lead IsTaskBlock j blocks after → AtTasks j st → Reaches ask st (joined blocks) (AtTasks after)
 run_tasks ask [] j after st are a = rw (← are) (record { end = st; runs = refl; holds = a })
 run_tasks ask (block ∷ blocks) j after st are a =
-    reach_on ask st block (joined blocks) _ _ (run_task ask block j are.mid st are.is_task a) (λ s b. run_tasks ask blocks are.mid after s are.follows b)
+    reach_on ask st block (joined blocks) _ _ (run_task ask block j are.mid st are.is a) (λ s b. run_tasks ask blocks are.mid after s are.follows b)
 
 run_phase : (ask : Controllers) (block : List LineView) (j after : DraftView) (st : State) → IsPhase ask j block after → AtPhases ask j st → Reaches ask st block (AtPhases ask after)
 run_phase ask block j after st m a =
@@ -189,10 +223,10 @@ run_phase ask block j after st m a =
     let r : Reaches ask s (joined m.tasks) (AtTasks after) = run_tasks ask m.tasks m.mid after s m.are_tasks in_tasks in
     record { end = r.end; runs = r.runs; holds = closed_of_task ask r.end.part r.end.job after r.holds m.met })))
 
-run_phases : (ask : Controllers) (blocks : List (List LineView)) (j after : DraftView) (st : State) → ArePhases ask j blocks after → AtPhases ask j st → Reaches ask st (joined blocks) (AtPhases ask after)
+run_phases : (ask : Controllers) (blocks : List (List LineView)) (j after : DraftView) (st : State) → Lead (IsPhase ask) j blocks after → AtPhases ask j st → Reaches ask st (joined blocks) (AtPhases ask after)
 run_phases ask [] j after st are a = rw (← are) (record { end = st; runs = refl; holds = a })
 run_phases ask (block ∷ blocks) j after st are a =
-    reach_on ask st block (joined blocks) _ _ (run_phase ask block j are.mid st are.is_phase a) (λ s b. run_phases ask blocks are.mid after s are.follows b)
+    reach_on ask st block (joined blocks) _ _ (run_phase ask block j are.mid st are.is a) (λ s b. run_phases ask blocks are.mid after s are.follows b)
 
 run_end : (ask : Controllers) (l : LineView) (j : DraftView) (st : State) → IsCard l End → AtPhases ask j st → Reaches ask st (l ∷ []) (Is part.Done j)
 run_end ask l j st card a =
@@ -205,20 +239,21 @@ pub record Ends (job : JobView) (st : State) : Type 0 where
   pub is : bound st.job ≡ job
 
 -- lines that spell a job run to its end
-pub run_spelled : (ask : Controllers) (lines : List LineView) (job : JobView) → Spells ask lines job → Reaches ask start lines (Ends job)
-run_spelled ask lines job s =
-    let next : State = state part.Modules no_job None in
-    let r : Reaches ask start lines (Is part.Done s.draft) = rw s.whole (reach_first ask start next s.first _ _ (card_step ask start next s.first _ refl s.cover refl)
-    (reach_on ask next (joined s.modules) (joined s.phases ++ s.last ∷ []) _ _ (run_modules ask s.modules no_job s.mid next s.are_modules refl)
-    (λ t a. reach_on ask t (joined s.phases) (s.last ∷ []) _ _ (run_phases ask s.phases s.mid s.draft t s.are_phases (closed_of_module ask t.part t.job s.mid a))
-    (λ u b. run_end ask s.last s.draft u s.ends b)))) in
+pub run_spelled : {cards : Grammar} (ask : Controllers) (lines : List LineView) (job : JobView) → Spells cards ask lines job → Reaches ask (start cards) lines (Ends job)
+run_spelled {cards} ask lines job s =
+    let next : State = state part.Modules (no_job cards) None in
+    let r : Reaches ask (start cards) lines (Is part.Done s.draft) = rw s.whole (reach_first ask (start cards) next s.first _ _ (card_step ask (start cards) next s.first _ refl s.cover refl)
+    (reach_on ask next (joined s.modules) (s.services ++ (joined s.phases ++ s.last ∷ [])) _ _ (run_modules ask s.modules (no_job cards) s.mid next s.are_modules refl)
+    (λ t a. reach_on ask t s.services (joined s.phases ++ s.last ∷ []) _ _ (run_services ask s.services s.mid s.served t s.are_services (service_of_module t.part t.job s.mid a))
+    (λ u b. reach_on ask u (joined s.phases) (s.last ∷ []) _ _ (run_phases ask s.phases s.served s.draft u s.are_phases (closed_of_service ask u.part u.job s.served b))
+    (λ v c. run_end ask s.last s.draft v s.ends c))))) in
     record { end = r.end; runs = r.runs; holds = record { at = r.holds.at; is = ap bound r.holds.is ∙ sym s.is } }
 
 -- lines that begin a job run
-pub run_begun : (lines : List LineView) → JobBegins lines → Reaches Present start lines (λ s. Unit {0})
-run_begun lines b =
+pub run_begun : {cards : Grammar} (lines : List LineView) → JobBegins cards lines → Reaches Present (start cards) lines (λ s. Unit {0})
+run_begun {cards} lines b =
     let r = run_spelled Present (lines ++ b.rest) b.job b.spells in
-    let t = then_some (λ s. run Present s b.rest) (run Present start lines) r.end (sym (run_append Present start lines b.rest) ∙ r.runs) in
+    let t = then_some (λ s. run Present s b.rest) (run Present (start cards) lines) r.end (sym (run_append Present (start cards) lines b.rest) ∙ r.runs) in
     record { end = t.from; runs = t.was; holds = tt }
 
 -- a job that was read stands still
@@ -228,6 +263,7 @@ done_card ask Cover j over = refl
 done_card ask (Module n b s) j over = refl
 done_card ask (Text bytes) j over = refl
 done_card ask (Listing n) j over = refl
+done_card ask (Serve s) j over = refl
 done_card ask (Phase n) j over = refl
 done_card ask (Session n by ns) j over = refl
 done_card ask (Task n e p b r) j over = refl
@@ -252,8 +288,8 @@ done_run ask st (l ∷ ls) e d r =
     absurd cc
 
 -- lines that spell a job begin no longer lines that spell one
-no_longer : (ask : Controllers) (a b : List LineView) (s t : State) → run ask start a ≡ Some s → is_done s.part ≡ true → run ask start (a ++ b) ≡ Some t → b ≡ []
-no_longer ask a b s t r d q = done_run ask s b t d ((rw (run_append ask start a b, r) at q))
+no_longer : (cards : Grammar) (ask : Controllers) (a b : List LineView) (s t : State) → run ask (start cards) a ≡ Some s → is_done s.part ≡ true → run ask (start cards) (a ++ b) ≡ Some t → b ≡ []
+no_longer cards ask a b s t r d q = done_run ask s b t d ((rw (run_append ask (start cards) a b, r) at q))
 
 record Longer (ls : List LineView) (k n : ℕ) : Type 0 where
   line : LineView
@@ -269,28 +305,28 @@ longer (x ∷ xs) (suc k) (suc n) h m =
     let r : Longer xs k n = longer xs k n (omega arith) (omega arith) in
     record { line = r.line; more = r.more; taken = ap (λ (y : List LineView). x ∷ y) r.taken }
 
-pub not_later : (ask : Controllers) (ls : List LineView) (k n : ℕ) (s t : State) → k < n → n ≤ length ls → run ask start (take k ls) ≡ Some s → is_done s.part ≡ true → run ask start (take n ls) ≡ Some t → ⊥
-not_later ask ls k n s t h m r d q =
+pub not_later : (cards : Grammar) (ask : Controllers) (ls : List LineView) (k n : ℕ) (s t : State) → k < n → n ≤ length ls → run ask (start cards) (take k ls) ≡ Some s → is_done s.part ≡ true → run ask (start cards) (take n ls) ≡ Some t → ⊥
+not_later cards ask ls k n s t h m r d q =
     let x : Longer ls k n = longer ls k n h m in
-    let none : x.line ∷ x.more ≡ [] = no_longer ask (take k ls) (x.line ∷ x.more) s t r d (rw x.taken at q) in
+    let none : x.line ∷ x.more ≡ [] = no_longer cards ask (take k ls) (x.line ∷ x.more) s t r d (rw x.taken at q) in
     absurd cc
 
 -- the job that was read is the only one that some first lines spell
-pub alone : (ask : Controllers) (ls : List LineView) (k n : ℕ) (s : State) (job : JobView) → k ≤ length ls → run ask start (take k ls) ≡ Some s → is_done s.part ≡ true → n ≤ length ls → Spells ask (take n ls) job → (bound s.job ≡ job) × (k ≡ n)
-alone ask ls k n s job within r d h p =
-    let x : Reaches ask start (take n ls) (Ends job) = run_spelled ask (take n ls) job p in
+pub alone : {cards : Grammar} (ask : Controllers) (ls : List LineView) (k n : ℕ) (s : State) (job : JobView) → k ≤ length ls → run ask (start cards) (take k ls) ≡ Some s → is_done s.part ≡ true → n ≤ length ls → Spells cards ask (take n ls) job → (bound s.job ≡ job) × (k ≡ n)
+alone {cards} ask ls k n s job within r d h p =
+    let x : Reaches ask (start cards) (take n ls) (Ends job) = run_spelled ask (take n ls) job p in
     let done : is_done x.end.part ≡ true = ap is_done x.holds.at in
     let same : k ≡ n = elim (cases_order k n) [
       | inl e ↦ e
-      | inr y ↦ (elim y [ inl l ↦ absurd (not_later ask ls k n s x.end l h r d x.runs) | inr l ↦ absurd (not_later ask ls n k x.end s l within x.runs done r) ])
+      | inr y ↦ (elim y [ inl l ↦ absurd (not_later cards ask ls k n s x.end l h r d x.runs) | inr l ↦ absurd (not_later cards ask ls n k x.end s l within x.runs done r) ])
     ] in
-    let t : run ask start (take n ls) ≡ Some s = (rw same at r) in
+    let t : run ask (start cards) (take n ls) ≡ Some s = (rw same at r) in
     let end : s ≡ x.end = same_Some s x.end (sym t ∙ x.runs) in
     (ap (λ (y : State). bound y.job) end ∙ x.holds.is, same)
 
 -- no lines that spell a job begin others that spell one
-pub one_first : (ask : Controllers) (ls : List LineView) (m n : ℕ) (j k : JobView) → m ≤ length ls → n ≤ length ls → Spells ask (take m ls) j → Spells ask (take n ls) k → (m ≡ n) × (j ≡ k)
-one_first ask ls m n j k h i p q =
-    let x : Reaches ask start (take m ls) (Ends j) = run_spelled ask (take m ls) j p in
+pub one_first : {cards : Grammar} (ask : Controllers) (ls : List LineView) (m n : ℕ) (j k : JobView) → m ≤ length ls → n ≤ length ls → Spells cards ask (take m ls) j → Spells cards ask (take n ls) k → (m ≡ n) × (j ≡ k)
+one_first {cards} ask ls m n j k h i p q =
+    let x : Reaches ask (start cards) (take m ls) (Ends j) = run_spelled ask (take m ls) j p in
     let a = alone ask ls m n x.end k h x.runs (ap is_done x.holds.at) i q in
     (a.1, sym x.holds.is ∙ a.0)

@@ -5,6 +5,7 @@ use Rattle.std.proofs.lemmas.List.{length-drop}
 use Rattle.std.proofs.lemmas.Option.{same_Some}
 use Rattle.session_book.specs.Meaning.{JobView}
 use Rattle.job_text.specs.Meaning.{DraftView, Named, Present, bound, LineView, lines_of, Spells, keeps, IsWithin, Passes, GoesOn, IsBadAt, IsOverAt}
+use Rattle.job_text.specs.declared.grammar.Grammar.{Grammar}
 use Rattle.job_text.specs.Refusals.{IsRead}
 use Rattle.job_text.specs.declared.jobs.ReadJob.{ReadJob}
 use Rattle.job_text.specs.declared.limit.Limit.{Limit}
@@ -45,48 +46,48 @@ at_line ls n l more e =
     let one : n + 1 ≡ suc n = omega arith in
     record { inside = a.inside; taken = rw one a.taken; left = rw one a.left }
 
-run_last : (ls : List LineView) (n : ℕ) (l : LineView) (more : List LineView) (s : State) → drop n ls ≡ l ∷ more → run Present start (take n ls) ≡ Some s → run Present start (take (n + 1) ls) ≡ option_and_then (λ t. Some t) (step Present s l)
-run_last ls n l more s d e = rw ((at_line ls n l more d).taken, run_append Present start (take n ls) (l ∷ []), e) refl
+run_last : (cards : Grammar) (ls : List LineView) (n : ℕ) (l : LineView) (more : List LineView) (s : State) → drop n ls ≡ l ∷ more → run Present (start cards) (take n ls) ≡ Some s → run Present (start cards) (take (n + 1) ls) ≡ option_and_then (λ t. Some t) (step Present s l)
+run_last cards ls n l more s d e = rw ((at_line ls n l more d).taken, run_append Present (start cards) (take n ls) (l ∷ []), e) refl
 
-run_on : (ls : List LineView) (n : ℕ) (l : LineView) (more : List LineView) (s t : State) → drop n ls ≡ l ∷ more → run Present start (take n ls) ≡ Some s → step Present s l ≡ Some t → run Present start (take (n + 1) ls) ≡ Some t
-run_on ls n l more s t d e f = run_last ls n l more s d e ∙ (rw f refl)
+run_on : (cards : Grammar) (ls : List LineView) (n : ℕ) (l : LineView) (more : List LineView) (s t : State) → drop n ls ≡ l ∷ more → run Present (start cards) (take n ls) ≡ Some s → step Present s l ≡ Some t → run Present (start cards) (take (n + 1) ls) ≡ Some t
+run_on cards ls n l more s t d e f = run_last cards ls n l more s d e ∙ (rw f refl)
 
 -- what is over a limit stays over it
-pub over_passes : (ls : List LineView) (s : State) (w : Limit) → run Present start ls ≡ Some s → keeps w (sofar s) ≡ false → Passes w ls
-over_passes ls s w r e rest job p =
-    let x : Reaches Named start (ls ++ rest) (Ends job) = run_spelled Named (ls ++ rest) job p in
-    let t : run Named s rest ≡ Some x.end = (rw (run_append Named start ls rest, named_run Present ls start s r) at x.runs) in
+pub over_passes : {cards : Grammar} (ls : List LineView) (s : State) (w : Limit) → run Present (start cards) ls ≡ Some s → keeps w (sofar s) ≡ false → Passes cards w ls
+over_passes {cards} ls s w r e rest job p =
+    let x : Reaches Named (start cards) (ls ++ rest) (Ends job) = run_spelled Named (ls ++ rest) job p in
+    let t : run Named s rest ≡ Some x.end = (rw (run_append Named (start cards) ls rest, named_run Present ls (start cards) s r) at x.runs) in
     let same : sofar x.end ≡ job = rw (x.holds.at, x.holds.is) refl in
     false_from_ne_true (keeps w job) (λ k. let m : keeps w (sofar s) ≡ true = run_more Named rest s x.end t w (rw same k) in let no : true ≡ false = sym m ∙ e in absurd cc)
 
-pub kept_passes : (ls : List LineView) (s : State) (w : Limit) → run Present start ls ≡ Some s → keeps w (sofar s) ≡ true → Passes w ls → ⊥
+pub kept_passes : {cards : Grammar} (ls : List LineView) (s : State) (w : Limit) → run Present (start cards) ls ≡ Some s → keeps w (sofar s) ≡ true → Passes cards w ls → ⊥
 kept_passes ls s w r e p =
     let b = run_announces Present ls s r in
     let over : keeps w (sofar s) ≡ false = p b.rest (sofar s) b.spells in
     let no : true ≡ false = sym e ∙ over in
     absurd cc
 
-pub goes_on : (ls : List LineView) (s : State) → run Present start ls ≡ Some s → IsWithin (sofar s) → GoesOn ls
+pub goes_on : {cards : Grammar} (ls : List LineView) (s : State) → run Present (start cards) ls ≡ Some s → IsWithin (sofar s) → GoesOn cards ls
 goes_on ls s r within = record { begins = run_begins ls s r; within = λ w. kept_passes ls s w r (within w) }
 
-pub bad_here : (ls : List LineView) (n : ℕ) (l : LineView) (more : List LineView) (s : State) → drop n ls ≡ l ∷ more → run Present start (take n ls) ≡ Some s → IsWithin (sofar s) → step Present s l ≡ None → IsBadAt ls (n + 1)
-bad_here ls n l more s d e within f =
-    let stuck : run Present start (take (n + 1) ls) ≡ None = run_last ls n l more s d e ∙ (rw f refl) in
+pub bad_here : {cards : Grammar} (ls : List LineView) (n : ℕ) (l : LineView) (more : List LineView) (s : State) → drop n ls ≡ l ∷ more → run Present (start cards) (take n ls) ≡ Some s → IsWithin (sofar s) → step Present s l ≡ None → IsBadAt cards ls (n + 1)
+bad_here {cards} ls n l more s d e within f =
+    let stuck : run Present (start cards) (take (n + 1) ls) ≡ None = run_last cards ls n l more s d e ∙ (rw f refl) in
     let same : n + 1 - 1 ≡ n = omega arith in
     let inside : n < length ls = (at_line ls n l more d).inside in
     record {
       counts = omega arith;
       before = rw same (goes_on (take n ls) s e within);
-      here = inl (omega (arith, inside), λ b. let r : Reaches Present start (take (n + 1) ls) (λ s. Unit {0}) = run_begun (take (n + 1) ls) b in let no : None ≡ Some r.end = sym stuck ∙ r.runs in absurd cc);
+      here = inl (omega (arith, inside), λ b. let r : Reaches Present (start cards) (take (n + 1) ls) (λ s. Unit {0}) = run_begun (take (n + 1) ls) b in let no : None ≡ Some r.end = sym stuck ∙ r.runs in absurd cc);
     }
 
-pub over_here : (ls : List LineView) (n : ℕ) (l : LineView) (more : List LineView) (s : State) (what : Limit) → drop n ls ≡ l ∷ more → run Present start (take n ls) ≡ Some s → IsWithin (sofar s) →
-    option_map (λ t. t.over) (step Present s l) ≡ Some (Some what) → IsOverAt ls what (n + 1)
-over_here ls n l more s what d e within f =
+pub over_here : {cards : Grammar} (ls : List LineView) (n : ℕ) (l : LineView) (more : List LineView) (s : State) (what : Limit) → drop n ls ≡ l ∷ more → run Present (start cards) (take n ls) ≡ Some s → IsWithin (sofar s) →
+    option_map (λ t. t.over) (step Present s l) ≡ Some (Some what) → IsOverAt cards ls what (n + 1)
+over_here {cards} ls n l more s what d e within f =
     let m : FromMap (λ t. t.over) (step Present s l) (Some what) = map_some (λ t. t.over) (step Present s l) (Some what) f in
     let same : n + 1 - 1 ≡ n = omega arith in
     let inside : n < length ls = (at_line ls n l more d).inside in
-    let r : run Present start (take (n + 1) ls) ≡ Some m.from = run_on ls n l more s m.from d e m.was in
+    let r : run Present (start cards) (take (n + 1) ls) ≡ Some m.from = run_on cards ls n l more s m.from d e m.was in
     let judged : Judged (Some what) (sofar m.from) = subst (λ (o : Option Limit). Judged o (sofar m.from)) m.gives ((step_grows Present s m.from l m.was).judged within) in
     record {
       counts = omega arith;
@@ -103,8 +104,8 @@ whole_take ls n d = take_all (take n ls) (drop n ls) d ∙ take-append-drop n ls
     take_all : (a b : List LineView) → b ≡ [] → a ≡ a ++ b
     take_all a b e = rw (e, append-nil {A = LineView}) refl
 
-pub ends_early : (ls : List LineView) (n : ℕ) (s : State) → drop n ls ≡ [] → n ≤ length ls → run Present start (take n ls) ≡ Some s → IsWithin (sofar s) → is_done s.part ≡ false → IsBadAt ls (n + 1)
-ends_early ls n s d h e within f =
+pub ends_early : {cards : Grammar} (ls : List LineView) (n : ℕ) (s : State) → drop n ls ≡ [] → n ≤ length ls → run Present (start cards) (take n ls) ≡ Some s → IsWithin (sofar s) → is_done s.part ≡ false → IsBadAt cards ls (n + 1)
+ends_early {cards} ls n s d h e within f =
     let whole : take n ls ≡ ls = whole_take ls n d in
     let a : length (drop n ls) ≡ length ls - n = length-drop n ls in
     let b : length (drop n ls) ≡ 0 = ap (λ (x : List LineView). length x) d in
@@ -116,7 +117,7 @@ ends_early ls n s d h e within f =
       here = inr (
         omega (arith, all),
         λ job p.
-            let r : Reaches Present start ls (Ends job) = run_spelled Present ls job p in
+            let r : Reaches Present (start cards) ls (Ends job) = run_spelled Present ls job p in
             let end : r.end ≡ s = same_Some r.end s (sym r.runs ∙ (rw whole at e)) in
             let no : true ≡ false = sym (ap is_done r.holds.at) ∙ (ap (λ (t : State). is_done t.part) end ∙ f) in absurd cc,
       );
@@ -125,20 +126,20 @@ ends_early ls n s d h e within f =
 -- what the lines that were read leave out
 
 -- none of the lines that were read ends a job
-none_yet : (ls : List LineView) (k n : ℕ) (s : State) (job : JobView) → k ≤ length ls → run Present start (take k ls) ≡ Some s → is_done s.part ≡ false → n ≤ k → Spells Present (take n ls) job → ⊥
-none_yet ls k n s job inside r d h p =
-    let x : Reaches Present start (take n ls) (Ends job) = run_spelled Present (take n ls) job p in
+none_yet : {cards : Grammar} (ls : List LineView) (k n : ℕ) (s : State) (job : JobView) → k ≤ length ls → run Present (start cards) (take k ls) ≡ Some s → is_done s.part ≡ false → n ≤ k → Spells cards Present (take n ls) job → ⊥
+none_yet {cards} ls k n s job inside r d h p =
+    let x : Reaches Present (start cards) (take n ls) (Ends job) = run_spelled Present (take n ls) job p in
     let done : is_done x.end.part ≡ true = ap is_done x.holds.at in
     elim (cases_order n k) [
-      | inl e ↦ (let t : run Present start (take n ls) ≡ Some s = (rw (← e) at r) in
+      | inl e ↦ (let t : run Present (start cards) (take n ls) ≡ Some s = (rw (← e) at r) in
           let end : s ≡ x.end = same_Some s x.end (sym t ∙ x.runs) in
           let no : true ≡ false = sym done ∙ (sym (ap (λ (y : State). is_done y.part) end) ∙ d) in
           absurd cc)
-      | inr y ↦ (elim y [ inl l ↦ not_later Present ls n k x.end s l inside x.runs done r | inr l ↦ absurd (omega (arith, l, h)) ])
+      | inr y ↦ (elim y [ inl l ↦ not_later cards Present ls n k x.end s l inside x.runs done r | inr l ↦ absurd (omega (arith, l, h)) ])
     ]
 
 -- where the next line is bad no first lines spell a job
-pub bad_none : (ls : List LineView) (k n : ℕ) (s : State) (job : JobView) → k ≤ length ls → run Present start (take k ls) ≡ Some s → is_done s.part ≡ false → IsBadAt ls (k + 1) → n ≤ length ls → Spells Present (take n ls) job → ⊥
+pub bad_none : {cards : Grammar} (ls : List LineView) (k n : ℕ) (s : State) (job : JobView) → k ≤ length ls → run Present (start cards) (take k ls) ≡ Some s → is_done s.part ≡ false → IsBadAt cards ls (k + 1) → n ≤ length ls → Spells cards Present (take n ls) job → ⊥
 bad_none ls k n s job inside r d b h p = elim (cases_lt k n) [
   | inl l ↦ bad_later ls job (k + 1) n (omega (arith, l)) h p b
   | inr l ↦ none_yet ls k n s job inside r d l p
@@ -169,15 +170,15 @@ pub drop_front : (a b : List LineView) → drop (length a) (a ++ b) ≡ b
 drop_front [] b = refl
 drop_front (x ∷ xs) b = drop_front xs b
 
-bad_next : (a b : List LineView) (job : JobView) → Spells Present a job → IsWithin job → (b ≡ [] → ⊥) → IsBadAt (a ++ b) (length a + 1)
-bad_next a [] job p within some = absurd (some refl)
-bad_next a (l ∷ ls) job p within some =
-    let r : Reaches Present start a (Ends job) = run_spelled Present a job p in
+bad_next : {cards : Grammar} (a b : List LineView) (job : JobView) → Spells cards Present a job → IsWithin job → (b ≡ [] → ⊥) → IsBadAt cards (a ++ b) (length a + 1)
+bad_next {cards} a [] job p within some = absurd (some refl)
+bad_next {cards} a (l ∷ ls) job p within some =
+    let r : Reaches Present (start cards) a (Ends job) = run_spelled Present a job p in
     let done : is_done r.end.part ≡ true = ap is_done r.holds.at in
     let same : sofar r.end ≡ job = rw (r.holds.at, r.holds.is) refl in
     let stop : step Present r.end l ≡ None = done_step Present r.end.part r.end.job r.end.over l done in
     bad_here (a ++ l ∷ ls) (length a) l ls r.end (drop_front a (l ∷ ls)) (rw (take_front a (l ∷ ls)) r.runs) (subst IsWithin (sym same) within) stop
 
-pub bad_behind : (input : List ℕ) (r : ReadJob) → IsRead input r → r.end < length input → IsBadAt (lines_of input) (r.lines + 1)
+pub bad_behind : {cards : Grammar} (input : List ℕ) (r : ReadJob) → IsRead cards input r → r.end < length input → IsBadAt cards (lines_of input) (r.lines + 1)
 bad_behind input r i h =
     rw (i.parted, ← i.count) (bad_next (lines_of (take r.end input)) (lines_of (drop r.end input)) r.job i.spells i.within (λ none. some_left input r.end h (no_lines (drop r.end input) none)))

@@ -19,11 +19,13 @@ use Rattle.session_book.specs.Meaning.{JobView, SessionView, TaskView, first_reg
 use Rattle.session_book.specs.JobView.{IsJob, IsSession, IsListing, IsTaskOf, HasController, AreParted}
 use Rattle.names.specs.Lists.{Differ}
 use Rattle.session_book.specs.JobView as book
-use Rattle.job_text.specs.Meaning.{SessionDraft, DraftView, Controllers, Present, is_controller, controller_of, is_met_by, is_met, are_met, bound_session, bound, LineView, Module, Session, Task, may_stand, RegView, set_regs, AreData, task_view, no_job, has_module, is_clear, with_phase, this_phase, is_same_controller, bars, index_of, is_free, put_index, indices_on, session_draft, with_session, AreModules, IsModule, AreSessions, IsTaskBlock, AreTasks, IsPhase, ArePhases, Spells, are_short, IsWithin}
+use Rattle.job_text.specs.Meaning.{SessionDraft, DraftView, Controllers, Present, is_controller, controller_of, is_met_by, is_met, are_met, bound_session, bound, LineView, Module, Session, Task, may_stand, RegView, set_regs, task_view, no_job, has_module, is_clear, with_phase, this_phase, is_same_controller, bars, index_of, is_free, put_index, indices_on, session_draft, with_session, IsModule, IsTaskBlock, IsPhase, Spells, are_short, IsWithin, Lead, IsServiceCard, IsSessionCard, with_service}
+use Rattle.session_book.specs.declared.services.Service.{Service}
+use Rattle.job_text.specs.declared.grammar.Grammar.{Grammar}
 use Rattle.job_text.specs.declared.limit.Limit.TheVariants as limit
 use Rattle.job_text.specs.Steps.{State, start, is_done, run}
 use Rattle.job_text.proofs.Guards.{guard_none}
-use Rattle.job_text.proofs.Named.{session_added}
+use Rattle.job_text.proofs.Named.{service_added, session_added}
 use Rattle.job_text.proofs.CardFacts.{Good, card_good}
 use Rattle.job_text.proofs.Rests.{run_spells}
 use Rattle.job_text.proofs.Shortest.{sofar}
@@ -84,8 +86,8 @@ record SoFar (j : DraftView) : Type 0 where
 no_pairs : {X : Type 0} (R : X → X → Type 0) → AllPairs R []
 no_pairs R = λ i j d l m. absurd (omega arith)
 
-none_so_far : SoFar no_job
-none_so_far = record {
+none_so_far : (cards : Grammar) → SoFar (no_job cards)
+none_so_far cards = record {
   listings = refl;
   each = All-nil IsImage;
   apart = no_pairs AreClear;
@@ -148,9 +150,29 @@ module_so_far block j after m s =
       task_names = s.task_names;
     })
 
-modules_so_far : (blocks : List (List LineView)) (j after : DraftView) → AreModules j blocks after → SoFar j → SoFar after
+modules_so_far : (blocks : List (List LineView)) (j after : DraftView) → Lead IsModule j blocks after → SoFar j → SoFar after
 modules_so_far [] j after are s = rw (← are) s
-modules_so_far (block ∷ blocks) j after are s = modules_so_far blocks are.mid after are.follows (module_so_far block j are.mid are.is_module s)
+modules_so_far (block ∷ blocks) j after are s = modules_so_far blocks are.mid after are.follows (module_so_far block j are.mid are.is s)
+
+-- services
+
+service_so_far : (j after : DraftView) (v : Service) → with_service j v ≡ Some after → SoFar j → SoFar after
+service_so_far j after v e s = rw (← (service_added j after v e).is) (record {
+  listings = s.listings;
+  each = s.each;
+  apart = s.apart;
+  are_sessions = s.are_sessions;
+  parted = s.parted;
+  are_tasks = s.are_tasks;
+  module_names = s.module_names;
+  phase_names = s.phase_names;
+  session_names = s.session_names;
+  task_names = s.task_names;
+})
+
+services_so_far : (ls : List LineView) (j after : DraftView) → Lead IsServiceCard j ls after → SoFar j → SoFar after
+services_so_far [] j after are s = rw (← are) s
+services_so_far (l ∷ ls) j after are s = services_so_far ls are.mid after are.follows (service_so_far j are.mid are.is.service are.is.adds s)
 
 -- phases
 
@@ -269,11 +291,11 @@ record InPhase (j : DraftView) : Type 0 where
   so_far : SoFar j
   phase : 1 ≤ length j.phases
 
-sessions_so_far : (ls : List LineView) (j after : DraftView) → AreSessions j ls after → InPhase j → InPhase after
+sessions_so_far : (ls : List LineView) (j after : DraftView) → Lead IsSessionCard j ls after → InPhase j → InPhase after
 sessions_so_far [] j after are s = rw (← are) s
 sessions_so_far (l ∷ ls) j after are s =
-    let good : Good (Session are.name are.by are.names) = card_good l.bytes (Session are.name are.by are.names) are.card in
-    let next : InPhase are.mid = record { so_far = session_so_far j are.mid are.name are.by are.names are.adds good.1 s.phase s.so_far; phase = rw (session_phases j are.mid are.name are.by are.names are.adds) s.phase } in
+    let good : Good (Session are.is.name are.is.by are.is.names) = card_good l.bytes (Session are.is.name are.is.by are.is.names) are.is.card in
+    let next : InPhase are.mid = record { so_far = session_so_far j are.mid are.is.name are.is.by are.is.names are.is.adds good.1 s.phase s.so_far; phase = rw (session_phases j are.mid are.is.name are.is.by are.is.names are.is.adds) s.phase } in
     sessions_so_far ls are.mid after are.follows next
 
 -- tasks
@@ -281,14 +303,6 @@ sessions_so_far (l ∷ ls) j after are s =
 pub regs_count : (regs : List ℕ) (rs : List RegView) → length (set_regs regs rs) ≡ length regs
 regs_count regs [] = refl
 regs_count regs (r ∷ rs) = regs_count (slice_set regs r.number r.value) rs ∙ length-set regs r.number r.value
-
-abbrev IsInside : ℕ → DataView → Type 0
-IsInside private c = c.offset + length c.bytes ≤ private
-
-pub data_inside : (private : ℕ) (cs : List DataView) (ls : List LineView) → AreData private cs ls → All (IsInside private) cs
-data_inside private [] ls are = All-nil (IsInside private)
-data_inside private (c ∷ cs) [] are = absurd are
-data_inside private (c ∷ cs) (l ∷ ls) are = All-cons (IsInside private) c cs are.0.1 (data_inside private cs ls are.1)
 
 task_so_far : (block : List LineView) (j after : DraftView) → IsTaskBlock j block after → InPhase j → InPhase after
 task_so_far block j after m s =
@@ -299,7 +313,7 @@ task_so_far block j after m s =
       entry = card.0;
       some = card.1;
       regs = regs_count (first_regs m.entry) m.regs;
-      cards = data_inside m.private m.cards m.data_lines m.are_data;
+      cards = m.inside;
     } in
     rw m.is_after (record {
       so_far = record {
@@ -317,14 +331,14 @@ task_so_far block j after m s =
       phase = s.phase;
     })
 
-tasks_so_far : (blocks : List (List LineView)) (j after : DraftView) → AreTasks j blocks after → InPhase j → InPhase after
+tasks_so_far : (blocks : List (List LineView)) (j after : DraftView) → Lead IsTaskBlock j blocks after → InPhase j → InPhase after
 tasks_so_far [] j after are s = rw (← are) s
-tasks_so_far (block ∷ blocks) j after are s = tasks_so_far blocks are.mid after are.follows (task_so_far block j are.mid are.is_task s)
+tasks_so_far (block ∷ blocks) j after are s = tasks_so_far blocks are.mid after are.follows (task_so_far block j are.mid are.is s)
 
-phases_so_far : (ask : Controllers) (blocks : List (List LineView)) (j after : DraftView) → ArePhases ask j blocks after → SoFar j → SoFar after
+phases_so_far : (ask : Controllers) (blocks : List (List LineView)) (j after : DraftView) → Lead (IsPhase ask) j blocks after → SoFar j → SoFar after
 phases_so_far ask [] j after are s = rw (← are) s
 phases_so_far ask (block ∷ blocks) j after are s =
-    let p : IsPhase ask j block are.mid = are.is_phase in
+    let p : IsPhase ask j block are.mid = are.is in
     let named : InPhase p.named = record { so_far = phase_so_far j p.named p.name p.adds s; phase = phase_is j p.named p.name p.adds } in
     let mid : InPhase p.mid = sessions_so_far p.sessions p.named p.mid p.are_sessions named in
     let end : InPhase are.mid = tasks_so_far p.tasks p.mid are.mid p.are_tasks mid in
@@ -403,24 +417,29 @@ all_parted tasks ss met parted i j d l m =
 
 -- no controller is missing
 
-modules_none : (blocks : List (List LineView)) (j after : DraftView) → AreModules j blocks after → j.sessions ≡ [] → after.sessions ≡ []
+modules_none : (blocks : List (List LineView)) (j after : DraftView) → Lead IsModule j blocks after → j.sessions ≡ [] → after.sessions ≡ []
 modules_none [] j after are e = ap (λ (x : DraftView). x.sessions) (sym are) ∙ e
-modules_none (block ∷ blocks) j after are e = modules_none blocks are.mid after are.follows (ap (λ (x : DraftView). x.sessions) are.is_module.is_after ∙ e)
+modules_none (block ∷ blocks) j after are e = modules_none blocks are.mid after are.follows (ap (λ (x : DraftView). x.sessions) are.is.is_after ∙ e)
 
-phases_met : (blocks : List (List LineView)) (j after : DraftView) → ArePhases Present j blocks after → are_met Present j ≡ true → are_met Present after ≡ true
+services_none : (ls : List LineView) (j after : DraftView) → Lead IsServiceCard j ls after → j.sessions ≡ [] → after.sessions ≡ []
+services_none [] j after are e = rw (← are) e
+services_none (l ∷ ls) j after are e = services_none ls are.mid after are.follows (ap (λ (x : DraftView). x.sessions) (sym (service_added j are.mid are.is.service are.is.adds).is) ∙ e)
+
+phases_met : (blocks : List (List LineView)) (j after : DraftView) → Lead (IsPhase Present) j blocks after → are_met Present j ≡ true → are_met Present after ≡ true
 phases_met [] j after are e = rw (← are) e
-phases_met (block ∷ blocks) j after are e = phases_met blocks are.mid after are.follows are.is_phase.met
+phases_met (block ∷ blocks) j after are e = phases_met blocks are.mid after are.follows are.is.met
 
-all_met : (ls : List LineView) (job : JobView) (p : Spells Present ls job) → All (λ s. is_met p.draft.tasks s ≡ true) p.draft.sessions
-all_met ls job p =
-    let none : p.mid.sessions ≡ [] = modules_none p.modules no_job p.mid p.are_modules refl in
-    AllPass-from_list_all (is_met p.draft.tasks) p.draft.sessions (phases_met p.phases p.mid p.draft p.are_phases (rw none refl))
+all_met : {cards : Grammar} (ls : List LineView) (job : JobView) (p : Spells cards Present ls job) → All (λ s. is_met p.draft.tasks s ≡ true) p.draft.sessions
+all_met {cards} ls job p =
+    let none : p.served.sessions ≡ [] = services_none p.services p.mid p.served p.are_services (modules_none p.modules (no_job cards) p.mid p.are_modules refl) in
+    AllPass-from_list_all (is_met p.draft.tasks) p.draft.sessions (phases_met p.phases p.served p.draft p.are_phases (rw none refl))
 
 -- lines that spell a job within the limits spell one that keeps its rules
-pub job_keeps : (ls : List LineView) (job : JobView) → Spells Present ls job → IsWithin job → IsJob job
-job_keeps ls job p within =
+pub job_keeps : {cards : Grammar} (ls : List LineView) (job : JobView) → Spells cards Present ls job → IsWithin job → IsJob job
+job_keeps {cards} ls job p within =
     let j : DraftView = p.draft in
-    let s : SoFar j = phases_so_far Present p.phases p.mid j p.are_phases (modules_so_far p.modules no_job p.mid p.are_modules none_so_far) in
+    let served : SoFar p.served = services_so_far p.services p.mid p.served p.are_services (modules_so_far p.modules (no_job cards) p.mid p.are_modules (none_so_far cards)) in
+    let s : SoFar j = phases_so_far Present p.phases p.served j p.are_phases served in
     let kept : IsWithin (bound j) = subst IsWithin p.is within in
     subst IsJob (sym p.is) (record {
       listings = s.listings;
@@ -453,5 +472,5 @@ job_keeps ls job p within =
     })
 
 -- lines that run to the end within the limits have read such a job
-pub read_keeps : (ls : List LineView) (s : State) → run Present start ls ≡ Some s → is_done s.part ≡ true → IsWithin (sofar s) → IsJob (bound s.job)
-read_keeps ls s r done within = job_keeps ls (bound s.job) (run_spells Present ls s r done) (job_within s done within)
+pub read_keeps : (cards : Grammar) (ls : List LineView) (s : State) → run Present (start cards) ls ≡ Some s → is_done s.part ≡ true → IsWithin (sofar s) → IsJob (bound s.job)
+read_keeps cards ls s r done within = job_keeps ls (bound s.job) (run_spells Present ls s r done) (job_within s done within)

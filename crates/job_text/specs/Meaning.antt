@@ -1,5 +1,5 @@
 -- What the claim of the program says by this crate's clauses.
-use Rattle.std.specs.Prelude.{ℕ, Bool, true, ◌&&◌, nat_eq, Option, Some, None, List, map, option_and_then, position, ◌+◌, ◌-◌, false, not, ◌||◌, nat_le, if◌then◌else◌, [], ◌∷◌, ◌++◌, length, option_map, take, slice_index, ◌*◌, Result, Ok, Err, ◌≡◌, ◌%◌, codes, ◌≤◌, slice_set, ◌⊎◌, ◌<◌}
+use Rattle.std.specs.Prelude.{ℕ, Bool, true, ◌&&◌, nat_eq, Option, Some, None, List, map, option_and_then, position, ◌+◌, ◌-◌, false, not, ◌||◌, nat_le, nat_lt, if◌then◌else◌, [], ◌∷◌, ◌++◌, length, option_map, take, slice_index, ◌*◌, Result, Ok, Err, ◌≡◌, ◌%◌, codes, ◌≤◌, slice_set, ◌⊎◌, ◌<◌, All, AllPairs}
 use Rattle.std.specs.List.{list_any, list_all, concat}
 use Rattle.std.specs.Str.{bytes_eq}
 use Rattle.cov_base.specs.Meaning.{ImageView, is_digit, name_at}
@@ -13,6 +13,9 @@ use Rattle.job_text.specs.declared.limit.Limit.TheVariants as limit
 use Rattle.job_text.specs.declared.jobs.JobFault.{JobFault}
 use Rattle.job_text.specs.declared.jobs.JobFault.TheVariants as fault
 use Rattle.cov_base.specs.declared.numbers.TaskNo.{TaskNo}
+use Rattle.session_book.specs.declared.services.Service.{Service}
+use Rattle.job_text.specs.declared.grammar.Grammar.{Grammar}
+use Rattle.job_text.specs.declared.grammar.Grammar.TheVariants as grammar
 use Rattle.job_text.specs.declared.schedule.Item.{Item}
 use Rattle.job_text.specs.declared.schedule.Item.TheVariants as item
 
@@ -27,6 +30,8 @@ pub record SessionDraft : Type 0 where
 pub record DraftView : Type 0 where
   pub images : List ImageView
   pub listings : List (Option (List (List ℕ)))
+  -- none where no SERVICE card may come
+  pub services : Option (List Service)
   pub phases : List (List ℕ)
   pub sessions : List SessionDraft
   pub tasks : List TaskView
@@ -62,12 +67,16 @@ bound_session tasks s = record { name = s.name; phase = s.phase; modules = s.mod
 
 -- the job, with each controller's index among its tasks
 abbrev pub bound : DraftView → JobView
-bound j = record { images = j.images; listings = j.listings; phases = j.phases; sessions = map (bound_session j.tasks) j.sessions; tasks = j.tasks }
+bound j = record { images = j.images; listings = j.listings; services = j.services; phases = j.phases; sessions = map (bound_session j.tasks) j.sessions; tasks = j.tasks }
 
 -- What a card adds to a job, where it may.
 
-abbrev pub no_job : DraftView
-no_job = record { images = []; listings = []; phases = []; sessions = []; tasks = [] }
+abbrev pub no_services : Grammar → Option (List Service)
+no_services grammar.Plain = None
+no_services grammar.Services = Some []
+
+abbrev pub no_job : Grammar → DraftView
+no_job g = record { images = []; listings = []; services = no_services g; phases = []; sessions = []; tasks = [] }
 
 abbrev pub has_module : DraftView → List ℕ → Bool
 has_module j name = list_any (λ i. bytes_eq i.name name) j.images
@@ -81,6 +90,13 @@ fits j name base size = not (has_module j name) && list_all (is_clear base size)
 
 abbrev pub with_module : DraftView → ImageView → Option (List (List ℕ)) → DraftView
 with_module j i listing = record j { images = j.images ++ i ∷ []; listings = j.listings ++ listing ∷ [] }
+
+-- the services and this one, whose number is above theirs
+abbrev pub put_service : Service → List Service → Option (List Service)
+put_service s others = if list_all (λ v. nat_lt v.number s.number) others then Some (others ++ s ∷ []) else None
+
+abbrev pub with_service : DraftView → Service → Option DraftView
+with_service j s = option_map (λ services. record j { services = Some services }) (option_and_then (put_service s) j.services)
 
 abbrev pub with_phase : DraftView → List ℕ → Option DraftView
 with_phase j name = if list_any (λ p. bytes_eq p name) j.phases then None else Some (record j { phases = j.phases ++ name ∷ [] })
@@ -153,6 +169,7 @@ pub data CardView : Type 0 where
   Text : List ℕ → CardView
   -- how many lines
   Listing : ℕ → CardView
+  Serve : Service → CardView
   Phase : List ℕ → CardView
   -- name, controller where it has one, and modules
   Session : List ℕ → Option (List ℕ) → List (List ℕ) → CardView
@@ -294,6 +311,11 @@ abbrev pub as_data : Option ℕ → Option (List ℕ) → Option CardView
 as_data (Some n) (Some bytes) = Some (Data (record { offset = n; bytes = bytes }))
 as_data n bytes = None
 
+-- of a number of SVC that is no task call
+abbrev pub as_service : Option ℕ → Option ℕ → Option CardView
+as_service (Some n) (Some e) = if nat_eq n 0 || nat_le 6 n && nat_le n 254 then Some (Serve (record { number = n; entry = e })) else None
+as_service n e = None
+
 -- the card of a key and one word
 abbrev pub short_card : List ℕ → List ℕ → Option CardView
 short_card key a =
@@ -309,7 +331,8 @@ abbrev pub pair_card : List ℕ → List ℕ → List ℕ → Option CardView
 pair_card key a b =
     if bytes_eq key (codes "REG") then as_reg (number_at a) (word_at b)
     else (if bytes_eq key (codes "DATA") then as_data (number_at a) (bytes_at b)
-    else None)
+    else (if bytes_eq key (codes "SERVICE") then as_service (number_at a) (address_at b)
+    else None))
 
 abbrev pub module_card : List ℕ → List ℕ → List ℕ → List ℕ → Option CardView
 module_card key a b c = if bytes_eq key (codes "MODULE") then as_module (name_at a) (address_at b) (number_at c) else None
@@ -337,6 +360,10 @@ card_at line = card_of (words line)
 abbrev pub IsCard : LineView → CardView → Type 0
 IsCard line card = card_at line.bytes ≡ Some card
 
+-- the lines are the cards of these, in their order
+abbrev pub AreCards : {A : Type 0} → (A → CardView) → List A → List LineView → Type 0
+AreCards card xs lines = map (λ l. card_at l.bytes) lines ≡ map (λ x. Some (card x)) xs
+
 -- The cards of a task.
 
 -- what a REG card says
@@ -344,30 +371,9 @@ pub record RegView : Type 0 where
   pub number : ℕ
   pub value : ℕ
 
--- a REG card for each of these, whose numbers rise from at least this one
-abbrev pub AreRegs : ℕ → List RegView → List LineView → Type 0
-AreRegs least [] [] = Unit {0}
-AreRegs least [] (l ∷ ls) = ⊥
-AreRegs least (r ∷ rs) [] = ⊥
-AreRegs least (r ∷ rs) (l ∷ ls) = (IsCard l (Reg r.number r.value) × (least ≤ r.number)) × AreRegs (r.number + 1) rs ls
-
 abbrev pub set_regs : List ℕ → List RegView → List ℕ
 set_regs regs [] = regs
 set_regs regs (r ∷ rs) = set_regs (slice_set regs r.number r.value) rs
-
--- a DATA card for each of these, with all bytes inside private storage of this size
-abbrev pub AreData : ℕ → List DataView → List LineView → Type 0
-AreData private [] [] = Unit {0}
-AreData private [] (l ∷ ls) = ⊥
-AreData private (c ∷ cs) [] = ⊥
-AreData private (c ∷ cs) (l ∷ ls) = (IsCard l (Data c) × (c.offset + length c.bytes ≤ private)) × AreData private cs ls
-
--- an INPUT card for each of these
-abbrev pub AreInputs : List (List ℕ) → List LineView → Type 0
-AreInputs [] [] = Unit {0}
-AreInputs [] (l ∷ ls) = ⊥
-AreInputs (b ∷ bs) [] = ⊥
-AreInputs (b ∷ bs) (l ∷ ls) = IsCard l (Input b) × AreInputs bs ls
 
 abbrev pub task_view : List ℕ → ℕ → ℕ → ℕ → ℕ → List ℕ → List DataView → List ℕ → TaskView
 task_view name entry private budget room regs cards input = record {
@@ -384,22 +390,20 @@ task_view name entry private budget room regs cards input = record {
 
 -- Which lines spell a job. Each word says how some lines take one job to another.
 
+pub record Then (Is More : DraftView → Type 0) : Type 0 where
+  pub mid : DraftView
+  pub is : Is mid
+  pub follows : More mid
+
+-- one after the other the parts lead from one job to the other
+abbrev pub Lead : {A : Type 0} → (DraftView → A → DraftView → Type 0) → DraftView → List A → DraftView → Type 0
+Lead Is j [] after = j ≡ after
+Lead Is j (x ∷ xs) after = Then (Is j x) (λ mid. Lead Is mid xs after)
+
 -- one block after the other
 abbrev pub joined : List (List LineView) → List LineView
 joined [] = []
 joined (block ∷ blocks) = block ++ joined blocks
-
-pub record TextFirst (line : LineView) (bytes : List ℕ) (More : List ℕ → Type 0) : Type 0 where
-  pub first : List ℕ
-  pub others : List ℕ
-  pub card : IsCard line (Text first)
-  pub whole : bytes ≡ first ++ others
-  pub follows : More others
-
--- TEXT cards that have these bytes, one after the other
-abbrev pub AreTexts : List LineView → List ℕ → Type 0
-AreTexts [] bytes = bytes ≡ []
-AreTexts (l ∷ ls) bytes = TextFirst l bytes (AreTexts ls)
 
 -- nothing, or a LISTING card and the lines of the listing
 abbrev pub IsListed : List LineView → Option (List (List ℕ)) → Type 0
@@ -407,6 +411,7 @@ IsListed lines None = lines ≡ []
 IsListed [] (Some texts) = ⊥
 IsListed (l ∷ ls) (Some texts) = IsCard l (Listing (length ls)) × (texts ≡ map listing_text ls)
 
+-- MODULE, TEXT cards, and nothing or the listing
 pub record IsModule (j : DraftView) (block : List LineView) (after : DraftView) : Type 0 where
   -- the lines, in order
   pub head : LineView
@@ -415,34 +420,26 @@ pub record IsModule (j : DraftView) (block : List LineView) (after : DraftView) 
   pub whole : block ≡ head ∷ (texts ++ listing)
   -- what they say
   pub image : ImageView
+  pub parts : List (List ℕ)
   pub listed : Option (List (List ℕ))
   pub card : IsCard head (Module image.name image.base (length image.bytes))
   pub fit : fits j image.name image.base (length image.bytes) ≡ true
-  pub are_texts : AreTexts texts image.bytes
+  pub are_texts : AreCards Text parts texts
+  pub filled : image.bytes ≡ concat parts
   pub is_listed : IsListed listing listed
   pub is_after : after ≡ with_module j image listed
 
-pub record ModuleFirst (j : DraftView) (block : List LineView) (More : DraftView → Type 0) : Type 0 where
-  pub mid : DraftView
-  pub is_module : IsModule j block mid
-  pub follows : More mid
+pub record IsServiceCard (j : DraftView) (line : LineView) (after : DraftView) : Type 0 where
+  pub service : Service
+  pub card : IsCard line (Serve service)
+  pub adds : with_service j service ≡ Some after
 
-abbrev pub AreModules : DraftView → List (List LineView) → DraftView → Type 0
-AreModules j [] after = j ≡ after
-AreModules j (block ∷ blocks) after = ModuleFirst j block (λ mid. AreModules mid blocks after)
-
-pub record SessionFirst (j : DraftView) (line : LineView) (More : DraftView → Type 0) : Type 0 where
+pub record IsSessionCard (j : DraftView) (line : LineView) (after : DraftView) : Type 0 where
   pub name : List ℕ
   pub by : Option (List ℕ)
   pub names : List (List ℕ)
-  pub mid : DraftView
   pub card : IsCard line (Session name by names)
-  pub adds : with_session j name by names ≡ Some mid
-  pub follows : More mid
-
-abbrev pub AreSessions : DraftView → List LineView → DraftView → Type 0
-AreSessions j [] after = j ≡ after
-AreSessions j (l ∷ ls) after = SessionFirst j l (λ mid. AreSessions mid ls after)
+  pub adds : with_session j name by names ≡ Some after
 
 -- TASK, and then REG, DATA and INPUT cards, of each kind as many as wanted
 pub record IsTaskBlock (j : DraftView) (block : List LineView) (after : DraftView) : Type 0 where
@@ -463,19 +460,12 @@ pub record IsTaskBlock (j : DraftView) (block : List LineView) (after : DraftVie
   pub inputs : List (List ℕ)
   pub card : IsCard head (Task name entry private budget room)
   pub new : has_task j name ≡ false
-  pub are_regs : AreRegs 0 regs reg_lines
-  pub are_data : AreData private cards data_lines
-  pub are_inputs : AreInputs inputs input_lines
+  pub are_regs : AreCards (λ r. Reg r.number r.value) regs reg_lines
+  pub rise : AllPairs (λ r s. r.number < s.number) regs
+  pub are_data : AreCards Data cards data_lines
+  pub inside : All (λ c. c.offset + length c.bytes ≤ private) cards
+  pub are_inputs : AreCards Input inputs input_lines
   pub is_after : after ≡ with_task j (task_view name entry private budget room (set_regs (first_regs entry) regs) cards (concat inputs))
-
-pub record TaskFirst (j : DraftView) (block : List LineView) (More : DraftView → Type 0) : Type 0 where
-  pub mid : DraftView
-  pub is_task : IsTaskBlock j block mid
-  pub follows : More mid
-
-abbrev pub AreTasks : DraftView → List (List LineView) → DraftView → Type 0
-AreTasks j [] after = j ≡ after
-AreTasks j (block ∷ blocks) after = TaskFirst j block (λ mid. AreTasks mid blocks after)
 
 pub record IsPhase (c : Controllers) (j : DraftView) (block : List LineView) (after : DraftView) : Type 0 where
   pub head : LineView
@@ -487,39 +477,33 @@ pub record IsPhase (c : Controllers) (j : DraftView) (block : List LineView) (af
   pub mid : DraftView
   pub card : IsCard head (Phase name)
   pub adds : with_phase j name ≡ Some named
-  pub are_sessions : AreSessions named sessions mid
-  pub are_tasks : AreTasks mid tasks after
+  pub are_sessions : Lead IsSessionCard named sessions mid
+  pub are_tasks : Lead IsTaskBlock mid tasks after
   pub met : are_met c after ≡ true
 
-pub record PhaseFirst (c : Controllers) (j : DraftView) (block : List LineView) (More : DraftView → Type 0) : Type 0 where
-  pub mid : DraftView
-  pub is_phase : IsPhase c j block mid
-  pub follows : More mid
-
-abbrev pub ArePhases : Controllers → DraftView → List (List LineView) → DraftView → Type 0
-ArePhases c j [] after = j ≡ after
-ArePhases c j (block ∷ blocks) after = PhaseFirst c j block (λ mid. ArePhases c mid blocks after)
-
--- COVERJOB, the modules, the phases, ENDJOB
-pub record Spells (c : Controllers) (lines : List LineView) (job : JobView) : Type 0 where
+-- COVERJOB, the modules, the services, the phases, ENDJOB
+pub record Spells (g : Grammar) (c : Controllers) (lines : List LineView) (job : JobView) : Type 0 where
   pub first : LineView
   pub modules : List (List LineView)
+  pub services : List LineView
   pub phases : List (List LineView)
   pub last : LineView
-  pub whole : lines ≡ first ∷ (joined modules ++ (joined phases ++ last ∷ []))
+  pub whole : lines ≡ first ∷ (joined modules ++ (services ++ (joined phases ++ last ∷ [])))
   pub mid : DraftView
+  pub served : DraftView
   pub draft : DraftView
   pub cover : IsCard first Cover
-  pub are_modules : AreModules no_job modules mid
-  pub are_phases : ArePhases c mid phases draft
+  pub are_modules : Lead IsModule (no_job g) modules mid
+  pub are_services : Lead IsServiceCard mid services served
+  pub are_phases : Lead (IsPhase c) served phases draft
   pub ends : IsCard last End
   pub is : job ≡ bound draft
 
 -- some list of lines with this prefix spells a job
-pub record JobBegins (lines : List LineView) : Type 0 where
+pub record JobBegins (g : Grammar) (lines : List LineView) : Type 0 where
   pub rest : List LineView
   pub job : JobView
-  pub spells : Spells Present (lines ++ rest) job
+  pub spells : Spells g Present (lines ++ rest) job
 
 -- The limits, and when lines pass one.
 
@@ -527,39 +511,27 @@ abbrev pub are_short : Option (List (List ℕ)) → Bool
 are_short (Some texts) = list_all (λ t. nat_le (length t) LINE_LIMIT) texts
 are_short None = true
 
-abbrev pub is_small : ImageView → Bool
-is_small i = nat_le (length i.bytes) SIZE_LIMIT
-
-abbrev pub has_private : TaskView → Bool
-has_private t = nat_le t.private PRIVATE_LIMIT
-
-abbrev pub has_budget : TaskView → Bool
-has_budget t = nat_le t.budget BUDGET_LIMIT
-
-abbrev pub has_room : TaskView → Bool
-has_room t = nat_le t.room ROOM_LIMIT
-
 -- the job keeps this limit; those of input and of places are not tested on a job
 abbrev pub keeps : Limit → JobView → Bool
 keeps limit.Input j = true
 keeps limit.Modules j = nat_le (length j.images) MODULE_LIMIT
-keeps limit.Size j = list_all is_small j.images
+keeps limit.Size j = list_all (λ i. nat_le (length i.bytes) SIZE_LIMIT) j.images
 keeps limit.Line j = list_all are_short j.listings
 keeps limit.Places j = true
 keeps limit.Phases j = nat_le (length j.phases) PHASE_LIMIT
 keeps limit.Sessions j = nat_le (length j.sessions) SESSION_LIMIT
 keeps limit.Tasks j = nat_le (length j.tasks) TASK_LIMIT
-keeps limit.Private j = list_all has_private j.tasks
-keeps limit.Budget j = list_all has_budget j.tasks
-keeps limit.Room j = list_all has_room j.tasks
+keeps limit.Private j = list_all (λ t. nat_le t.private PRIVATE_LIMIT) j.tasks
+keeps limit.Budget j = list_all (λ t. nat_le t.budget BUDGET_LIMIT) j.tasks
+keeps limit.Room j = list_all (λ t. nat_le t.room ROOM_LIMIT) j.tasks
 
 abbrev pub IsWithin : JobView → Type 0
 IsWithin j = (what : Limit) → keeps what j ≡ true
 
 -- Lines pass a limit where nothing that they begin keeps it, be the controllers there or not: a task that is still to
 -- come for a session is none of theirs.
-abbrev pub Passes : Limit → List LineView → Type 0
-Passes what lines = (rest : List LineView) (job : JobView) → Spells Named (lines ++ rest) job → keeps what job ≡ false
+abbrev pub Passes : Grammar → Limit → List LineView → Type 0
+Passes g what lines = (rest : List LineView) (job : JobView) → Spells g Named (lines ++ rest) job → keeps what job ≡ false
 
 abbrev pub rank : Limit → ℕ
 rank limit.Input = 0
@@ -577,30 +549,30 @@ rank limit.Room = 10
 -- What reading a job gives, and when it ends with a refusal.
 
 -- these lines begin a job and pass no limit
-pub record GoesOn (lines : List LineView) : Type 0 where
-  pub begins : JobBegins lines
-  pub within : (what : Limit) → Passes what lines → ⊥
+pub record GoesOn (g : Grammar) (lines : List LineView) : Type 0 where
+  pub begins : JobBegins g lines
+  pub within : (what : Limit) → Passes g what lines → ⊥
 
 -- Line n, counted from 1, is the first such that lines 1 to n begin no job; or n is one more than the number of lines, where these begin one and spell none. No line before it passed a limit.
-pub record IsBadAt (lines : List LineView) (n : ℕ) : Type 0 where
+pub record IsBadAt (g : Grammar) (lines : List LineView) (n : ℕ) : Type 0 where
   pub counts : 1 ≤ n
-  pub before : GoesOn (take (n - 1) lines)
-  pub here : ((n ≤ length lines) × (JobBegins (take n lines) → ⊥)) ⊎ ((n ≡ length lines + 1) × ((job : JobView) → Spells Present lines job → ⊥))
+  pub before : GoesOn g (take (n - 1) lines)
+  pub here : ((n ≤ length lines) × (JobBegins g (take n lines) → ⊥)) ⊎ ((n ≡ length lines + 1) × ((job : JobView) → Spells g Present lines job → ⊥))
 
 -- Line n is the first with which a limit is passed, lines 1 to n begin a job, and of the limits that they pass this is the first in the order of limits.
-pub record IsOverAt (lines : List LineView) (what : Limit) (n : ℕ) : Type 0 where
+pub record IsOverAt (g : Grammar) (lines : List LineView) (what : Limit) (n : ℕ) : Type 0 where
   pub counts : 1 ≤ n
   pub inside : n ≤ length lines
-  pub before : GoesOn (take (n - 1) lines)
-  pub begins : JobBegins (take n lines)
-  pub passes : Passes what (take n lines)
-  pub first : (other : Limit) → rank other < rank what → Passes other (take n lines) → ⊥
+  pub before : GoesOn g (take (n - 1) lines)
+  pub begins : JobBegins g (take n lines)
+  pub passes : Passes g what (take n lines)
+  pub first : (other : Limit) → rank other < rank what → Passes g other (take n lines) → ⊥
 
 -- want of memory may be met at any line
-abbrev pub IsRefusal : List LineView → JobFault → Type 0
-IsRefusal lines (fault.BadJob n) = IsBadAt lines n
-IsRefusal lines (fault.TooLarge what n) = IsOverAt lines what n
-IsRefusal lines fault.NoMemory = Unit {0}
+abbrev pub IsRefusal : Grammar → List LineView → JobFault → Type 0
+IsRefusal g lines (fault.BadJob n) = IsBadAt g lines n
+IsRefusal g lines (fault.TooLarge what n) = IsOverAt g lines what n
+IsRefusal g lines fault.NoMemory = Unit {0}
 
 -- Which lines behind a job are items of its schedule.
 

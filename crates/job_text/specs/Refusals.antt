@@ -2,16 +2,17 @@
 use Rattle.std.specs.Prelude.{◌≡◌, ℕ, ◌≤◌, Result, Ok, Err, List, ◌++◌, length, take, drop}
 use Rattle.session_book.specs.Meaning.{JobView}
 use Rattle.job_text.specs.Meaning.{LineView, lines_of, Present, Spells, IsWithin}
+use Rattle.job_text.specs.declared.grammar.Grammar.{Grammar}
 use Rattle.job_text.specs.declared.jobs.ReadJob.{ReadJob}
 use Rattle.job_text.specs.declared.jobs.JobFault.{JobFault}
 use Rattle.job_text.specs.declared.jobs.JobFault.TheVariants as fault
 
 -- The bytes up to `end` are so many whole lines of the input, and spell the job, within the limits.
-pub record IsRead (input : List ℕ) (r : ReadJob) : Type 0 where
+pub record IsRead (g : Grammar) (input : List ℕ) (r : ReadJob) : Type 0 where
   pub inside : r.end ≤ length input
   pub parted : lines_of input ≡ lines_of (take r.end input) ++ lines_of (drop r.end input)
   pub count : length (lines_of (take r.end input)) ≡ r.lines
-  pub spells : Spells Present (lines_of (take r.end input)) r.job
+  pub spells : Spells g Present (lines_of (take r.end input)) r.job
   pub within : IsWithin r.job
 
 -- The answer is this job, whose last line is line n, or want of memory: a job that was spelled is over, so that no line
@@ -21,5 +22,5 @@ IsOnly n job (Ok r) = (r.job ≡ job) × (r.lines ≡ n)
 IsOnly n job (Err e) = e ≡ fault.NoMemory
 
 -- where first lines spell a job within the limits, the answer is that job
-abbrev pub AnswersOnly : List LineView → Result ReadJob JobFault → Type 0
-AnswersOnly lines answer = (n : ℕ) (job : JobView) → n ≤ length lines → Spells Present (take n lines) job → IsWithin job → IsOnly n job answer
+abbrev pub AnswersOnly : Grammar → List LineView → Result ReadJob JobFault → Type 0
+AnswersOnly g lines answer = (n : ℕ) (job : JobView) → n ≤ length lines → Spells g Present (take n lines) job → IsWithin job → IsOnly n job answer

@@ -2,8 +2,10 @@
 use Rattle.std.specs.Prelude.{◌≡◌, ℕ, ◌+◌, ◌-◌, ◌≤◌, Bool, true, false, not, nat_eq, nat_le, if◌then◌else◌, Option, Some, None, List, [], ◌∷◌, ◌++◌, length, option_map, option_and_then}
 use Rattle.cov_base.specs.Meaning.{ImageView}
 use Rattle.cov_base.specs.declared.limits.TheConstants.{MODULE_LIMIT, SIZE_LIMIT, LINE_LIMIT, PHASE_LIMIT, SESSION_LIMIT, TASK_LIMIT, PRIVATE_LIMIT, BUDGET_LIMIT, ROOM_LIMIT}
-use Rattle.job_text.specs.Meaning.{DraftView, Controllers, are_met, LineView, listing_text, CardView, Cover, Module, Text, Listing, Phase, Session, Task, End, card_at, no_job, has_module, fits, with_module, with_phase, with_session, has_task, with_task}
+use Rattle.job_text.specs.Meaning.{DraftView, Controllers, are_met, LineView, listing_text, CardView, Cover, Module, Text, Listing, Serve, Phase, Session, Task, End, card_at, no_job, has_module, fits, with_module, with_service, with_phase, with_session, has_task, with_task}
+use Rattle.session_book.specs.declared.services.Service.{Service}
 use Rattle.job_text.specs.TaskParts.{fresh_task, task_more}
+use Rattle.job_text.specs.declared.grammar.Grammar.{Grammar}
 use Rattle.job_text.specs.declared.limit.Limit.{Limit}
 use Rattle.job_text.specs.declared.limit.Limit.TheVariants as limit
 use Rattle.job_text.specs.declared.refused.LineRefused.{LineRefused}
@@ -23,8 +25,8 @@ state p j over = record { part = p; job = j; over = over }
 abbrev pub plain : State → State
 plain st = state st.part st.job None
 
-abbrev pub start : State
-start = state part.Start no_job None
+abbrev pub start : Grammar → State
+start g = state part.Start (no_job g) None
 
 abbrev pub is_start : Part → Bool
 is_start part.Start = true
@@ -45,6 +47,11 @@ closed_module (part.Texts i left) j = if nat_eq left 0 then Some (with_module j 
 closed_module (part.Listed i left lines) j = if nat_eq left 0 then Some (with_module j i (Some lines)) else None
 closed_module p j = None
 
+-- a service may come
+abbrev pub closed_service : Part → DraftView → Option DraftView
+closed_service part.Services j = Some j
+closed_service p j = closed_module p j
+
 -- the job with the task that was open: a task may come
 abbrev pub closed_task : Part → DraftView → Option DraftView
 closed_task part.Sessions j = Some j
@@ -59,7 +66,7 @@ met_of c j = if are_met c j then Some j else None
 abbrev pub closed : Controllers → Part → DraftView → Option DraftView
 closed c part.Sessions j = met_of c j
 closed c (part.Task t) j = met_of c (with_task j t.task)
-closed c p j = closed_module p j
+closed c p j = closed_service p j
 
 abbrev pub no_bytes : List ℕ → ℕ → ImageView
 no_bytes name base = record { name = name; base = base; bytes = [] }
@@ -94,6 +101,9 @@ abbrev pub open_task : List ℕ → ℕ → ℕ → ℕ → ℕ → DraftView �
 open_task name entry private budget room j =
     if has_task j name then None else Some (state (part.Task (fresh_task name entry private budget room)) j (task_over j private budget room))
 
+abbrev pub add_service : Service → DraftView → Option State
+add_service s j = option_map (λ k. state part.Services k None) (with_service j s)
+
 abbrev pub open_phase : List ℕ → DraftView → Option State
 open_phase name j = option_map (λ k. state part.Sessions k (phase_over j)) (with_phase j name)
 
@@ -121,6 +131,9 @@ take_cover st = if is_start st.part then Some (state part.Modules st.job None) e
 abbrev pub take_module : State → List ℕ → ℕ → ℕ → Option State
 take_module st name base size = option_and_then (open_module name base size) (closed_module st.part st.job)
 
+abbrev pub take_service : State → Service → Option State
+take_service st s = option_and_then (add_service s) (closed_service st.part st.job)
+
 abbrev pub take_task : State → List ℕ → ℕ → ℕ → ℕ → ℕ → Option State
 take_task st name entry private budget room = option_and_then (open_task name entry private budget room) (closed_task st.part st.job)
 
@@ -129,6 +142,7 @@ take_card c st Cover = take_cover st
 take_card c st (Module name base size) = take_module st name base size
 take_card c st (Text bytes) = take_text st.part st.job bytes
 take_card c st (Listing n) = take_listing st.part st.job n
+take_card c st (Serve s) = take_service st s
 take_card c st (Phase name) = option_and_then (open_phase name) (closed c st.part st.job)
 take_card c st (Session name by names) = if is_sessions st.part then add_session st.job name by names else None
 take_card c st (Task name entry private budget room) = take_task st name entry private budget room

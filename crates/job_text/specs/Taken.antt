@@ -6,6 +6,7 @@ use Rattle.job_text.specs.Meaning.{LineView, lines_of, Present, GoesOn}
 use Rattle.job_text.specs.Lines.{span, IsClosed}
 use Rattle.job_text.specs.Steps.{State, start, plain, is_done, step, run}
 use Rattle.job_text.specs.Pieces.{IsTold}
+use Rattle.job_text.specs.declared.grammar.Grammar.{Grammar}
 use Rattle.job_text.specs.declared.jobs.JobFault.{JobFault}
 use Rattle.job_text.specs.declared.jobs.JobFault.TheVariants as fault
 use Rattle.job_text.specs.declared.taken.Taken.{Taken}
@@ -16,6 +17,7 @@ use Rattle.job_text.specs.declared.reader.Stage.TheVariants as stage
 -- the line was taken
 pub record IsNext (a b : Taken) (l : LineView) : Type 0 where
   pub steps : step Present a.reader l ≡ Some (plain b.reader)
+  pub grammar : b.grammar ≡ a.grammar
   pub lines : b.lines ≡ a.lines + 1
   pub bytes : b.bytes ≡ a.bytes + span l
 
@@ -31,8 +33,8 @@ IsFaultAt t l e = IsFaultOf (step Present t.reader l) (t.lines + 1) e
 
 -- all lines of these bytes were taken
 pub record HasRun (bytes : List ℕ) (t : Taken) : Type 0 where
-  pub runs : run Present start (lines_of bytes) ≡ Some (plain t.reader)
-  pub goes_on : GoesOn (lines_of bytes)
+  pub runs : run Present (start t.grammar) (lines_of bytes) ≡ Some (plain t.reader)
+  pub goes_on : GoesOn t.grammar (lines_of bytes)
   pub count : t.lines ≡ length (lines_of bytes)
   pub size : t.bytes ≡ length bytes
 
@@ -54,22 +56,26 @@ size_of p = p.taken.bytes + length p.cut.items
 -- A reader was fed these bytes, those behind the job left out.
 abbrev pub IsFed : List ℕ → Stage → Type 0
 IsFed bytes (stage.Reading p) = HasTaken bytes p
-IsFed bytes (stage.Failed e) = IsTold bytes e
+IsFed bytes (stage.Failed g e) = IsTold g bytes e
+
+abbrev pub grammar_of : Stage → Grammar
+grammar_of (stage.Reading p) = p.taken.grammar
+grammar_of (stage.Failed g e) = g
 
 -- the fault that it has told
 abbrev pub told : Stage → Option JobFault
 told (stage.Reading p) = None
-told (stage.Failed e) = Some e
+told (stage.Failed g e) = Some e
 
 -- it was fed a whole job, with the LF of ENDJOB's line
 abbrev pub has_ended : Stage → Bool
 has_ended (stage.Reading p) = is_done p.taken.reader.part
-has_ended (stage.Failed e) = false
+has_ended (stage.Failed g e) = false
 
 -- how many bytes it was fed, where it has told no fault
 abbrev pub fed_size : Stage → ℕ
 fed_size (stage.Reading p) = size_of p
-fed_size (stage.Failed e) = 0
+fed_size (stage.Failed g e) = 0
 
 pub record WasFed (s : Stage) : Type 0 where
   pub bytes : List ℕ

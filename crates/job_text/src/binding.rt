@@ -89,6 +89,7 @@ pub(crate) fn bound_job(alloc: Global, job: Draft) -> Result<Job, NoMemory>
     let Draft {
         images,
         listings,
+        services,
         phases,
         sessions,
         tasks,
@@ -98,6 +99,7 @@ pub(crate) fn bound_job(alloc: Global, job: Draft) -> Result<Job, NoMemory>
     let cards = JobCards {
         images: Images(images),
         listings,
+        services,
         phases,
         sessions,
         tasks,

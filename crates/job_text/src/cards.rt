@@ -1,7 +1,7 @@
 //! The card that a line is.
 ghost use Rattle.std.specs.Prelude.{◌≡◌, map, IfOk, option_map};
 ghost use Rattle.cov_base.specs.Meaning.{name_at};
-ghost use Rattle.job_text.specs.Meaning.{number_at, bytes_at, word_at, names_at};
+ghost use Rattle.job_text.specs.Meaning.{number_at, bytes_at, address_at, word_at, names_at};
 ghost use Rattle.job_text.specs.Meaning as spell;
 ghost use Rattle.job_text.specs.Views.{view};
 
@@ -9,6 +9,7 @@ use crate::card::{Card, RegCard};
 use crate::words::{address_of, bytes_of, is, names_of, number_of, split, word_of};
 use cov_base::Name;
 use module_area::DataCard;
+use session_book::Service;
 use std::alloc::{AllocError, Global};
 
 fn short_card(alloc: Global, key: &[u8], a: &[u8]) -> Result<Option<Card>, AllocError>
@@ -145,6 +146,24 @@ fn data_card(alloc: Global, a: &[u8], b: &[u8]) -> Result<Option<Card>, AllocErr
     }
 }
 
+fn service_card(a: &[u8], b: &[u8]) -> Option<Card>
+    ensures { option_map view result ≡ spell.as_service (number_at a.now) (address_at b.now) }
+{
+    match (number_of(a), address_of(b)) {
+        (Some(number), Some(entry)) => {
+            if number == 0 || number >= 6 && number <= 254 {
+                Some(Card::Service(Service {
+                    number: number as u8,
+                    entry,
+                }))
+            } else {
+                None
+            }
+        }
+        _ => None,
+    }
+}
+
 fn pair_card(alloc: Global, key: &[u8], a: &[u8], b: &[u8]) -> Result<Option<Card>, AllocError>
     ensures { IfOk result (λ o. option_map view o ≡ spell.pair_card key.now a.now b.now) }
 {
@@ -153,6 +172,9 @@ fn pair_card(alloc: Global, key: &[u8], a: &[u8], b: &[u8]) -> Result<Option<Car
     }
     if is(key, b"DATA") {
         return data_card(alloc, a, b);
+    }
+    if is(key, b"SERVICE") {
+        return Ok(service_card(a, b));
     }
     Ok(None)
 }

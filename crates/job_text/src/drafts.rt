@@ -1,5 +1,5 @@
 //! Adds to a job what its cards say.
-ghost use Rattle.std.specs.Prelude.{◌≡◌, ◌+◌, ◌≤◌, ◌<◌, ◌&&◌, [], Option, Some, None, IfOk, IfSome, false, nat_eq, length, option_map};
+ghost use Rattle.std.specs.Prelude.{◌≡◌, ◌+◌, ◌≤◌, ◌<◌, ◌&&◌, [], Option, Some, None, IfOk, IfSome, false, nat_eq, nat_lt, length, option_map};
 ghost use Rattle.std.specs.List.{list_any, list_all};
 ghost use Rattle.std.specs.Str.{bytes_eq};
 ghost use Rattle.cov_base.specs.declared.limits.TheConstants.{MODULE_LIMIT, PHASE_LIMIT};
@@ -13,7 +13,7 @@ use crate::parts::{Draft, Part, SessionDraft};
 use cov_base::{Name, NoMemory};
 use listing_lines::ListingLines;
 use module_area::Image;
-use session_book::TaskCard;
+use session_book::{Service, TaskCard};
 use std::alloc::Global;
 
 fn has_module(job: &Draft, name: &Name) -> bool
@@ -157,6 +157,7 @@ fn put_module(job: Draft, image: Image, listing: Option<ListingLines>) -> Result
     let Draft {
         mut images,
         mut listings,
+        services,
         phases,
         sessions,
         tasks,
@@ -168,6 +169,7 @@ fn put_module(job: Draft, image: Image, listing: Option<ListingLines>) -> Result
     Ok(Draft {
         images,
         listings,
+        services,
         phases,
         sessions,
         tasks,
@@ -184,6 +186,7 @@ fn put_task(job: Draft, task: TaskCard) -> Result<Draft, NoMemory>
     let Draft {
         images,
         listings,
+        services,
         phases,
         sessions,
         mut tasks,
@@ -194,11 +197,51 @@ fn put_task(job: Draft, task: TaskCard) -> Result<Draft, NoMemory>
     Ok(Draft {
         images,
         listings,
+        services,
         phases,
         sessions,
         tasks,
         names,
     })
+}
+
+fn are_below(services: &[Service], number: u8) -> bool
+    ensures { result ≡ list_all (λ v. nat_lt v.number number) services.now }
+{
+    services.iter().all(|service| service.number < number)
+}
+
+/// The job with a service more; none where it can't have one, or the number isn't above those of the others.
+pub(crate) fn with_service(job: Draft, service: Service) -> Result<Option<Draft>, NoMemory>
+    ensures { IfOk result (λ o. o ≡ adding.with_service job service) }
+{
+    let Draft {
+        images,
+        listings,
+        services,
+        phases,
+        sessions,
+        tasks,
+        names,
+    } = job;
+    match services {
+        None => Ok(None),
+        Some(mut services) => {
+            if !are_below(&services, service.number) {
+                return Ok(None);
+            }
+            services.push(service)?;
+            Ok(Some(Draft {
+                images,
+                listings,
+                services: Some(services),
+                phases,
+                sessions,
+                tasks,
+                names,
+            }))
+        }
+    }
 }
 
 /// The job with a phase more; none where a phase has the name.
@@ -208,6 +251,7 @@ pub(crate) fn with_phase(job: Draft, name: Name) -> Result<Option<Draft>, NoMemo
     let Draft {
         images,
         listings,
+        services,
         mut phases,
         sessions,
         tasks,
@@ -221,6 +265,7 @@ pub(crate) fn with_phase(job: Draft, name: Name) -> Result<Option<Draft>, NoMemo
     Ok(Some(Draft {
         images,
         listings,
+        services,
         phases,
         sessions,
         tasks,
@@ -245,6 +290,7 @@ fn put_session(job: Draft, session: SessionDraft) -> Result<Draft, NoMemory>
     let Draft {
         images,
         listings,
+        services,
         phases,
         mut sessions,
         tasks,
@@ -255,6 +301,7 @@ fn put_session(job: Draft, session: SessionDraft) -> Result<Draft, NoMemory>
     Ok(Draft {
         images,
         listings,
+        services,
         phases,
         sessions,
         tasks,
@@ -317,6 +364,18 @@ pub(crate) fn closed_module(part: Part, job: Draft) -> Result<Option<Draft>, NoM
     }
 }
 
+/// The job with the module that was open; none where no service may come.
+pub(crate) fn closed_service(part: Part, job: Draft) -> Result<Option<Draft>, NoMemory>
+    requires { machine.HasRoom part job }
+    ensures value { IfOk result (λ o. o ≡ machine.closed_service part job) }
+    ensures room { IfOk result (λ o. IfSome o (machine.HasRoom kind.Modules)) }
+{
+    match part {
+        Part::Services => Ok(Some(job)),
+        _ => closed_module(part, job),
+    }
+}
+
 /// The job with the task that was open; none where no task may come.
 pub(crate) fn closed_task(part: Part, job: Draft) -> Result<Option<Draft>, NoMemory>
     requires { machine.HasRoom part job }
@@ -346,6 +405,6 @@ pub(crate) fn closed(part: Part, job: Draft) -> Result<Option<Draft>, NoMemory>
     match part {
         Part::Sessions => Ok(met_of(job)),
         Part::Task(task) => Ok(met_of(put_task(job, task.task)?)),
-        _ => closed_module(part, job),
+        _ => closed_service(part, job),
     }
 }

@@ -5,6 +5,7 @@ ghost use Rattle.session_book.specs.Meaning.{JobView};
 ghost use Rattle.job_text.specs.Meaning.{Present, lines_of, IsWithin, IsRefusal, Spells};
 ghost use Rattle.job_text.specs.Refusals.{IsRead, AnswersOnly};
 
+use crate::grammar::Grammar;
 use crate::limit::Limit;
 use crate::reader::JobReader;
 use cov_base::NoMemory as OutOfMemory;
@@ -53,15 +54,15 @@ impl From<OutOfMemory> for JobFault {
     }
 }
 
-/// Reads the job that the input's first lines spell. The bytes after its ENDJOB line are the caller's. The input has
+/// Reads the job that the first lines of the input spell, by this grammar. The bytes after its ENDJOB line are the caller's. The input has
 /// at most `INPUT_LIMIT` bytes; neither `Limit::Input` nor `Limit::Places` is answered.
-pub fn read_job(alloc: Global, input: &[u8]) -> Result<ReadJob, JobFault>
+pub fn read_job(alloc: Global, grammar: Grammar, input: &[u8]) -> Result<ReadJob, JobFault>
     requires { length input.now ≤ INPUT_LIMIT }
-    ensures job { IfOk result (IsRead input.now) }
-    ensures only { AnswersOnly (lines_of input.now) result }
-    ensures fault { IfErr result (IsRefusal (lines_of input.now)) }
+    ensures job { IfOk result (IsRead grammar input.now) }
+    ensures only { AnswersOnly grammar (lines_of input.now) result }
+    ensures fault { IfErr result (IsRefusal grammar (lines_of input.now)) }
 {
-    let mut reader = JobReader::new(alloc)?;
+    let mut reader = JobReader::new(alloc, grammar)?;
     let _fed = reader.feed(alloc, input)?;
     reader.finish(alloc)
 }

@@ -5,6 +5,7 @@ mod binding;
 mod card;
 mod cards;
 mod drafts;
+mod grammar;
 mod jobs;
 mod limit;
 mod lines;
@@ -18,6 +19,7 @@ mod taken;
 mod task;
 mod words;
 
+pub use grammar::Grammar;
 pub use jobs::{JobFault, ReadJob, read_job};
 pub use limit::Limit;
 pub use lines::{FirstLine, first_line};

@@ -4,7 +4,7 @@ use crate::task::TaskPart;
 use cov_base::Name;
 use listing_lines::ListingLines;
 use module_area::Image;
-use session_book::{JobNames, TaskCard};
+use session_book::{JobNames, Service, TaskCard};
 use std::marker::Model;
 
 /// A session as its card says, with its controller's name, none for a whole session.
@@ -29,6 +29,8 @@ impl Model for SessionDraft {
 pub(crate) struct Draft {
     pub images: Vec<Image>,
     pub listings: Vec<Option<ListingLines>>,
+    /// None where no SERVICE card may come.
+    pub services: Option<Vec<Service>>,
     pub phases: Vec<Name>,
     pub sessions: Vec<SessionDraft>,
     pub tasks: Vec<TaskCard>,
@@ -65,6 +67,8 @@ pub(crate) enum Part {
         left: u32,
         lines: ListingLines,
     },
+    /// SERVICE: no phase was read.
+    Services,
     /// SESSION: no task of the phase was read.
     Sessions,
     /// The open task.

@@ -53,10 +53,11 @@ impl Pieces {
         requires reading { is_done self.taken.reader.part ≡ false }
         requires room { size_of self + length piece.now ≤ INPUT_LIMIT }
         ensures taken { (old : List ℕ) → HasTaken old self → IfOk result (λ r. HasTaken (old ++ used_of piece.now r.1) r.0) }
-        ensures fed { (before : List ℕ) → HasTaken before self → IfOk result (λ r. Feeds before piece.now r.1) }
+        ensures fed { (old : List ℕ) → HasTaken old self → IfOk result (λ r. Feeds self.taken.grammar old piece.now r.1) }
+        ensures grammar { IfOk result (λ r. r.0.taken.grammar ≡ self.taken.grammar) }
         ensures used { IfOk result (λ r. used_count piece.now r.1 ≤ length piece.now) }
         ensures ended { IfOk result (λ r. is_done r.0.taken.reader.part ≡ is_end r.1) }
-        ensures fault { (before : List ℕ) → HasTaken before self → IfErr result (IsTold (before ++ piece.now)) }
+        ensures fault { (old : List ℕ) → HasTaken old self → IfErr result (IsTold self.taken.grammar (old ++ piece.now)) }
     {
         let mut pieces = self;
         let mut used = 0;
@@ -75,10 +76,10 @@ impl Pieces {
     pub(crate) fn finish(self, alloc: Global) -> Result<ReadJob, JobFault>
         requires taken { (bytes : List ℕ) × HasTaken bytes self }
         requires room { size_of self ≤ INPUT_LIMIT }
-        ensures job { (bytes : List ℕ) → HasTaken bytes self → IfOk result (IsRead bytes) }
+        ensures job { (bytes : List ℕ) → HasTaken bytes self → IfOk result (IsRead self.taken.grammar bytes) }
         ensures whole { (bytes : List ℕ) → HasTaken bytes self → IfOk result (λ r. r.end ≡ length bytes) }
-        ensures only { (bytes : List ℕ) → HasTaken bytes self → AnswersOnly (lines_of bytes) result }
-        ensures fault { (bytes : List ℕ) → HasTaken bytes self → IfErr result (IsRefusal (lines_of bytes)) }
+        ensures only { (bytes : List ℕ) → HasTaken bytes self → AnswersOnly self.taken.grammar (lines_of bytes) result }
+        ensures fault { (bytes : List ℕ) → HasTaken bytes self → IfErr result (IsRefusal self.taken.grammar (lines_of bytes)) }
     {
         let Pieces { mut taken, cut } = self;
         if cut.is_empty() {

@@ -5,8 +5,9 @@ ghost use Rattle.session_book.specs.Meaning.{JobView};
 ghost use Rattle.job_text.specs.Meaning.{Present, lines_of, IsWithin, IsRefusal, Spells};
 ghost use Rattle.job_text.specs.Pieces.{IsTold, Feeds, used_of, used_count, is_end};
 ghost use Rattle.job_text.specs.Refusals.{IsRead, AnswersOnly};
-ghost use Rattle.job_text.specs.Taken.{IsFed, told, has_ended, fed_size};
+ghost use Rattle.job_text.specs.Taken.{IsFed, grammar_of, told, has_ended, fed_size};
 
+use crate::grammar::Grammar;
 use crate::jobs::{JobFault, ReadJob};
 use crate::pieces::{Fed, Pieces};
 use crate::taken::Taken;
@@ -19,7 +20,7 @@ use std::mem;
 #[derive(Drop)]
 pub(crate) enum Stage {
     Reading(Pieces),
-    Failed(JobFault),
+    Failed { grammar: Grammar, fault: JobFault },
 }
 
 /// Reads a job from pieces of bytes as they come.
@@ -41,8 +42,9 @@ impl Model for JobReader {
 }
 
 impl JobReader {
-    /// Nothing was fed.
-    pub fn new(alloc: Global) -> Result<JobReader, NoMemory>
+    /// Nothing was fed; the job may have the cards of this grammar.
+    pub fn new(alloc: Global, grammar: Grammar) -> Result<JobReader, NoMemory>
+        ensures grammar { IfOk result (λ r. grammar_of r ≡ grammar) }
         ensures nothing { IfOk result (IsFed []) }
         ensures no_fault { IfOk result (λ r. told r ≡ None) }
         ensures reading { IfOk result (λ r. has_ended r ≡ false) }
@@ -50,7 +52,7 @@ impl JobReader {
     {
         Ok(JobReader {
             stage: Stage::Reading(Pieces {
-                taken: Taken::new(alloc),
+                taken: Taken::new(alloc, grammar),
                 cut: Vec::new(alloc),
             }),
         })
@@ -64,32 +66,40 @@ impl JobReader {
     pub fn feed(&mut self, alloc: Global, piece: &[u8]) -> Result<Fed, JobFault>
         requires reading { has_ended self.old ≡ false }
         requires room { fed_size self.old + length piece.now ≤ INPUT_LIMIT }
+        ensures grammar { grammar_of self.new ≡ grammar_of self.old }
         ensures taken { (old : List ℕ) → IsFed old self.old → IfOk result (λ f. IsFed (old ++ used_of piece.now f) self.new) }
-        ensures fed { (before : List ℕ) → IsFed before self.old → IfOk result (Feeds before piece.now) }
+        ensures fed { (old : List ℕ) → IsFed old self.old → IfOk result (Feeds (grammar_of self.old) old piece.now) }
         ensures used { IfOk result (λ f. used_count piece.now f ≤ length piece.now) }
-        ensures fault { (before : List ℕ) → IsFed before self.old → IfErr result (IsTold (before ++ piece.now)) }
-        ensures failed { (before : List ℕ) → IsFed before self.old → IfErr result (λ _. IsFed (before ++ piece.now) self.new) }
+        ensures fault { (old : List ℕ) → IsFed old self.old → IfErr result (IsTold (grammar_of self.old) (old ++ piece.now)) }
+        ensures failed { (old : List ℕ) → IsFed old self.old → IfErr result (λ _. IsFed (old ++ piece.now) self.new) }
         ensures same { (e : JobFault) → told self.old ≡ Some e → result ≡ Err e }
         ensures told { IfErr result (λ e. told self.new ≡ Some e) }
         ensures no_fault { IfOk result (λ _. told self.new ≡ None) }
         ensures ended { IfOk result (λ f. has_ended self.new ≡ is_end f) }
         ensures size { fed_size self.new ≤ fed_size self.old + length piece.now }
     {
-        match mem::replace(&mut self.stage, Stage::Failed(JobFault::NoMemory)) {
-            Stage::Failed(fault) => {
-                self.stage = Stage::Failed(fault);
+        let empty = Stage::Failed {
+            grammar: Grammar::Plain,
+            fault: JobFault::NoMemory,
+        };
+        match mem::replace(&mut self.stage, empty) {
+            Stage::Failed { grammar, fault } => {
+                self.stage = Stage::Failed { grammar, fault };
                 Err(fault)
             }
-            Stage::Reading(pieces) => match pieces.feed(alloc, piece) {
-                Ok((pieces, fed)) => {
-                    self.stage = Stage::Reading(pieces);
-                    Ok(fed)
+            Stage::Reading(pieces) => {
+                let grammar = pieces.taken.grammar;
+                match pieces.feed(alloc, piece) {
+                    Ok((pieces, fed)) => {
+                        self.stage = Stage::Reading(pieces);
+                        Ok(fed)
+                    }
+                    Err(fault) => {
+                        self.stage = Stage::Failed { grammar, fault };
+                        Err(fault)
+                    }
                 }
-                Err(fault) => {
-                    self.stage = Stage::Failed(fault);
-                    Err(fault)
-                }
-            },
+            }
         }
     }
 
@@ -99,20 +109,20 @@ impl JobReader {
     {
         match &self.stage {
             Stage::Reading(pieces) => pieces.taken.reader.is_done(),
-            Stage::Failed(_) => false,
+            Stage::Failed { .. } => false,
         }
     }
 
     /// What `read_job` answers for the bytes that were fed, up to ENDJOB's.
     pub fn finish(self, alloc: Global) -> Result<ReadJob, JobFault>
-        ensures job { (bytes : List ℕ) → IsFed bytes self → IfOk result (IsRead bytes) }
+        ensures job { (bytes : List ℕ) → IsFed bytes self → IfOk result (IsRead (grammar_of self) bytes) }
         ensures whole { (bytes : List ℕ) → IsFed bytes self → IfOk result (λ r. r.end ≡ length bytes) }
-        ensures only { (bytes : List ℕ) → IsFed bytes self → AnswersOnly (lines_of bytes) result }
-        ensures fault { (bytes : List ℕ) → IsFed bytes self → IfErr result (IsRefusal (lines_of bytes)) }
+        ensures only { (bytes : List ℕ) → IsFed bytes self → AnswersOnly (grammar_of self) (lines_of bytes) result }
+        ensures fault { (bytes : List ℕ) → IsFed bytes self → IfErr result (IsRefusal (grammar_of self) (lines_of bytes)) }
         ensures same { (e : JobFault) → told self ≡ Some e → result ≡ Err e }
     {
         match self.stage {
-            Stage::Failed(fault) => Err(fault),
+            Stage::Failed { grammar: _, fault } => Err(fault),
             Stage::Reading(pieces) => pieces.finish(alloc),
         }
     }

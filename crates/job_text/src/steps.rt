@@ -11,7 +11,11 @@ ghost use Rattle.job_text.specs.Views.{view};
 use crate::binding::bound_job;
 use crate::card::Card;
 use crate::cards::read_card;
-use crate::drafts::{closed, closed_module, closed_task, fits, has_task, with_phase, with_session};
+use crate::drafts::{
+    closed, closed_module, closed_service, closed_task, fits, has_task, with_phase, with_service,
+    with_session,
+};
+use crate::grammar::Grammar;
 use crate::limit::Limit;
 use crate::lines::listing_text;
 use crate::parts::{Draft, Part};
@@ -23,7 +27,7 @@ use cov_base::{
 };
 use listing_lines::ListingLines;
 use module_area::Image;
-use session_book::{Job, JobNames};
+use session_book::{Job, JobNames, Service};
 use std::alloc::Global;
 use std::marker::Model;
 use std::mem;
@@ -48,14 +52,19 @@ impl Model for LineReader {
 
 impl LineReader {
     /// Nothing was read.
-    pub(crate) fn new(alloc: Global) -> LineReader
-        ensures { result ≡ machine.start }
+    pub(crate) fn new(alloc: Global, grammar: Grammar) -> LineReader
+        ensures { result ≡ machine.start grammar }
     {
+        let services = match grammar {
+            Grammar::Plain => None,
+            Grammar::Services => Some(Vec::new(alloc)),
+        };
         LineReader {
             part: Part::Start,
             job: Draft {
                 images: Vec::new(alloc),
                 listings: Vec::new(alloc),
+                services,
                 phases: Vec::new(alloc),
                 sessions: Vec::new(alloc),
                 tasks: Vec::new(alloc),
@@ -135,6 +144,16 @@ impl LineReader {
                 })
             }
             _ => Err(LineRefused::Bad),
+        }
+    }
+
+    fn service_card(self, service: Service) -> Result<LineReader, LineRefused>
+        ensures ok { IfOk result (machine.Gives (machine.take_service self service)) }
+        ensures err { IfErr result (machine.Refuses (machine.take_service self service)) }
+    {
+        match closed_service(self.part, self.job)? {
+            None => Err(LineRefused::Bad),
+            Some(job) => add_service(job, service),
         }
     }
 
@@ -219,6 +238,7 @@ impl LineReader {
             Card::Module { name, base, size } => self.module_card(alloc, name, base, size),
             Card::Text(bytes) => self.text_card(&bytes),
             Card::Listing(n) => self.listing_card(alloc, n),
+            Card::Service(service) => self.service_card(service),
             Card::Phase(name) => self.phase_card(name),
             Card::Session { name, by, modules } => { self.session_card(alloc, name, by, &modules) }
             Card::Task {
@@ -285,7 +305,7 @@ impl LineReader {
         match read_card(alloc, bytes)? {
             None => Err(LineRefused::Bad),
             Some(card) => {
-                let before = mem::replace(self, LineReader::new(alloc));
+                let before = mem::replace(self, LineReader::new(alloc, Grammar::Plain));
                 *self = before.card(alloc, card)?;
                 Ok(())
             }
@@ -340,6 +360,20 @@ fn open_module(
         part: Part::Texts { image, left: size },
         job,
     })
+}
+
+fn add_service(job: Draft, service: Service) -> Result<LineReader, LineRefused>
+    requires { machine.HasRoom kind.Modules job }
+    ensures ok { IfOk result (machine.Gives (machine.add_service service job)) }
+    ensures err { IfErr result (machine.Refuses (machine.add_service service job)) }
+{
+    match with_service(job, service)? {
+        None => Err(LineRefused::Bad),
+        Some(job) => Ok(LineReader {
+            part: Part::Services,
+            job,
+        }),
+    }
 }
 
 fn open_phase(job: Draft, name: Name) -> Result<LineReader, LineRefused>

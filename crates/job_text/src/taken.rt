@@ -6,6 +6,7 @@ ghost use Rattle.job_text.specs.Refusals.{IsRead, AnswersOnly};
 ghost use Rattle.job_text.specs.Steps.{start, step};
 ghost use Rattle.job_text.specs.Taken.{IsNext, IsFaultAt, HasRun};
 
+use crate::grammar::Grammar;
 use crate::jobs::{JobFault, ReadJob};
 use crate::refused::LineRefused;
 use crate::steps::LineReader;
@@ -14,6 +15,7 @@ use std::alloc::Global;
 /// What the lines say that were taken, how many they are, and how many bytes with their LFs.
 #[derive(Drop)]
 pub(crate) struct Taken {
+    pub grammar: Grammar,
     pub reader: LineReader,
     pub lines: u32,
     pub bytes: usize,
@@ -21,13 +23,15 @@ pub(crate) struct Taken {
 
 impl Taken {
     /// No line.
-    pub(crate) fn new(alloc: Global) -> Taken
-        ensures reader { result.reader ≡ start }
+    pub(crate) fn new(alloc: Global, grammar: Grammar) -> Taken
+        ensures grammar { result.grammar ≡ grammar }
+        ensures reader { result.reader ≡ start grammar }
         ensures lines { result.lines ≡ 0 }
         ensures bytes { result.bytes ≡ 0 }
     {
         Taken {
-            reader: LineReader::new(alloc),
+            grammar,
+            reader: LineReader::new(alloc, grammar),
             lines: 0,
             bytes: 0,
         }
@@ -62,10 +66,10 @@ impl Taken {
     pub(crate) fn finish(self, alloc: Global) -> Result<ReadJob, JobFault>
         requires ran { (bytes : List ℕ) × HasRun bytes self }
         requires room { self.bytes + 1 < 2 ^ 32 }
-        ensures job { (bytes : List ℕ) → HasRun bytes self → IfOk result (IsRead bytes) }
+        ensures job { (bytes : List ℕ) → HasRun bytes self → IfOk result (IsRead self.grammar bytes) }
         ensures whole { (bytes : List ℕ) → HasRun bytes self → IfOk result (λ r. r.end ≡ length bytes) }
-        ensures only { (bytes : List ℕ) → HasRun bytes self → AnswersOnly (lines_of bytes) result }
-        ensures fault { (bytes : List ℕ) → HasRun bytes self → IfErr result (IsRefusal (lines_of bytes)) }
+        ensures only { (bytes : List ℕ) → HasRun bytes self → AnswersOnly self.grammar (lines_of bytes) result }
+        ensures fault { (bytes : List ℕ) → HasRun bytes self → IfErr result (IsRefusal self.grammar (lines_of bytes)) }
     {
         if self.reader.is_done() {
             return Ok(ReadJob {

@@ -5,10 +5,11 @@ mod items;
 mod jobs;
 mod limits;
 mod pieces;
+mod services;
 
 ghost use Rattle.std.specs.Prelude.{◌<◌};
 
-use job_text::{JobFault, read_job};
+use job_text::{Grammar, JobFault, read_job};
 use session_book::{Job, TaskCard};
 use std::alloc::{AllocError, Global};
 use std::process::Abort;
@@ -43,7 +44,7 @@ fn bad_line(alloc: Global, input: &[u8]) -> u32 {
     if input.len() > 16_777_216 {
         return 99_999;
     }
-    match read_job(alloc, input) {
+    match read_job(alloc, Grammar::Plain, input) {
         Ok(read) if read.end < input.len() => read.lines.wrapping_add(1),
         Ok(_) => 0,
         Err(JobFault::BadJob { line }) => line,
@@ -71,7 +72,7 @@ fn job_of(alloc: Global, input: &[u8]) -> Option<Job> {
     if input.len() > 1_000 {
         return None;
     }
-    match read_job(alloc, input) {
+    match read_job(alloc, Grammar::Plain, input) {
         Ok(read) => Some(read.job),
         Err(_) => None,
     }

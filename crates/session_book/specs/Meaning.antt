@@ -10,6 +10,7 @@ use Rattle.cov_base.specs.declared.numbers.TaskNo.{TaskNo}
 use Rattle.cov_base.specs.declared.numbers.PlaceNo.{PlaceNo}
 use Rattle.module_area.specs.declared.places.Place.{Place}
 use Rattle.s370_state.specs.Meaning.{fresh_io}
+use Rattle.session_book.specs.declared.services.Service.{Service}
 
 -- A job as lists, wherever memory holds it, and the rules that its values keep.
 
@@ -36,6 +37,8 @@ pub record JobView : Type 0 where
   pub images : List ImageView
   -- for each module the lines of its listing, where it has one
   pub listings : List (Option (List (List ℕ)))
+  -- in the order of their cards; none where the job was read without SERVICE cards
+  pub services : Option (List Service)
   pub phases : List (List ℕ)
   pub sessions : List SessionView
   pub tasks : List TaskView

@@ -1,6 +1,6 @@
 //! Controlled sessions: each rule of a SESSION card with BY, kept and broken at its line.
 use super::none_wrong;
-use job_text::{JobFault, read_job};
+use job_text::{Grammar, JobFault, read_job};
 use session_book::Job;
 use std::alloc::{AllocError, Global};
 use std::test::Fail;
@@ -14,7 +14,7 @@ fn bad_line(alloc: Global, input: &[u8]) -> u32 {
     if input.len() > 1_000 {
         return 99_999;
     }
-    match read_job(alloc, input) {
+    match read_job(alloc, Grammar::Plain, input) {
         Ok(_) => 0,
         Err(JobFault::BadJob { line }) => line,
         Err(_) => 99_998,
@@ -148,7 +148,7 @@ fn reads_controllers(alloc: Global, input: &[u8]) -> bool {
     if input.len() > 1_000 {
         return false;
     }
-    match read_job(alloc, input) {
+    match read_job(alloc, Grammar::Plain, input) {
         Ok(read) => has_controllers(&read.job),
         Err(_) => false,
     }

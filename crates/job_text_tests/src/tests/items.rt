@@ -1,7 +1,7 @@
 //! Each item, and lines that come near to one.
 use super::none_wrong;
 use cov_base::TaskNo;
-use job_text::{Item, item_of, read_job};
+use job_text::{Grammar, Item, item_of, read_job};
 use session_book::Job;
 use std::test::Fail;
 
@@ -83,7 +83,7 @@ fn wrong_item(job: &Job) -> Option<usize> {
 
 #[test]
 fn knows_each_item(rt: HostRuntime) -> Result<(), Fail> {
-    match read_job(rt.alloc(), JOB) {
+    match read_job(rt.alloc(), Grammar::Plain, JOB) {
         Ok(read) => none_wrong(&rt, wrong_item(&read.job)),
         Err(_) => assert!(rt; false),
     }

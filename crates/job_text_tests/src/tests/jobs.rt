@@ -1,6 +1,6 @@
 //! Whole jobs, and each rule of the cards broken at its line.
 use super::none_wrong;
-use job_text::{JobFault, Limit, ReadJob, read_job};
+use job_text::{Grammar, JobFault, Limit, ReadJob, read_job};
 use session_book::Job;
 use std::alloc::{AllocError, Global};
 use std::test::Fail;
@@ -32,7 +32,7 @@ pub fn told(alloc: Global, input: &[u8]) -> (u32, Option<Limit>) {
     if input.len() > 16_777_216 {
         return (99_999, None);
     }
-    match read_job(alloc, input) {
+    match read_job(alloc, Grammar::Plain, input) {
         Ok(_) => (0, None),
         Err(fault) => told_of(fault),
     }
@@ -43,7 +43,7 @@ fn read_of(alloc: Global, input: &[u8]) -> Option<ReadJob> {
     if input.len() > 1_000 {
         return None;
     }
-    read_job(alloc, input).ok()
+    read_job(alloc, Grammar::Plain, input).ok()
 }
 
 /// Whether the job has module M, of these bytes, alone.

@@ -1,7 +1,7 @@
 //! Jobs in pieces: cut in two at each byte, in pieces of 1 byte and of 64. A fault is told when its line has come.
 ghost use Rattle.std.specs.Prelude.{◌<◌, ◌≤◌, length};
 
-use job_text::{Fed, JobFault, JobReader, Limit, ReadJob, read_job};
+use job_text::{Fed, Grammar, JobFault, JobReader, Limit, ReadJob, read_job};
 use std::alloc::{AllocError, Global};
 use std::cmp::min;
 use std::test::Fail;
@@ -26,7 +26,7 @@ fn in_pieces(
     requires first { first ≤ 1000 }
     requires size { size ≤ 1000 }
 {
-    let Ok(mut reader) = JobReader::new(alloc) else {
+    let Ok(mut reader) = JobReader::new(alloc, Grammar::Plain) else {
         return Err(AllocError);
     };
     let mut at = 0;
@@ -93,7 +93,7 @@ fn is_same(alloc: Global, input: &[u8], bytes: usize, lines: u32) -> Result<bool
     if input.len() > 1_000 || input.len() != bytes {
         return Ok(false);
     }
-    let Ok(whole) = read_job(alloc, input) else {
+    let Ok(whole) = read_job(alloc, Grammar::Plain, input) else {
         return Ok(false);
     };
     if whole.end != bytes || whole.lines != lines {
@@ -160,7 +160,7 @@ fn tells(alloc: Global, input: &[u8], bytes: usize, wanted: Told) -> Result<bool
             return Ok(false);
         }
     }
-    Ok(told(&read_job(alloc, input)) == wanted)
+    Ok(told(&read_job(alloc, Grammar::Plain, input)) == wanted)
 }
 
 #[test]

@@ -8,7 +8,7 @@ use Rattle.job_text.specs.Meaning.{Present}
 use Rattle.job_text.specs.declared.pieces.Pieces.{Pieces}
 use Rattle.job_text.proofs.EndedLines.{LfNext, lf_next, lf_none, used_all}
 use Rattle.job_text.proofs.LineLemmas.{ended_line}
-use Rattle.job_text.proofs.Readings.{taken_few, taken_on, line_taken, line_told, rest_taken, is_open, is_ended}
+use Rattle.job_text.proofs.Readings.{taken_few, taken_on, told_nothing, line_taken, line_told, rest_taken, is_open, is_ended}
 use Rattle.job_text.proofs.pieces.Pieces.feed.Goals as goal
 
 pub ended_line-requires-clause-few : goal.ended_line-requires-clause-few
@@ -33,19 +33,25 @@ ended_line-requires-clause-room c =
     )
 
 told_at : (before piece : List ℕ) (used size : ℕ) (p : Pieces) (e : JobFault) → LfNext piece used size → HasTaken (before ++ take used piece) p → is_done p.taken.reader.part ≡ false →
-    IsFaultOf (step Present p.taken.reader (ended_line (p.cut.items ++ take (used + size - used) (drop used piece)))) (p.taken.lines + 1) e → IsTold (before ++ piece) e
+    IsFaultOf (step Present p.taken.reader (ended_line (p.cut.items ++ take (used + size - used) (drop used piece)))) (p.taken.lines + 1) e → IsTold p.taken.grammar (before ++ piece) e
 told_at before piece used size p e n t reading f =
     let same : used + size - used ≡ size = omega arith in
     let line : List ℕ = take size (drop used piece) in
     let rest : List ℕ = drop (suc size) (drop used piece) in
     let whole : (before ++ take used piece) ++ (line ++ 10 ∷ rest) ≡ before ++ piece = append_assoc before (take used piece) (line ++ 10 ∷ rest) ∙ ap (λ (x : List ℕ). before ++ x) (sym n.whole) in
-    subst (λ (x : List ℕ). IsTold x e) whole (line_told (before ++ take used piece) line rest p e n.partial t reading (rw same at f))
+    subst (λ (x : List ℕ). IsTold p.taken.grammar x e) whole (line_told (before ++ take used piece) line rest p e n.partial t reading (rw same at f))
 
 pub returns-in_err-ended_line-clause-fault : goal.returns-in_err-ended_line-clause-fault
 returns-in_err-ended_line-clause-fault c = λ before h.
     let p = err_from_is_err_and c.from_residual.result c.from_residual.ensures.1 in
     let n = lf_next c.args.piece.now c.loop-size.used c.in-Some.size c.loop-size.invariant.inside (sym c.in-Some.ensures) in
-    rw (p.1, p.2) (told_at before c.args.piece.now c.loop-size.used c.in-Some.size c.loop-size.pieces _ n (c.loop-size.invariant.taken before h) c.loop-size.invariant.reading c.in_err-ended_line.ensures.fault)
+    rw (p.1, p.2, ← c.loop-size.invariant.grammar) (told_at before c.args.piece.now c.loop-size.used c.in-Some.size c.loop-size.pieces _ n (c.loop-size.invariant.taken before h) c.loop-size.invariant.reading c.in_err-ended_line.ensures.fault)
+
+pub returns-in_err-extend_from_slice-clause-fault :
+    goal.returns-in_err-extend_from_slice-clause-fault
+returns-in_err-extend_from_slice-clause-fault c = λ before h.
+    let p = err_from_is_err_and c.from_residual-in_err-extend_from_slice.result c.from_residual-in_err-extend_from_slice.ensures.1 in
+    rw (p.1, p.2) (told_nothing _ (before ++ c.args.piece.now))
 
 pub overflow_add-used-in-Some-2 : goal.overflow_add-used-in-Some-2
 overflow_add-used-in-Some-2 c =
@@ -69,7 +75,8 @@ pub returns-then-is_done-clause-fed : goal.returns-then-is_done-clause-fed
 returns-then-is_done-clause-fed c = λ before h.
     let n = lf_next c.args.piece.now c.loop-size.used c.in-Some.size c.loop-size.invariant.inside (sym c.in-Some.ensures) in
     let t = taken_at before c.args.piece.now c.loop-size.used c.in-Some.size c.loop-size.pieces c.ended_line.new.self n (c.loop-size.invariant.taken before h) c.in_ok-ended_line.ensures.next c.in_ok-ended_line.ensures.none in
-    is_ended before c.args.piece.now (c.loop-size.used + (c.in-Some.size + 1)) c.ended_line.new.self (omega arith) (omega (arith, n.inside)) t (sym c.is_done.ensures ∙ c.if-is_done.true)
+    let grammar = c.in_ok-ended_line.ensures.next.grammar ∙ c.loop-size.invariant.grammar in
+    rw (← grammar) (is_ended before c.args.piece.now (c.loop-size.used + (c.in-Some.size + 1)) c.ended_line.new.self (omega arith) (omega (arith, n.inside)) t (sym c.is_done.ensures ∙ c.if-is_done.true))
 
 pub returns-then-is_done-clause-used : goal.returns-then-is_done-clause-used
 returns-then-is_done-clause-used c =
@@ -82,6 +89,7 @@ loop-size-preserved c =
     record {
       inside = omega (arith, n.inside);
       taken = λ before h. taken_at before c.args.piece.now c.loop-size.used c.in-Some.size c.loop-size.pieces c.ended_line.new.self n (c.loop-size.invariant.taken before h) c.in_ok-ended_line.ensures.next c.in_ok-ended_line.ensures.none;
+      grammar = c.in_ok-ended_line.ensures.next.grammar ∙ c.loop-size.invariant.grammar;
       reading = sym c.is_done.ensures ∙ c.if-is_done.false;
     }
 
@@ -98,6 +106,6 @@ returns-clause-taken c = λ before h. rest_at before c.args.piece.now c.loop-siz
 
 pub returns-clause-fed : goal.returns-clause-fed
 returns-clause-fed c = λ before h.
-    is_open (before ++ c.args.piece.now) (record { taken = c.loop-size.pieces.taken; cut = c.extend_from_slice.new.self })
+    rw (← c.loop-size.invariant.grammar) (is_open (before ++ c.args.piece.now) (record { taken = c.loop-size.pieces.taken; cut = c.extend_from_slice.new.self })
     (rest_at before c.args.piece.now c.loop-size.used c.loop-size.pieces (record { taken = c.loop-size.pieces.taken; cut = c.extend_from_slice.new.self }) (sym c.in_default.ensures) (c.loop-size.invariant.taken before h) c.loop-size.invariant.reading refl c.in_ok-extend_from_slice.ensures.items)
-    c.loop-size.invariant.reading
+    c.loop-size.invariant.reading)

@@ -7,6 +7,7 @@ abbrev pub invariant-loop-size : goal.invariant-loop-size
 invariant-loop-size l = record {
   inside : l.used ≤ length l.piece;
   taken : (before : List ℕ) → HasTaken before l.fn.self → HasTaken (before ++ take l.used l.piece) l.pieces;
+  grammar : l.pieces.taken.grammar ≡ l.fn.self.taken.grammar;
   reading : is_done l.pieces.taken.reader.part ≡ false;
 }
 

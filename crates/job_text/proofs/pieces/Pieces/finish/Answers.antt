@@ -46,7 +46,7 @@ reading bytes p some h = not_true (is_done p.taken.reader.part) (λ done. some_c
     some_cut [] h e = omega arith
     some_cut (x ∷ xs) h e = absurd cc
 
-refuted : (bytes : List ℕ) (p : Pieces) (e : JobFault) → 0 < length p.cut.items → HasTaken bytes p → IsFaultOf (step Present p.taken.reader (open_line p.cut.items)) (p.taken.lines + 1) e → Refuted (lines_of bytes) e (length (lines_of bytes))
+refuted : (bytes : List ℕ) (p : Pieces) (e : JobFault) → 0 < length p.cut.items → HasTaken bytes p → IsFaultOf (step Present p.taken.reader (open_line p.cut.items)) (p.taken.lines + 1) e → Refuted p.taken.grammar (lines_of bytes) e (length (lines_of bytes))
 refuted bytes p e some h f = last_refuted bytes p e some h (reading bytes p some h) f
 
 pub returns-in_err-line-clause-only : goal.returns-in_err-line-clause-only
@@ -69,7 +69,7 @@ finish-requires-2-clause-ran c =
 pub returns-clause-job : goal.returns-clause-job
 returns-clause-job c =
     let some : 0 < length c.args.self.cut.items = grind (arith, nat_tests, c.args.self.cut.ok, c.is_empty.ensures, c.if-is_empty.false) in
-    λ bytes h. c.finish-2.ensures.job bytes (last_taken bytes c.args.self c.line.new.self some h (rw c.deref.ensures.value at c.in_ok-line.ensures.next))
+    λ bytes h. rw (← c.in_ok-line.ensures.next.grammar) (c.finish-2.ensures.job bytes (last_taken bytes c.args.self c.line.new.self some h (rw c.deref.ensures.value at c.in_ok-line.ensures.next)))
 
 pub returns-clause-whole : goal.returns-clause-whole
 returns-clause-whole c =
@@ -79,9 +79,9 @@ returns-clause-whole c =
 pub returns-clause-only : goal.returns-clause-only
 returns-clause-only c =
     let some : 0 < length c.args.self.cut.items = grind (arith, nat_tests, c.args.self.cut.ok, c.is_empty.ensures, c.if-is_empty.false) in
-    λ bytes h. c.finish-2.ensures.only bytes (last_taken bytes c.args.self c.line.new.self some h (rw c.deref.ensures.value at c.in_ok-line.ensures.next))
+    λ bytes h. rw (← c.in_ok-line.ensures.next.grammar) (c.finish-2.ensures.only bytes (last_taken bytes c.args.self c.line.new.self some h (rw c.deref.ensures.value at c.in_ok-line.ensures.next)))
 
 pub returns-clause-fault : goal.returns-clause-fault
 returns-clause-fault c =
     let some : 0 < length c.args.self.cut.items = grind (arith, nat_tests, c.args.self.cut.ok, c.is_empty.ensures, c.if-is_empty.false) in
-    λ bytes h. c.finish-2.ensures.fault bytes (last_taken bytes c.args.self c.line.new.self some h (rw c.deref.ensures.value at c.in_ok-line.ensures.next))
+    λ bytes h. rw (← c.in_ok-line.ensures.next.grammar) (c.finish-2.ensures.fault bytes (last_taken bytes c.args.self c.line.new.self some h (rw c.deref.ensures.value at c.in_ok-line.ensures.next)))

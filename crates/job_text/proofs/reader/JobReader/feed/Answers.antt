@@ -1,6 +1,6 @@
 use Rattle.std.proofs.Common.{◌++◌, ap, subst, sym, ◌∙◌, arith}
 use Rattle.job_text.specs.Pieces.{used_of}
-use Rattle.job_text.specs.Taken.{IsFed, fed_size}
+use Rattle.job_text.specs.Taken.{IsFed, grammar_of, fed_size}
 use Rattle.job_text.proofs.Readings.{told_more, fed_on}
 use Rattle.job_text.proofs.reader.JobReader.feed.Goals as goal
 
@@ -17,10 +17,17 @@ invariant_of-self-in-Ok c =
     }
 
 pub returns-in-Failed-clause-fault : goal.returns-in-Failed-clause-fault
-returns-in-Failed-clause-fault c = λ before h. told_more before c.args.piece.now c.in-Failed.fault (subst (IsFed before) (sym c.self.view_is ∙ (sym c.replace.ensures.value ∙ c.in-Failed.is)) h)
+returns-in-Failed-clause-fault c = λ before h.
+    let is = sym c.self.view_is ∙ (sym c.replace.ensures.value ∙ c.in-Failed.is) in
+    rw (ap grammar_of is) (told_more before c.args.piece.now c.in-Failed.fault (subst (IsFed before) is h))
 
 pub returns-in-Failed-clause-failed : goal.returns-in-Failed-clause-failed
-returns-in-Failed-clause-failed c = returns-in-Failed-clause-fault c
+returns-in-Failed-clause-failed c = λ before h. told_more before c.args.piece.now c.in-Failed.fault (subst (IsFed before) (sym c.self.view_is ∙ (sym c.replace.ensures.value ∙ c.in-Failed.is)) h)
+
+pub returns-in-Ok-clause-fed : goal.returns-in-Ok-clause-fed
+returns-in-Ok-clause-fed c = λ before h.
+    let is = sym c.self.view_is ∙ (sym c.replace.ensures.value ∙ c.in-Reading.is) in
+    rw (ap grammar_of is) (c.in-Ok.ensures.fed before (subst (IsFed before) is h))
 
 pub returns-in-Ok-clause-size : goal.returns-in-Ok-clause-size
 returns-in-Ok-clause-size c =

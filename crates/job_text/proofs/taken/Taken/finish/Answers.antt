@@ -9,7 +9,7 @@ pub finish-requires : goal.finish-requires
 finish-requires c =
     let bytes = c.requires.ran.0 in
     let h = c.requires.ran.1 in
-    read_keeps (lines_of bytes) (plain c.args.self.reader) h.runs (sym c.is_done.ensures ∙ c.if-is_done.true) (within_of (lines_of bytes) (plain c.args.self.reader) h.runs h.goes_on)
+    read_keeps c.args.self.grammar (lines_of bytes) (plain c.args.self.reader) h.runs (sym c.is_done.ensures ∙ c.if-is_done.true) (within_of (lines_of bytes) (plain c.args.self.reader) h.runs h.goes_on)
 
 pub returns-then-is_done-clause-job : goal.returns-then-is_done-clause-job
 returns-then-is_done-clause-job c = λ bytes h. taken_job bytes c.args.self _ h (sym c.is_done.ensures ∙ c.if-is_done.true) c.in_ok-finish.ensures refl refl

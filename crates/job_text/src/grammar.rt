@@ -1,0 +1,10 @@
+//! Which cards a job may have.
+
+/// Which cards a job may have.
+#[derive(Clone, Copy, Debug, PartialEq, Eq)]
+pub enum Grammar {
+    /// All but SERVICE.
+    Plain,
+    /// SERVICE too, behind the modules.
+    Services,
+}

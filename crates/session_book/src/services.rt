@@ -1,0 +1,11 @@
+//! The services of a job.
+
+use cov_base::Addr;
+
+/// A routine of the job, which answers the supervisor call of this number.
+#[derive(Clone, Copy)]
+pub struct Service {
+    pub number: u8,
+    /// Where it begins: any address.
+    pub entry: Addr,
+}
