@@ -1,12 +1,11 @@
 -- What the claim of the program says by this crate's clauses.
 use Rattle.std.specs.Prelude.{ℕ, ◌-◌, Option, Some, None, option_map, List, [], ◌∷◌, get_or, count_by, ◌≡◌, ◌+◌}
-use Rattle.std.specs.Option.{option_or}
+use Rattle.std.specs.Option.{option_and_then, option_or}
 use Rattle.cov_base.specs.Meaning.{ImageView}
 use Rattle.listing_reader.specs.Meaning.{listing_of, fault_of}
 use Rattle.listing_reader.specs.declared.lines.Line.{Line}
 use Rattle.listing_reader.specs.declared.lines.Line.TheVariants.{Text}
 use Rattle.listing_reader.specs.declared.lines.Line.TheVariants as says
-use Rattle.listing_reader.specs.declared.lines.ListFault.{ListFault}
 use Rattle.brk_table.specs.Meaning.{first_fault, is_code, IsTable, TableView, TablesView, all_places}
 use Rattle.brk_table.specs.declared.faults.BuildFault.{BuildFault}
 use Rattle.brk_table.specs.declared.faults.BuildFault.TheVariants as build
@@ -31,15 +30,10 @@ abbrev pub build_fault : List ℕ → List Line → BuildFault → TablesFault
 build_fault name lines build.NoMemory = first.NoMemory
 build_fault name lines e = first.Build name (location_in lines e) e
 
--- by what the listing says, or that it says nothing
-abbrev pub fault_by : ImageView → ℕ → Option ListFault → Option (List Line) → Option TablesFault
-fault_by image room (Some e) lines = Some (first.List image.name e)
-fault_by image room None None = None
-fault_by image room None (Some lines) = option_map (build_fault image.name lines) (first_fault image.bytes room [] lines)
-
--- of a module's listing, with room for so many places
+-- of a module's listing, with room for so many places: its own first fault, or that of what it says
 abbrev pub listing_fault : ImageView → ℕ → List (List ℕ) → Option TablesFault
-listing_fault image room texts = fault_by image room (fault_of texts) (listing_of texts)
+listing_fault image room texts = option_or (option_map (first.List image.name) (fault_of texts))
+    (option_and_then (λ (lines : List Line). option_map (build_fault image.name lines) (first_fault image.bytes room [] lines)) (listing_of texts))
 
 abbrev pub places_in : Option (List Line) → ℕ
 places_in None = 0
