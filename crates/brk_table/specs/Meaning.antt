@@ -22,7 +22,8 @@ pub record TableView : Type 0 where
   pub places : List Place
   pub lines : List (Option ℕ)
 
--- the tables of the monitored modules, all their places one table after the other, and the instructions that are kept of these
+-- the tables of the monitored modules, all their places one table after the other, and the instructions that are kept of
+-- these, of which no claim says anything
 pub record TablesView : Type 0 where
   pub tables : List TableView
   pub places : List Place

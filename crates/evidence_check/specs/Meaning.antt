@@ -162,7 +162,7 @@ entries_fields tasks at (suc n) bs = entry_fields tasks at bs ++ entries_fields 
 abbrev pub evidence_fields : ℕ → ℕ → List ℕ → List Field
 evidence_fields tasks count bs = field 0 bs 0 8 (bytes_eq (take 8 bs) magic) ∷ entries_fields tasks 8 count (drop 8 bs)
 
--- What it means that marks and evidence are verified, and the faults.
+-- What it means that marks and evidence are verified.
 
 -- the file has at each place the set of the session's executions, and the bytes are their evidence
 pub record IsVerified (j : JobView) (tables : TablesView) (s : ℕ) (file : List MarkedView) (bs : List ℕ) : Type 0 where

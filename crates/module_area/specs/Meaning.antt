@@ -81,10 +81,10 @@ places_in (c ∷ cs) s = if nat_eq c.session s then c.places else places_in cs s
 abbrev pub places_under : PlanView → ℕ → List PlaceNo
 places_under plan s = places_in plan.controlled s
 
--- the sessions of the task, and its control before it opened one
 abbrev pub number_of : ControlledView → SessNo
 number_of c = record { 0 = c.session }
 
+-- the sessions of the task, and its control before it opened one
 abbrev pub sessions_of : PlanView → ℕ → List SessNo
 sessions_of plan t = map number_of (filter (λ (c : ControlledView). nat_eq c.by t) plan.controlled)
 
@@ -144,7 +144,7 @@ set_in places sets s p = get_or sets (index_of places s p) no_facts
 abbrev pub set_at : FinalsView → ℕ → ℕ → FactSet
 set_at finals s p = set_in finals.places finals.sets s p
 
--- The sets that an area ends with are those that its passes marked.
+-- How many of these sets are full.
 
 -- how many places with a window have a full set
 abbrev pub full_places : PlanView → FinalsView → ℕ
@@ -179,18 +179,16 @@ abbrev pub visits_at_places : List Place → List Visit → ℕ
 visits_at_places places [] = 0
 visits_at_places places (v ∷ vs) = (if is_place places v.at then 1 else 0) + visits_at_places places vs
 
--- What a party has done and knows, as lists, and what each kind of step adds to them.
+-- The session of a cell's tag, and whether a session is one of several.
 
--- the session of the tag, in its window or after it
+-- in its window or after it
 abbrev pub tag_session : ℕ → ℕ
 tag_session t = (t + 1) / 2
-
--- How a pass stands to the control of its task.
 
 abbrev pub has_session : List SessNo → ℕ → Bool
 has_session sessions s = list_any (λ (t : SessNo). nat_eq t.0 s) sessions
 
--- What contracts see of data cards, and the storage that they fill.
+-- Data cards, and the storage that they fill.
 
 -- bytes at an offset of private storage
 pub record DataView : Type 0 where
