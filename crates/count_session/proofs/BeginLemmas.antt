@@ -5,7 +5,7 @@ use lib.ListN.{get_elem?}
 use Rattle.std.proofs.lemmas.List.{get_or-map, get_or-append_right, get_or_append_left, length-map, length-replicate}
 use Rattle.atomic_table.specs.Table.{opening}
 use Rattle.module_area.specs.Meaning.{PlanView, original_at, no_place}
-use Rattle.module_area.specs.MeaningOfRule.{IsPlan}
+use Rattle.module_area.specs.Rule.{IsPlan}
 use Rattle.count_session.specs.declared.rule.CountView.{CountView}
 use Rattle.count_session.specs.Words.{original_of, starting, word_count}
 use Rattle.count_session.specs.Rule.{first_view, IsView, IsCounting}

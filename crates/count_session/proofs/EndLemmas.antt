@@ -3,12 +3,12 @@ use Rattle.std.proofs.Common.{◌≡◌, ℕ, zero, suc, [], ◌∷◌, ◌++◌
 use mathlib.Core.Option.{some, some-injective, some-ne-none}
 use lib.ListN.{get_elem?}
 use Rattle.atomic_table.specs.Table.{State, Final, Seen}
-use Rattle.module_area.specs.MeaningOfRule.{total}
+use Rattle.module_area.specs.Rule.{total}
 use Rattle.module_area.specs.Meaning.{PlanView, kind_at}
 use Rattle.module_area.proofs.PartyLemmas.{total_only}
 use Rattle.cov_base.specs.declared.facts.Fact.{Fact}
 use Rattle.cov_base.specs.declared.facts.Fact.TheVariants.{Ran, Went, Stayed}
-use Rattle.cov_base.specs.MeaningOfFacts.{is_of_kind}
+use Rattle.cov_base.specs.FactKind.{is_of_kind}
 use Rattle.count_session.specs.declared.counts.PlaceCount.{PlaceCount}
 use Rattle.count_session.specs.Tallied.{no_count, counted, IsRead, AreRead, HasCounts}
 use Rattle.count_session.specs.Words.{count_word}

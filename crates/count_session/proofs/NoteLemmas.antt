@@ -7,7 +7,7 @@ use Rattle.cov_base.specs.declared.facts.Fact.TheVariants.{Ran, Went, Stayed}
 use Rattle.cov_base.specs.declared.facts.Kind.{Kind}
 use Rattle.cov_base.specs.declared.facts.Kind.TheVariants.{Straight, Conditional}
 use Rattle.cov_base.specs.Meaning.{same_fact}
-use Rattle.cov_base.specs.MeaningOfFacts.{is_of_kind}
+use Rattle.cov_base.specs.FactKind.{is_of_kind}
 use Rattle.module_area.specs.Meaning.{PlanView, kind_at}
 use Rattle.count_session.specs.declared.rule.CountView.{CountView}
 use Rattle.count_session.specs.Notes.{after_add, after_join, is_same}

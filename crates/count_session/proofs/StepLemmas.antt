@@ -7,7 +7,7 @@ use native.Mathlib.Decide.{ℕ_discrete}
 use lib.ListN.{get_elem?}
 use Rattle.atomic_table.specs.Table.{State, Me, keeps, Allows, Splits, Joins}
 use Rattle.cov_base.specs.Meaning.{breakpoint}
-use Rattle.module_area.specs.MeaningOfRule.{total}
+use Rattle.module_area.specs.Rule.{total}
 use Rattle.module_area.specs.Meaning.{PlanView, original_at, window_at}
 use Rattle.module_area.proofs.PartyLemmas.{at_put, set_else, at_longer, all_set, all_snoc, all_two, total-set, total_two}
 use Rattle.count_session.specs.declared.rule.NoSlot.{NoSlot}

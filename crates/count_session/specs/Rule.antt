@@ -3,8 +3,8 @@ use Rattle.std.specs.Prelude.{◌≡◌, ℕ, ◌+◌, ◌*◌, ◌/◌, ◌^◌
 use mathlib.Core.Option.{some}
 use lib.ListN.{get_elem?}
 use Rattle.atomic_table.specs.Table.{State}
-use Rattle.cov_base.specs.MeaningOfFacts.{is_of_kind}
-use Rattle.module_area.specs.MeaningOfRule.{total, IsPlan}
+use Rattle.cov_base.specs.FactKind.{is_of_kind}
+use Rattle.module_area.specs.Rule.{total, IsPlan}
 use Rattle.module_area.specs.Meaning.{PlanView, original_at, kind_at, window_at}
 use Rattle.count_session.specs.declared.rule.NoSlot.{NoSlot}
 use Rattle.count_session.specs.declared.rule.CountView.{CountView}

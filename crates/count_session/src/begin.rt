@@ -1,7 +1,7 @@
 //! A new area.
 ghost use Rattle.std.specs.Prelude.{◌≡◌, ◌<◌, length, map, IfOk, OnOk};
 ghost use Rattle.module_area.specs.Meaning.{original_at};
-ghost use Rattle.module_area.specs.MeaningOfRule.{IsPlan};
+ghost use Rattle.module_area.specs.Rule.{IsPlan};
 ghost use Rattle.count_session.specs.Notes.{root_notes};
 ghost use Rattle.count_session.specs.Passes.{IsPassOf, notes_of, plan_in};
 ghost use Rattle.count_session.specs.Words.{original_of, starting};

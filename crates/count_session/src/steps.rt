@@ -1,6 +1,6 @@
 //! One step on one word for each call.
 ghost use Rattle.std.specs.Prelude.{◌≡◌, ◌<◌, ◌^◌, Some, true, false, length};
-ghost use Rattle.cov_base.specs.MeaningOfFacts.{is_of_kind};
+ghost use Rattle.cov_base.specs.FactKind.{is_of_kind};
 ghost use Rattle.module_area.specs.Meaning.{kind_at, window_at};
 ghost use Rattle.count_session.specs.Notes.{after_add, after_fetch, after_plant, cell_at};
 ghost use Rattle.count_session.specs.Passes.{IsPassOf, notes_of, plan_in};

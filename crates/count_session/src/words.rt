@@ -1,6 +1,6 @@
 //! How a cell lies in its word, and where the counts lie.
 ghost use Rattle.std.specs.Prelude.{◌≡◌, ◌*◌, ◌/◌, ◌^◌, ◌<◌, ◌≤◌, length};
-ghost use Rattle.module_area.specs.MeaningOfRule.{IsPlan};
+ghost use Rattle.module_area.specs.Rule.{IsPlan};
 ghost use Rattle.count_session.specs.Words.{cell_of, planted_word, count_index, count_word, word_count};
 
 use cov_base::{BREAKPOINT, Fact, PlaceNo};

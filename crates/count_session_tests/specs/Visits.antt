@@ -1,6 +1,6 @@
 -- What a thread of its own needs to count executions.
 use Rattle.std.specs.Prelude.{◌≡◌, ℕ, ◌<◌, true, false, length}
-use Rattle.cov_base.specs.MeaningOfFacts.{is_of_kind}
+use Rattle.cov_base.specs.FactKind.{is_of_kind}
 use Rattle.cov_base.specs.declared.facts.Fact.{Fact}
 use Rattle.module_area.specs.Meaning.{kind_at}
 use Rattle.count_session.specs.Passes.{IsPassOf, notes_of, plan_in}

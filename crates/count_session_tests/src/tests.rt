@@ -3,7 +3,7 @@
 ghost use Rattle.std.specs.Prelude.{◌≡◌, ◌+◌, ◌<◌, ◌≤◌, ◌^◌, length, true, false, IfOk};
 ghost use Rattle.cov_base.specs.declared.facts.Fact.TheVariants.{Went, Stayed};
 ghost use Rattle.cov_base.specs.declared.facts.Kind.TheVariants.{Straight, Conditional};
-ghost use Rattle.cov_base.specs.MeaningOfFacts.{is_of_kind};
+ghost use Rattle.cov_base.specs.FactKind.{is_of_kind};
 ghost use Rattle.module_area.specs.Meaning.{kind_at, window_at};
 ghost use Rattle.count_session.specs.Passes.{IsPassOf, notes_of, plan_in};
 ghost use Rattle.count_session_tests.specs.Visits.{CanVisit};

@@ -1,5 +1,5 @@
 pub mod FactInside
+pub mod FactKind
 pub mod FactSet
 pub mod Meaning
-pub mod MeaningOfFacts
 pub mod Published

@@ -192,7 +192,7 @@ is_controlled name true j number r must is by told = λ more s came.
 
 -- one that was played, and one that wasn't
 pub replayed : (s : SourceChange) (j : JobView) (tables : TablesView) (count : ℕ) (rest : List ℕ) (core : Parts) (played : List Played) (a : Account) (k : SinkChange) (answer : ℕ) →
-    CameWith to_go_on s j count rest → Match j tables → play_behind j tables count rest ≡ Whole core played → IsRun (record { job = j; places = tables.places }) core played → IsWritten 0 (replay_text j tables core played) k answer → Answers Replay s (no_change a) k answer
+    CameWith to_go_on s j count rest → Match j tables → play_behind j tables count rest ≡ Whole core played → IsRun (record { job = j; places = tables.places }) core → IsWritten 0 (replay_text j tables core played) k answer → Answers Replay s (no_change a) k answer
 replayed s j tables count rest core played a k answer came match' is run told =
     let r : ReadyView = record { job = j; tables = tables; number = 0; lines = count; rest = rest } in
     let ready : IsReady Replay came.bytes r = ready_with Replay s j tables 0 count rest came refl (any_job j) (unnamed j 0) match' in

@@ -8,7 +8,7 @@ use Rattle.cov_base.specs.Meaning.{FactSet}
 use Rattle.cov_base.specs.declared.numbers.SessNo.{SessNo}
 use Rattle.cov_base.specs.declared.numbers.TaskNo.{TaskNo}
 use Rattle.module_area.specs.Meaning.{set_at, ControlView, first_control, number_of, sessions_of, PlanView, ControlledView, has_session}
-use Rattle.module_area.specs.MeaningOfRule.{has_task}
+use Rattle.module_area.specs.Rule.{has_task}
 use Rattle.module_area.specs.declared.places.Place.{Place}
 use Rattle.session_book.specs.Meaning.{JobView, SessionView, TaskView, no_session, no_task, session_of, task_of, with_controlled, controlled_from, plan_view, ResultView}
 use Rattle.session_book.specs.JobView.{IsJob, IsTaskOf}

@@ -346,7 +346,7 @@ pub record IsPlayedRun (bytes : List ℕ) : Type 0 where
   pub core : Parts
   pub played : List Played
   pub plays : play_of ready.job ready.tables.places ready.lines (lines_of ready.rest) ≡ Whole core played
-  pub run : IsRun (record { job = ready.job; places = ready.tables.places }) core played
+  pub run : IsRun (record { job = ready.job; places = ready.tables.places }) core
 
 -- what holds besides where the answer is 0: `verify` has verified nothing else, and `replay` has played on the core
 abbrev pub HoldsBesides : Command → List ℕ → Type 0

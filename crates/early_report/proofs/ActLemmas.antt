@@ -5,7 +5,7 @@ use Rattle.cov_base.specs.Meaning.{FactSet, breakpoint}
 use Rattle.cov_base.specs.declared.numbers.PlaceNo.{PlaceNo}
 use Rattle.module_area.specs.declared.cells.Cell.{Cell}
 use Rattle.module_area.specs.Meaning.{PlanView, ControlledView, has_place, is_controlled, is_over, window_at, places_under}
-use Rattle.module_area.specs.MeaningOfRule.{IsPlan}
+use Rattle.module_area.specs.Rule.{IsPlan}
 use Rattle.module_area.specs.Notes.{Notes, NotedView, IsAnswer, after_fetch, after_plant, after_close, after_note, is_at, is_closed}
 use Rattle.module_area.proofs.Indices.{and_left, and_right}
 use Rattle.module_area.proofs.PlanLemmas.{any_at, over_cases}

@@ -7,7 +7,7 @@ use Rattle.std.proofs.lemmas.List.Elements.{All-tail, All-cons}
 use Rattle.cov_base.specs.Meaning.{FactSet, Visit}
 use Rattle.cov_base.specs.declared.numbers.SessNo.{SessNo}
 use Rattle.module_area.specs.Meaning.{PlanView, ControlledView, ControlView, number_of, sessions_of, control_after}
-use Rattle.module_area.specs.MeaningOfRule.{IsPlan, AreApart}
+use Rattle.module_area.specs.Rule.{IsPlan, AreApart}
 use Rattle.module_area.specs.Notes.{Notes, after_boundary, bearer, is_working, own_number}
 use Rattle.module_area.proofs.Indices.{and_left}
 use Rattle.module_area.proofs.PlanLemmas.{any_shown}

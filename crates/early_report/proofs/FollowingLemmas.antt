@@ -5,7 +5,7 @@ use Rattle.cov_base.specs.Meaning.{FactSet, Visit}
 use Rattle.cov_base.specs.declared.numbers.SessNo.{SessNo}
 use Rattle.brk_table.specs.Meaning.{TablesView}
 use Rattle.module_area.specs.Meaning.{PlanView, ControlView, control_after}
-use Rattle.module_area.specs.MeaningOfRule.{IsPlan}
+use Rattle.module_area.specs.Rule.{IsPlan}
 use Rattle.module_area.specs.Notes.{Notes, after_boundary, bearer, is_working, own_number}
 use Rattle.module_area.specs.Tied.{IsTied}
 use Rattle.observed_step.specs.Meaning.{Turn, calls_of}

@@ -5,7 +5,7 @@ use Rattle.cov_base.specs.Meaning.{Visit}
 use Rattle.cov_base.specs.declared.numbers.PlaceNo.{PlaceNo}
 use Rattle.cov_base.specs.declared.numbers.SessNo.{SessNo}
 use Rattle.module_area.specs.Meaning.{PlanView, ControlledView, has_place, ControlView, places_in, places_under, unless_open, to_open, opening, closing, control_after}
-use Rattle.module_area.specs.MeaningOfRule.{IsPlan, AreApart}
+use Rattle.module_area.specs.Rule.{IsPlan, AreApart}
 use Rattle.module_area.specs.Control.{after_closes, after_call}
 use Rattle.module_area.specs.Notes.{Notes, after_boundary, is_closed}
 use Rattle.module_area.specs.Tied.{IsTied}

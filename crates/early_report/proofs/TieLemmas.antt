@@ -7,7 +7,7 @@ use Rattle.std.proofs.lemmas.List.Elements.{All-filter}
 use Rattle.cov_base.specs.Meaning.{FactSet}
 use Rattle.cov_base.specs.declared.numbers.TaskNo.{TaskNo}
 use Rattle.module_area.specs.Meaning.{PlanView, places_under}
-use Rattle.module_area.specs.MeaningOfRule.{has_task}
+use Rattle.module_area.specs.Rule.{has_task}
 use Rattle.module_area.specs.Notes.{Notes, NotedView, bearer, is_past}
 use Rattle.module_area.proofs.PlanLemmas.{any_shown}
 use Rattle.early_report.specs.DrainView.{DrainView}

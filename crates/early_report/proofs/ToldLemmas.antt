@@ -8,7 +8,7 @@ use Rattle.cov_base.specs.declared.numbers.SessNo.{SessNo}
 use Rattle.cov_base.specs.declared.numbers.TaskNo.{TaskNo}
 use Rattle.s370_state.specs.declared.endings.Ending.{Ending}
 use Rattle.module_area.specs.Meaning.{PlanView, ControlView, places_under, sessions_of, has_session}
-use Rattle.module_area.specs.MeaningOfRule.{IsPlan, has_task}
+use Rattle.module_area.specs.Rule.{IsPlan, has_task}
 use Rattle.module_area.specs.Ended.{AreSettled}
 use Rattle.module_area.specs.Notes.{Notes, bearer, root_notes}
 use Rattle.module_area.specs.Tied.{IsTied, keeps_session_as}

@@ -2,7 +2,7 @@
 use Rattle.std.specs.Prelude.{◌≡◌, ℕ, ◌*◌, false, Option, All}
 use Rattle.std.specs.List.{list_any}
 use Rattle.module_area.specs.Meaning.{PlanView, ControlView}
-use Rattle.module_area.specs.MeaningOfRule.{IsPlan}
+use Rattle.module_area.specs.Rule.{IsPlan}
 use Rattle.module_area.specs.Notes.{Notes, after_boundary, own_number}
 use Rattle.observed_step.specs.Courses.{nothing}
 use Rattle.observed_step.specs.Hooks.{Way}

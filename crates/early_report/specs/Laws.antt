@@ -4,7 +4,7 @@ use Rattle.cov_base.specs.Meaning.{FactSet}
 use Rattle.module_area.specs.Ended.{AreSettled}
 use Rattle.module_area.specs.Meaning.{PlanView}
 use Rattle.module_area.specs.Notes.{Notes}
-use Rattle.module_area.specs.MeaningOfRule.{IsPlan}
+use Rattle.module_area.specs.Rule.{IsPlan}
 use Rattle.early_report.specs.Acts.{Acts}
 use Rattle.early_report.specs.Drains.{has_controlled, AreFinal}
 use Rattle.early_report.specs.Told.{sets_under}

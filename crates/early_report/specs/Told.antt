@@ -8,7 +8,7 @@ use Rattle.cov_base.specs.declared.numbers.TaskNo.{TaskNo}
 use Rattle.module_area.specs.Ended.{AreSettled}
 use Rattle.module_area.specs.Meaning.{PlanView, places_under}
 use Rattle.module_area.specs.Notes.{Notes}
-use Rattle.module_area.specs.MeaningOfRule.{has_task}
+use Rattle.module_area.specs.Rule.{has_task}
 use Rattle.task_run.specs.Meaning.{solo}
 use Rattle.task_run.specs.Ran.{walk_from}
 use Rattle.task_run.specs.declared.tasks.Task.{Task}

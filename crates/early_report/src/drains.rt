@@ -3,7 +3,7 @@ ghost use Rattle.std.specs.Prelude.{◌≡◌, ℕ, ◌<◌, ◌≤◌, length, 
 ghost use Rattle.cov_base.specs.declared.numbers.TaskNo.{TaskNo as TaskNumber};
 ghost use Rattle.cov_base.specs.Meaning.{no_facts};
 ghost use Rattle.module_area.specs.Notes.{is_final};
-ghost use Rattle.module_area.specs.MeaningOfRule.{has_task};
+ghost use Rattle.module_area.specs.Rule.{has_task};
 ghost use Rattle.early_report.specs.DrainView.{DrainView};
 ghost use Rattle.early_report.specs.Meaning.{others};
 ghost use Rattle.early_report.specs.Drains.{unused, has_controlled, controller_of, HasClosed, IsDrainOf, tasks_in, Begins, BeginsOthers, Polls, PollsDrain, from_entry, entry_of, polled, Reads, ReadsAll, AreKnown, AreFinal};

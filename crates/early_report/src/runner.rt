@@ -2,7 +2,7 @@
 ghost use Rattle.std.specs.Prelude.{◌≡◌, ◌<◌, ◌^◌, true, false, All, IfOk};
 ghost use Rattle.std.specs.List.{list_any};
 ghost use Rattle.module_area.specs.Notes.{is_working, own_number};
-ghost use Rattle.module_area.specs.MeaningOfRule.{IsPlan};
+ghost use Rattle.module_area.specs.Rule.{IsPlan};
 ghost use Rattle.task_run.specs.Meaning.{solo, is_opened};
 ghost use Rattle.task_run.specs.Ran.{RanAs};
 ghost use Rattle.early_report.specs.DrainView.{DrainView};

@@ -1,5 +1,5 @@
 -- Each event keeps each task where its run alone is.
-use Rattle.std.proofs.Common.{◌≡◌, inl, inr, ℕ, zero, suc, ◌+◌, ◌-◌, ◌<◌, ◌≤◌, Bool, true, false, nat_le, nat_lt, if◌then◌else◌, Option, Some, None, option_map, List, [], ◌∷◌, ◌++◌, length, get_or, set, refl, sym, ◌∙◌, ap, subst, arith}
+use Rattle.std.proofs.Common.{◌≡◌, inl, inr, ℕ, zero, suc, ◌+◌, ◌-◌, ◌<◌, ◌≤◌, Bool, true, false, nat_le, nat_lt, if◌then◌else◌, Option, Some, None, option_map, List, [], ◌∷◌, ◌++◌, length, get_or, set, refl, sym, ◌∙◌, ap, subst, arith, is_none}
 use Rattle.std.proofs.lemmas.Grind.{get_or-set_at}
 use Rattle.std.proofs.lemmas.List.{get_or-map, get_or-set_other, length-set, length-map}
 use Rattle.std.proofs.lemmas.Option.{same_Some}
@@ -12,9 +12,10 @@ use Rattle.s370_state.specs.declared.endings.Next.TheVariants.{On, Ended as Next
 use Rattle.s370_exec.specs.Meaning.{Run, solo_run, solo_step, run_on, run_after, run_ended, has_returned}
 use Rattle.s370_exec.proofs.TraceLemmas.{solo_step-done}
 use Rattle.session_book.specs.Meaning.{task_of, no_task, first_state}
-use Rattle.interleave_core.specs.Meaning.{World, TaskPart, Parts, part_of, no_part, memory_in, budget_in, first_parts, first_part, place_at, PlaceChange, Stepped, parts_step, fetch_step, fetched, mark_step, marked, lift_step, lifted, do_step, done_by, changed, with_due, original_under, same_cell, in_hand, with_stage, step_of, is_spent, executed, stage_after, place_due, task_goes_on, task_done, subject_place, instruction_executed, awaits_or, unless_at, same_due}
+use Rattle.interleave_core.specs.Meaning.{World, TaskPart, Parts, part_of, first_part, memory_in, budget_in, first_parts, place_at, PlaceChange, Stepped, parts_step, fetched, marked, lifted, done_by, changed, with_due, original_under, same_cell, in_hand, with_stage, step_of, is_spent, executed, stage_after, place_due, task_goes_on, task_done, subject_place, instruction_executed, awaits_or, same_due}
 use Rattle.module_area.specs.Meaning.{word_at}
-use Rattle.interleave_core.specs.MeaningOfLogs.{CoreState, CoreStepped, core_start, core_step, core_after, core_from, core_run, IsAlone, AreAlone}
+use Rattle.interleave_core.specs.CoreState.{CoreState, CoreStepped, core_start, core_step, core_after, core_from, core_run}
+use Rattle.interleave_core.specs.MeaningOfEvents.{IsAlone}
 use Rattle.interleave_core.proofs.Changes.{goes_on, Changed, plant_cases, close_by}
 use Rattle.interleave_core.proofs.Runs.{same_or, got, lifted_tasks, exists_by, in_hand-stage, through}
 use Rattle.interleave_core.specs.declared.events.Event.{Event}
@@ -187,7 +188,7 @@ awaits_by w t u (Some p) was on below g = goes_stage (memory_in w t) (budget_in 
 
 ready_goes : (m : Memory) (budget : ℕ) (first : State) (u v whole : TaskPart) (returned spent : Bool) (at : Option ℕ) → has_ended u.stage ≡ false → has_returned u.state ≡ returned → nat_le budget u.state.done ≡ spent →
     (has_returned u.state ≡ false → u.state.done < budget → Goes m budget first whole) → Goes m budget first u →
-    (if returned then Some (with_stage u (Ended Returned)) else (if spent then Some (with_stage u (Ended Spent)) else unless_at whole at)) ≡ Some v → Goes m budget first v
+    (if returned then Some (with_stage u (Ended Returned)) else (if spent then Some (with_stage u (Ended Spent)) else (if is_none at then Some whole else None))) ≡ Some v → Goes m budget first v
 ready_goes m budget first u v whole true spent at was r s go g h = subst (λ (x : TaskPart). Goes m budget first x) (same_Some _ v h) (goes_returned m budget first u was r g)
 ready_goes m budget first u v whole false true at was r s go g h = subst (λ (x : TaskPart). Goes m budget first x) (same_Some _ v h) (goes_spent m budget first u was r s g)
 ready_goes m budget first u v whole false false None was r s go g h = subst (λ (x : TaskPart). Goes m budget first x) (same_Some _ v h) (go r (leb-false budget u.state.done s))
@@ -243,10 +244,10 @@ AllGo w c = (t : ℕ) → t < length c.tasks → GoesAt w t (part_of c t)
 pub all_but : (w : World) (c d : Parts) (t : ℕ) (u : TaskPart) → d.tasks ≡ set c.tasks t u → t < length c.tasks → GoesAt w t u → AllGo w c → AllGo w d
 all_but w c d t u e lt one all s l =
     let inside : s < length c.tasks = subst (λ (n : ℕ). s < n) (ap (λ (x : List TaskPart). length x) e ∙ length-set c.tasks t u) l in
-    let there : part_of d s ≡ get_or (set c.tasks t u) s no_part = ap (λ (x : List TaskPart). get_or x s no_part) e in
+    let there : part_of d s ≡ get_or (set c.tasks t u) s (first_part no_task) = ap (λ (x : List TaskPart). get_or x s (first_part no_task)) e in
     elim (same_or s t) [
-      | inl same ↦ subst (λ (x : TaskPart). GoesAt w s x) (sym (there ∙ get_or-set_at c.tasks t s u no_part same lt)) (subst (λ (n : ℕ). GoesAt w n u) (sym same) one)
-      | inr other ↦ subst (λ (x : TaskPart). GoesAt w s x) (sym (there ∙ get_or-set_other c.tasks t s u no_part other)) (all s inside)
+      | inl same ↦ subst (λ (x : TaskPart). GoesAt w s x) (sym (there ∙ get_or-set_at c.tasks t s u (first_part no_task) same lt)) (subst (λ (n : ℕ). GoesAt w n u) (sym same) one)
+      | inr other ↦ subst (λ (x : TaskPart). GoesAt w s x) (sym (there ∙ get_or-set_other c.tasks t s u (first_part no_task) other)) (all s inside)
     ]
 
 all_changed : (w : World) (c : Parts) (t : ℕ) (y : PlaceChange) (x : Stepped) → t < length c.tasks → x ≡ changed w c t (part_of c t) y → AllGo w c → AllGo w x.parts
@@ -256,23 +257,23 @@ all_changed w c t y x lt made all =
 -- each event
 pub all_step : (w : World) (c : Parts) (e : Event) (x : Stepped) → parts_step w c e ≡ Some x → AllGo w c → AllGo w x.parts
 all_step w c (Fetch t) x h all =
-    let at = exists_by (nat_lt t.0 (length c.tasks)) (fetch_step w c t.0 (part_of c t.0)) x h in
+    let at = exists_by (nat_lt t.0 (length c.tasks)) (option_map (fetched w c t.0 (part_of c t.0)) (place_due w t.0 (part_of c t.0) (part_of c t.0).stage)) x h in
     let lt : t.0 < length c.tasks = ltb-true t.0 (length c.tasks) at.0 in
     let p = got ℕ (fetched w c t.0 (part_of c t.0)) (place_due w t.0 (part_of c t.0) (part_of c t.0).stage) x at.1 in
     all_but w c x.parts t.0 _ (ap (λ (y : Stepped). y.parts.tasks) p.2) lt (goes_fetch w t.0 (part_of c t.0) p.0 _ p.1 (all t.0 lt)) all
 all_step w c (Mark t) x h all =
-    let at = exists_by (nat_lt t.0 (length c.tasks)) (mark_step w c t.0 (part_of c t.0)) x h in
+    let at = exists_by (nat_lt t.0 (length c.tasks)) (option_map (marked w c t.0 (part_of c t.0)) (in_hand Marking (part_of c t.0).stage)) x h in
     let lt : t.0 < length c.tasks = ltb-true t.0 (length c.tasks) at.0 in
     let p = got Hand (marked w c t.0 (part_of c t.0)) (in_hand Marking (part_of c t.0).stage) x at.1 in
     all_but w c x.parts t.0 _ (ap (λ (y : Stepped). y.parts.tasks) p.2) lt (goes_held w t.0 (part_of c t.0) p.0 _ (in_hand-stage Marking (part_of c t.0).stage p.0 p.1).0 (all t.0 lt)) all
 all_step w c (Lift t) x h all =
-    let at = exists_by (nat_lt t.0 (length c.tasks)) (lift_step w c t.0 (part_of c t.0)) x h in
+    let at = exists_by (nat_lt t.0 (length c.tasks)) (option_map (lifted w c t.0 (part_of c t.0)) (in_hand Lifting (part_of c t.0).stage)) x h in
     let lt : t.0 < length c.tasks = ltb-true t.0 (length c.tasks) at.0 in
     let p = got Hand (lifted w c t.0 (part_of c t.0)) (in_hand Lifting (part_of c t.0).stage) x at.1 in
     let tasks = ap (λ (y : Stepped). y.parts.tasks) p.2 ∙ ap (λ (ts : List TaskPart). set ts t.0 (with_due (part_of c t.0) p.0 Nothing)) (lifted_tasks (same_cell (word_at c.cells p.0.place.0) p.0.cell) c p.0.place.0 (original_under w p.0.place.0 p.0.cell)) in
     all_but w c x.parts t.0 (with_due (part_of c t.0) p.0 Nothing) tasks lt (goes_held w t.0 (part_of c t.0) p.0 _ (in_hand-stage Lifting (part_of c t.0).stage p.0 p.1).0 (all t.0 lt)) all
 all_step w c (Do t) x h all =
-    let at = exists_by (nat_lt t.0 (length c.tasks)) (do_step w c t.0 (part_of c t.0)) x h in
+    let at = exists_by (nat_lt t.0 (length c.tasks)) (option_map (done_by c t.0) (task_done w t.0 (part_of c t.0) (part_of c t.0).stage)) x h in
     let lt : t.0 < length c.tasks = ltb-true t.0 (length c.tasks) at.0 in
     let v = got TaskPart (done_by c t.0) (task_done w t.0 (part_of c t.0) (part_of c t.0).stage) x at.1 in
     all_but w c x.parts t.0 v.0 (ap (λ (y : Stepped). y.parts.tasks) v.2) lt (goes_done w t.0 (part_of c t.0) v.0 (part_of c t.0).stage refl v.1 (all t.0 lt)) all
@@ -285,7 +286,7 @@ all_step w c (Close s p) x h all = let by : Changed w c true s.0 p.0 x = close_b
 pub all_first : (w : World) → AllGo w (first_parts w)
 all_first w t l =
     let lt : t < length w.job.tasks = subst (λ (n : ℕ). t < n) (length-map w.job.tasks first_part) l in
-    subst (λ (u : TaskPart). GoesAt w t u) (sym (get_or-map first_part w.job.tasks t no_task no_part lt)) (goes_first w t)
+    subst (λ (u : TaskPart). GoesAt w t u) (sym (get_or-map first_part w.job.tasks t no_task (first_part no_task) lt)) (goes_first w t)
 
 pub got_core : (w : World) (d : CoreState) (e : Event) (o : Option Stepped) (y : CoreStepped) → option_map (core_after w d e) o ≡ Some y → (x : Stepped) × (o ≡ Some x) × (x.parts ≡ y.core.parts)
 got_core w d e None y h = let n : None ≡ Some y = h in absurd cc
@@ -299,5 +300,5 @@ all_from w d c (e ∷ events) all h =
     all_from w at.0.core c events (subst (λ (p : Parts). AllGo w p) made.2 (all_step w d.parts e made.0 made.1 all)) at.2
 
 -- after every list of events
-pub run_alone : (w : World) (c : CoreState) (events : List Event) → core_run w events ≡ Some c → AreAlone w c.parts
+pub run_alone : (w : World) (c : CoreState) (events : List Event) → core_run w events ≡ Some c → (t : ℕ) → t < length c.parts.tasks → IsAlone w t (part_of c.parts t)
 run_alone w c events h t lt = goes_alone w t (part_of c.parts t) (all_from w (core_start w) c events (all_first w) h t lt)

@@ -6,11 +6,11 @@ use Rattle.std.proofs.lemmas.Bool.{ltb-true}
 use Rattle.s370_exec.specs.Meaning.{has_returned}
 use Rattle.s370_state.specs.declared.endings.Ending.TheVariants.{Returned, Spent}
 use Rattle.module_area.specs.Meaning.{word_at}
-use Rattle.interleave_core.specs.Meaning.{World, TaskPart, Parts, part_of, place_at, PlaceChange, controller_of, change_of, next_place, Stepped, step_of, subject_place, is_spent, with_cell, with_stage, executed, awaits_or, unless_at, task_goes_on, same_due, change_due, unless_due, task_done, breakpoint_of, of_task, may_change, changed, change_where, change_step, by_controller, may_plant, whole_step, plant_step, close_step}
+use Rattle.interleave_core.specs.Meaning.{World, TaskPart, Parts, part_of, place_at, PlaceChange, controller_of, change_of, next_place, Stepped, step_of, subject_place, is_spent, with_cell, with_stage, executed, awaits_or, task_goes_on, same_due, change_due, task_done, breakpoint_of, of_task, may_change, changed, change_step, by_controller, may_plant, whole_step}
 use Rattle.cov_base.specs.declared.numbers.PlaceNo.{PlaceNo}
 use Rattle.cov_base.specs.declared.numbers.SessNo.{SessNo}
-use Rattle.module_area.specs.MeaningOfRule.{window_tag}
-use Rattle.interleave_core.specs.MeaningOfLogs.{CoreState, core_after, is_task, log_after, Item, Gave}
+use Rattle.module_area.specs.Rule.{window_tag}
+use Rattle.interleave_core.specs.CoreState.{CoreState, core_after, is_task, log_after, Item, Gave}
 use Rattle.interleave_core.specs.declared.events.Event.TheVariants.{Plant, Close}
 use Rattle.interleave_core.specs.declared.events.Shown.{Shown}
 use Rattle.interleave_core.specs.declared.events.Shown.TheVariants.{Planted, Closed}
@@ -21,7 +21,7 @@ use Rattle.interleave_core.proofs.Runs.{exists_by}
 
 -- ---- Do
 
-none_due : (o : Option PlaceChange) (d : Option TaskPart) (v : TaskPart) → unless_due o d ≡ Some v → (o ≡ None) × (d ≡ Some v)
+none_due : (o : Option PlaceChange) (d : Option TaskPart) (v : TaskPart) → (if is_none o then d else None) ≡ Some v → (o ≡ None) × (d ≡ Some v)
 none_due None d v h = (refl, h)
 none_due (Some x) d v h = let n : None ≡ Some v = h in absurd cc
 
@@ -40,7 +40,7 @@ pub is_done : (w : World) (t : ℕ) (u v : TaskPart) (stage : Stage) → task_do
 is_done w t u v Ready h = by (has_returned u.state) (is_spent w t u.state) (place_at w u.state.machine.cpu.ia) (subject_place w (step_of w t u).visits) (done_due w t u v Ready h) (goes_on w t u v Ready h)
   where
     by : (returned spent : Bool) (at subject : Option ℕ) → (if not returned && (not spent && (is_none at && is_none subject)) then option_and_then (next_place u.changed) (change_of w t u) else None) ≡ None →
-        (if returned then Some (with_stage u (Ended Returned)) else (if spent then Some (with_stage u (Ended Spent)) else unless_at (awaits_or u (executed w t u) subject) at)) ≡ Some v → IsDone w t u v
+        (if returned then Some (with_stage u (Ended Returned)) else (if spent then Some (with_stage u (Ended Spent)) else (if is_none at then Some (awaits_or u (executed w t u) subject) else None))) ≡ Some v → IsDone w t u v
     by true spent at subject d k = inl (Ended Returned, sym (same_Some _ v k))
     by false true at subject d k = inl (Ended Spent, sym (same_Some _ v k))
     by false false (Some p) subject d k = let n : None ≡ Some v = k in absurd cc
@@ -85,7 +85,7 @@ same_way true false h = absurd cc
 same_way false true h = absurd cc
 
 due_by : (w : World) (c : Parts) (closes : Bool) (s p t : ℕ) (o : Option PlaceChange) (x : Stepped) → controller_of w s ≡ Some t → t < length c.tasks → change_due w t (part_of c t) (part_of c t).stage ≡ o →
-    option_and_then (change_where w c closes s p t (part_of c t)) o ≡ Some x → Changed w c closes s p x
+    option_and_then (λ (y : PlaceChange). if may_change c closes s p y then Some (changed w c t (part_of c t) y) else None) o ≡ Some x → Changed w c closes s p x
 due_by w c closes s p t None x by there due h = let n : None ≡ Some x = h in absurd cc
 due_by w c closes s p t (Some y) x by there due h =
     let made = exists_by (may_change c closes s p y) (Some (changed w c t (part_of c t) y)) x h in
@@ -113,7 +113,7 @@ pub record IsWholePlant (w : World) (c : Parts) (s p : ℕ) (x : Stepped) : Type
   pub may : may_plant w c s p ≡ true
   pub made : x ≡ record { parts = with_cell c p (breakpoint_of s); shown = Planted }
 
-pub plant_cases : (w : World) (c : Parts) (s p : ℕ) (x : Stepped) → plant_step w c s p ≡ Some x → IsWholePlant w c s p x ⊎ Changed w c false s p x
+pub plant_cases : (w : World) (c : Parts) (s p : ℕ) (x : Stepped) → by_controller w c false s p (whole_step w c s p) (controller_of w s) ≡ Some x → IsWholePlant w c s p x ⊎ Changed w c false s p x
 plant_cases w c s p x h = by (controller_of w s) refl h
   where
     by : (o : Option ℕ) → controller_of w s ≡ o → by_controller w c false s p (whole_step w c s p) o ≡ Some x → IsWholePlant w c s p x ⊎ Changed w c false s p x
@@ -122,7 +122,7 @@ plant_cases w c s p x h = by (controller_of w s) refl h
         inl (record { by_none = e; may = made.0; made = sym (same_Some _ x made.1) })
     by (Some t) e k = inr (by_task w c false s p t x e k)
 
-pub close_by : (w : World) (c : Parts) (s p : ℕ) (x : Stepped) → close_step w c s p ≡ Some x → Changed w c true s p x
+pub close_by : (w : World) (c : Parts) (s p : ℕ) (x : Stepped) → by_controller w c true s p None (controller_of w s) ≡ Some x → Changed w c true s p x
 close_by w c s p x h = by (controller_of w s) refl h
   where
     by : (o : Option ℕ) → controller_of w s ≡ o → by_controller w c true s p None o ≡ Some x → Changed w c true s p x

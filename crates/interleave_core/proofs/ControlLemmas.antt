@@ -1,11 +1,11 @@
 -- The sessions of a plan are few, and so are each one's places.
+use Rattle.interleave_core.specs.Views.{controlled_by}
 use Rattle.std.proofs.Common.{◌≡◌, ℕ, zero, suc, ◌+◌, ◌-◌, ◌<◌, ◌≤◌, Bool, true, false, nat_eq, if◌then◌else◌, Option, Some, None, IsSome, option_map, List, [], ◌∷◌, length, get_or, slice_get, refl, sym, subst, arith}
 use Rattle.std.proofs.lemmas.Option.{slice_get_within}
 use Rattle.cov_base.specs.declared.limits.TheConstants.{SESSION_LIMIT}
 use Rattle.cov_base.specs.declared.numbers.PlaceNo.{PlaceNo}
 use Rattle.module_area.specs.Meaning.{PlanView, ControlledView}
-use Rattle.module_area.specs.MeaningOfRule.{IsPlan, IsControlled}
-use Rattle.interleave_core.specs.Meaning.{controlled_by}
+use Rattle.module_area.specs.Rule.{IsPlan, IsControlled}
 
 -- numbers that rise from 0 on, below this one
 rising : (f : ℕ → ℕ) (n count : ℕ) → ((i : ℕ) → i + 1 < count → f i < f (i + 1)) → n < count → n ≤ f n

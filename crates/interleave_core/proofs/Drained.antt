@@ -12,7 +12,7 @@ use Rattle.module_area.proofs.Indices.{and_left, and_right}
 use Rattle.module_area.proofs.StepLemmas.{or_cases}
 use Rattle.interleave_core.specs.Meaning.{World, TaskPart, Parts, part_of, PlaceChange, ending_of, Stepped, parts_step, changed_cell, set_of}
 use Rattle.interleave_core.specs.World.{IsWorld}
-use Rattle.interleave_core.specs.MeaningOfLogs.{CoreState, CoreStepped, core_start, core_step, core_from, core_run, planted_by}
+use Rattle.interleave_core.specs.CoreState.{CoreState, CoreStepped, core_start, core_step, core_from, core_run, planted_by}
 use Rattle.interleave_core.specs.Quiet.{is_quiet, StayQuiet, is_close, is_between, ends, now_or_later, ends_in, IsDrained, QuietAsDrained, DrainedStay}
 use Rattle.interleave_core.specs.Views.{AreSteady, CoreView}
 use Rattle.interleave_core.specs.declared.events.Event.{Event}

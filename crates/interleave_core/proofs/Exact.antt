@@ -1,26 +1,27 @@
 -- The sets are exact once all tasks have ended.
-use Rattle.std.proofs.Common.{◌≡◌, ◌⊎◌, inl, inr, ℕ, zero, suc, ◌+◌, ◌*◌, ◌%◌, ◌<◌, Bool, true, false, nat_lt, if◌then◌else◌, Option, Some, None, is_none, List, [], ◌∷◌, length, set, refl, sym, ◌∙◌, ap, subst, arith, eq-eqb}
+use Rattle.std.proofs.Common.{◌≡◌, ◌↔◌, ◌⊎◌, inl, inr, ℕ, zero, suc, ◌+◌, ◌*◌, ◌%◌, ◌<◌, Bool, true, false, nat_lt, if◌then◌else◌, Option, Some, None, is_none, List, [], ◌∷◌, length, set, refl, sym, ◌∙◌, ap, subst, arith, eq-eqb, option_map}
 use Rattle.std.proofs.lemmas.Option.{same_Some}
 use Rattle.std.proofs.lemmas.Bool.{and_from, ltb-true}
 use mathlib.Core.Option.{some, some-injective, some-ne-none}
 use lib.ListN.{get_elem?}
 use Rattle.cov_base.specs.Meaning.{FactSet, has_fact, with_fact, is_full, full_of, fact_of}
-use Rattle.cov_base.specs.MeaningOfFacts.{is_of_kind}
+use Rattle.cov_base.specs.FactKind.{is_of_kind}
 use Rattle.cov_base.specs.declared.facts.Fact.{Fact}
 use Rattle.cov_base.specs.declared.facts.Fact.TheVariants.{Ran, Went, Stayed}
 use Rattle.cov_base.specs.declared.facts.Kind.{Kind}
 use Rattle.cov_base.specs.declared.facts.Kind.TheVariants.{Straight, Conditional}
 use Rattle.s370_state.specs.declared.endings.Ending.{Ending}
-use Rattle.module_area.specs.MeaningOfRule.{planted, IsForm, Has, window_tag, is_breakpoint, is_lifted, fetching, planting}
+use Rattle.module_area.specs.Rule.{planted, IsForm, Has, window_tag, is_breakpoint, is_lifted, fetching, planting}
 use Rattle.module_area.specs.Meaning.{tag_session, word_at, PlanView, original_at, kind_at}
 use Rattle.module_area.specs.declared.cells.Cell.{Cell}
 use Rattle.module_area.specs.declared.parties.View.{View}
 use Rattle.module_area.proofs.FactLemmas.{is_full-true}
 use Rattle.module_area.proofs.PartyLemmas.{here-add_if, more-add_if}
-use Rattle.interleave_core.specs.Meaning.{World, TaskPart, part_of, plan_in, Stepped, parts_step, fetch_step, fetched, mark_step, marked, lift_step, lifted, do_step, done_by, with_due, with_stage, original_under, same_cell, in_hand, hand_at, step_of, place_due, is_awaiting, task_done, set_of, fact_in, controller_of}
+use Rattle.interleave_core.specs.Meaning.{World, TaskPart, Parts, part_of, plan_in, Stepped, parts_step, fetched, marked, lifted, done_by, with_due, with_stage, original_under, same_cell, in_hand, hand_at, step_of, place_due, is_awaiting, task_done, set_of, fact_in, controller_of}
 use Rattle.interleave_core.specs.World.{IsWorld}
 use Rattle.s370_exec.specs.Meaning.{visit_of}
-use Rattle.interleave_core.specs.MeaningOfLogs.{CoreState, core_start, core_step, core_after, core_from, core_run, log_after, entry_of, Entry, Item, Met, Gave, HasShown, HaveEnded, AreExact, with_mark, with_lift, with_notes, task_view, task_views, first_planter, planted_by, planter_from}
+use Rattle.interleave_core.specs.CoreState.{CoreState, core_start, core_step, core_after, core_from, core_run, log_after, entry_of, Entry, Item, Met, Gave, with_mark, with_lift, with_notes, task_view, task_views, first_planter, planted_by, planter_from}
+use Rattle.interleave_core.specs.MeaningOfEvents.{HaveEnded}
 use Rattle.interleave_core.specs.declared.events.Event.{Event}
 use Rattle.interleave_core.specs.declared.events.Event.TheVariants.{Fetch, Mark, Lift, Do, Plant, Close}
 use Rattle.interleave_core.specs.declared.events.Shown.TheVariants.{Fetched, Marked, Lifted, Done}
@@ -35,6 +36,17 @@ use Rattle.interleave_core.proofs.Logs.{one_log, changed_log, got_step}
 use Rattle.interleave_core.proofs.Tied.{tied_step, tied_first}
 use Rattle.interleave_core.proofs.Rule.{Ruled, HasBreakpoint, IsMarked, AreMarked, entry_in, InStage, held_hand, view_at}
 use Rattle.interleave_core.proofs.Ruled.{fetch_due, kind_fact, ruled_step, ruled_first}
+
+-- ---- what a log shows
+
+-- an execution at place p in the window of session s showed the fact
+abbrev pub HasShown : ℕ → ℕ → Fact → List Item → Type 0
+HasShown s p f [] = ⊥
+HasShown s p f (Met e ∷ log) = ((e.place ≡ p) × (e.cell.tag ≡ window_tag s) × (e.fact ≡ Some f)) ⊎ HasShown s p f log
+HasShown s p f (Gave q t ∷ log) = HasShown s p f log
+
+abbrev pub AreExact : World → Parts → (ℕ → List Item) → Type 0
+AreExact w c logs = HaveEnded c → (s p : ℕ) (f : Fact) → 0 < s → p < length w.places → (has_fact (set_of w c s p) f ≡ true) ↔ ((t : ℕ) × (t < length c.tasks) × HasShown s p f (logs t))
 
 -- ---- what is so of each entry
 
@@ -94,7 +106,7 @@ Settle w c = (t : ℕ) → t < length c.parts.tasks → AreSettled w (c.logs t)
 settled_step : (w : World) (c : CoreState) (v : View) (e : Event) (x : Stepped) → IsWorld w → parts_step w c.parts e ≡ Some x → Sound w c v → Settle w (core_after w c e x).core
 settled_step w c v (Fetch t) x world h is =
     let u : TaskPart = part_of c.parts t.0 in
-    let at = exists_by (nat_lt t.0 (length c.parts.tasks)) (fetch_step w c.parts t.0 u) x h in
+    let at = exists_by (nat_lt t.0 (length c.parts.tasks)) (option_map (fetched w c.parts t.0 u) (place_due w t.0 u u.stage)) x h in
     let lt : t.0 < length c.parts.tasks = ltb-true t.0 (length c.parts.tasks) at.0 in
     let p = got ℕ (fetched w c.parts t.0 u) (place_due w t.0 u u.stage) x at.1 in
     let there : t.0 < length w.job.tasks = subst (λ (n : ℕ). t.0 < n) is.ruled.count lt in
@@ -105,7 +117,7 @@ settled_step w c v (Fetch t) x world h is =
     (fetch_settled w t.0 (with_stage u (Holding hand)) hand due.0 (is.ruled.held.site p.0 due.0).form, is.settled t.0 lt) is.settled)
 settled_step w c v (Mark t) x world h is =
     let u : TaskPart = part_of c.parts t.0 in
-    let at = exists_by (nat_lt t.0 (length c.parts.tasks)) (mark_step w c.parts t.0 u) x h in
+    let at = exists_by (nat_lt t.0 (length c.parts.tasks)) (option_map (marked w c.parts t.0 u) (in_hand Marking u.stage)) x h in
     let lt : t.0 < length c.parts.tasks = ltb-true t.0 (length c.parts.tasks) at.0 in
     let p = got Hand (marked w c.parts t.0 u) (in_hand Marking u.stage) x at.1 in
     let hand = held_hand w t.0 u (c.logs t.0) u.stage Marking p.0 (is.ruled.hands t.0 lt) p.1 in
@@ -117,7 +129,7 @@ settled_step w c v (Mark t) x world h is =
     (log_marked w t.0 u2 found (entry_in w t.0 u p.0 None) hand.0 (c.logs t.0) b.session hand.1 b.some_session b.cell (is.settled t.0 lt)) is.settled)
 settled_step w c v (Lift t) x world h is =
     let u : TaskPart = part_of c.parts t.0 in
-    let at = exists_by (nat_lt t.0 (length c.parts.tasks)) (lift_step w c.parts t.0 u) x h in
+    let at = exists_by (nat_lt t.0 (length c.parts.tasks)) (option_map (lifted w c.parts t.0 u) (in_hand Lifting u.stage)) x h in
     let lt : t.0 < length c.parts.tasks = ltb-true t.0 (length c.parts.tasks) at.0 in
     let p = got Hand (lifted w c.parts t.0 u) (in_hand Lifting u.stage) x at.1 in
     let taken : Bool = same_cell (word_at c.parts.cells p.0.place.0) p.0.cell in
@@ -126,7 +138,7 @@ settled_step w c v (Lift t) x world h is =
     (one_log w (λ n y log. AreSettled w log) c (lifted w c.parts t.0 u p.0).parts t.0 (with_due u p.0 Nothing) (Lifted taken) tasks lt (log_lifted w t.0 (with_due u p.0 Nothing) taken (c.logs t.0) (is.settled t.0 lt)) is.settled)
 settled_step w c v (Do t) x world h is =
     let u : TaskPart = part_of c.parts t.0 in
-    let at = exists_by (nat_lt t.0 (length c.parts.tasks)) (do_step w c.parts t.0 u) x h in
+    let at = exists_by (nat_lt t.0 (length c.parts.tasks)) (option_map (done_by c.parts t.0) (task_done w t.0 u u.stage)) x h in
     let lt : t.0 < length c.parts.tasks = ltb-true t.0 (length c.parts.tasks) at.0 in
     let n = got TaskPart (done_by c.parts t.0) (task_done w t.0 u u.stage) x at.1 in
     subst (λ (y : Stepped). Settle w (core_after w c (Do t) y).core) (sym n.2)

@@ -8,7 +8,7 @@ use Rattle.std.proofs.lemmas.List.{get_or-set_other, length-set}
 use Rattle.std.proofs.lemmas.Bool.{ltb-true}
 use Rattle.cov_base.specs.Meaning.{FactSet, no_facts}
 use Rattle.module_area.specs.Meaning.{word_at, no_cell, index_of, window_at, is_over, is_controlled}
-use Rattle.module_area.specs.MeaningOfRule.{Keeps, KeepsAs, Held, window_tag, tagging, planting, last_tag}
+use Rattle.module_area.specs.Rule.{Keeps, KeepsAs, Held, window_tag, tagging, planting, last_tag}
 use Rattle.module_area.specs.declared.cells.Cell.{Cell}
 use Rattle.module_area.specs.declared.parties.Role.{Role}
 use Rattle.module_area.specs.declared.parties.Role.TheVariants.{Spent}
@@ -17,7 +17,7 @@ use Rattle.module_area.proofs.Indices.{and_both}
 use Rattle.module_area.proofs.CellLemmas.{plants, closes as closes_step}
 use Rattle.module_area.proofs.StepLemmas.{or_left, or_right, spent_not_root, spent_not_task}
 use Rattle.interleave_core.specs.Meaning.{World, TaskPart, part_of, plan_in, PlaceChange, change_of, next_place, closed_of, change_due, Stepped, may_plant, breakpoint_of, with_cell, same_due, subject_place, step_of, set_of}
-use Rattle.interleave_core.specs.MeaningOfLogs.{CoreState, Item, Gave, task_view, task_views}
+use Rattle.interleave_core.specs.CoreState.{CoreState, Item, Gave, task_view, task_views}
 use Rattle.interleave_core.specs.declared.stage.Due.{Due}
 use Rattle.interleave_core.specs.declared.stage.Due.TheVariants.{Marking, Lifting, Nothing}
 use Rattle.interleave_core.specs.declared.stage.Stage.{Stage}

@@ -1,20 +1,21 @@
 -- A task's events have an end: each leaves less.
-use Rattle.std.specs.Option.{option_and_then}
+use Rattle.std.specs.Option.{option_and_then, option_map_or}
 use Rattle.cov_base.specs.Meaning.{State, is_full, with_fact}
-use Rattle.std.proofs.Common.{◌≡◌, inl, inr, not, ◌&&◌, is_none, eqb-true, ℕ, zero, suc, ◌+◌, ◌-◌, ◌*◌, ◌<◌, ◌≤◌, Bool, true, false, nat_lt, if◌then◌else◌, Option, Some, None, option_map, ◌∷◌, length, refl, sym, ap, ◌∙◌, subst, arith}
+use Rattle.std.proofs.Common.{◌≡◌, inl, inr, not, ◌&&◌, is_none, eqb-true, ℕ, zero, suc, ◌+◌, ◌-◌, ◌*◌, ◌<◌, ◌≤◌, Bool, true, false, nat_lt, if◌then◌else◌, Option, Some, None, option_map, [], ◌∷◌, length, refl, sym, ap, ◌∙◌, subst, arith, set}
 use Rattle.std.proofs.Math.Nat.{mul-le-mul_left}
 use Rattle.std.proofs.lemmas.Grind.{get_or-set_at}
 use Rattle.std.proofs.lemmas.Bool.{ltb-true, leb-false}
 use Rattle.cov_base.specs.declared.numbers.TaskNo.{TaskNo}
-use Rattle.module_area.specs.Meaning.{tag_session, kind_at, word_at}
-use Rattle.module_area.specs.MeaningOfRule.{IsPlan}
+use Rattle.module_area.specs.Meaning.{tag_session, kind_at, word_at, index_of}
+use Rattle.module_area.specs.Rule.{IsPlan}
 use Rattle.s370_state.specs.declared.endings.Ending.TheVariants.{Returned, Spent}
 use Rattle.s370_state.specs.declared.endings.Next.{Next}
 use Rattle.s370_state.specs.declared.endings.Next.TheVariants.{On, Ended as NextEnded}
 use Rattle.s370_exec.specs.Meaning.{has_returned}
 use Rattle.s370_exec.proofs.TraceLemmas.{solo_step-done}
-use Rattle.interleave_core.specs.Meaning.{World, TaskPart, Parts, part_of, no_part, plan_in, memory_in, budget_in, place_at, change_due, task_goes_on, Stepped, parts_step, run_on, of_task, with_task, with_stage, with_due, with_set, with_cell, place_due, is_spent, is_awaiting, due_after_fetch, hand_at, fetched, fetch_step, marked, mark_step, lifted, lift_step, in_hand, same_due, same_cell, original_under, step_of, subject_place, executed, stage_after, instruction_executed, awaits_or, unless_at, ready_done, task_done, done_by, do_step, set_of, fact_in, next_of, stage_event, PlaceChange, change_of, next_place, after, next_events, go_events, most_events}
-use Rattle.interleave_core.specs.MeaningOfLogs.{is_by, is_task}
+use Rattle.session_book.specs.Meaning.{no_task}
+use Rattle.interleave_core.specs.Meaning.{World, TaskPart, Parts, part_of, first_part, plan_in, memory_in, budget_in, place_at, change_due, task_goes_on, Stepped, parts_step, run_on, of_task, with_task, with_stage, with_due, with_cell, place_due, is_spent, is_awaiting, due_after_fetch, hand_at, fetched, marked, lifted, in_hand, same_due, same_cell, original_under, step_of, subject_place, executed, stage_after, instruction_executed, awaits_or, ready_done, task_done, done_by, set_of, fact_in, next_of, stage_event, PlaceChange, change_of, next_place, after, go_events, most_events}
+use Rattle.interleave_core.specs.CoreState.{is_by, is_task}
 use Rattle.interleave_core.specs.declared.events.Event.{Event}
 use Rattle.interleave_core.specs.declared.events.Event.TheVariants as event
 use Rattle.interleave_core.specs.declared.stage.Due.{Due}
@@ -51,7 +52,7 @@ left w c t = left_of w t (part_of c t) (part_of c t).stage
 
 -- what is left of a task that was put in the place of task t
 put_left : (w : World) (c : Parts) (t : ℕ) (u : TaskPart) → t < length c.tasks → left w (with_task c t u) t ≡ left_of w t u u.stage
-put_left w c t u lt = ap (λ (v : TaskPart). left_of w t v v.stage) (get_or-set_at c.tasks t t u no_part refl lt)
+put_left w c t u lt = ap (λ (v : TaskPart). left_of w t v v.stage) (get_or-set_at c.tasks t t u (first_part no_task) refl lt)
 
 due_few : (d : Due) → due_left d ≤ 3
 due_few Marking = omega arith
@@ -118,14 +119,14 @@ ready_less w t u v e = by_return (has_returned u.state) refl
     some_left true = omega arith
     some_left false = omega arith
 
-    by_place : (o : Option ℕ) → is_spent w t u.state ≡ false → unless_at (instruction_executed w t u) o ≡ Some v → left_of w t v v.stage < left_of w t u Ready
+    by_place : (o : Option ℕ) → is_spent w t u.state ≡ false → (if is_none o then Some (instruction_executed w t u) else None) ≡ Some v → left_of w t v v.stage < left_of w t u Ready
     by_place None f q =
         let same : instruction_executed w t u ≡ v = cc in
         let less : left_of w t v v.stage ≤ left_later w t u + 5 = subst (λ (x : TaskPart). left_of w t x x.stage ≤ left_later w t u + 5) same (instruction_left w t u) in
         rw f (omega (arith, less))
     by_place (Some p) f q = absurd cc
 
-    by_budget : (b : Bool) → is_spent w t u.state ≡ b → (if b then Some (with_stage u (Ended Spent)) else unless_at (instruction_executed w t u) (place_at w u.state.machine.cpu.ia)) ≡ Some v → left_of w t v v.stage < left_of w t u Ready
+    by_budget : (b : Bool) → is_spent w t u.state ≡ b → (if b then Some (with_stage u (Ended Spent)) else (if is_none (place_at w u.state.machine.cpu.ia) then Some (instruction_executed w t u) else None)) ≡ Some v → left_of w t v v.stage < left_of w t u Ready
     by_budget true f q = let same : with_stage u (Ended Spent) ≡ v = cc in rw (f, ← same) (omega arith)
     by_budget false f q = by_place (place_at w u.state.machine.cpu.ia) f q
 
@@ -197,10 +198,10 @@ if_some false o x e = absurd cc
 exists : (c : Parts) (t : ℕ) (b : Bool) → nat_lt t (length c.tasks) ≡ b → b ≡ true → t < length c.tasks
 exists c t b e q = ltb-true t (length c.tasks) (e ∙ q)
 
-fetched_less : (w : World) (c : Parts) (t : ℕ) (x : Stepped) → of_task c t (fetch_step w c t) ≡ Some x → left w x.parts t < left w c t
+fetched_less : (w : World) (c : Parts) (t : ℕ) (x : Stepped) → of_task c t (λ (u : TaskPart). option_map (fetched w c t u) (place_due w t u u.stage)) ≡ Some x → left w x.parts t < left w c t
 fetched_less w c t x e =
     let u = part_of c t in
-    let here = if_some (nat_lt t (length c.tasks)) (fetch_step w c t u) x e in
+    let here = if_some (nat_lt t (length c.tasks)) (option_map (fetched w c t u) (place_due w t u u.stage)) x e in
     let m = mapped (fetched w c t u) (place_due w t u u.stage) x here.1 in
     let v = with_stage u (Holding (hand_at w c (is_awaiting u.stage) m.0)) in
     let kept : left w (with_task c t v) t ≡ left_of w t v v.stage = put_left w c t v (exists c t _ refl here.0) in
@@ -209,10 +210,10 @@ fetched_less w c t x e =
 holding_left : (w : World) (t : ℕ) (u : TaskPart) (h : Hand) → u.stage ≡ Holding h → left_of w t u u.stage ≡ left_of w t u (Holding h)
 holding_left w t u h e = ap (left_of w t u) e
 
-marked_less : (w : World) (c : Parts) (t : ℕ) (x : Stepped) → of_task c t (mark_step w c t) ≡ Some x → left w x.parts t < left w c t
+marked_less : (w : World) (c : Parts) (t : ℕ) (x : Stepped) → of_task c t (λ (u : TaskPart). option_map (marked w c t u) (in_hand Marking u.stage)) ≡ Some x → left w x.parts t < left w c t
 marked_less w c t x e =
     let u = part_of c t in
-    let here = if_some (nat_lt t (length c.tasks)) (mark_step w c t u) x e in
+    let here = if_some (nat_lt t (length c.tasks)) (option_map (marked w c t u) (in_hand Marking u.stage)) x e in
     let m = mapped (marked w c t u) (in_hand Marking u.stage) x here.1 in
     let h = m.0 in
     let held = in_hand-stage Marking u.stage h m.1 in
@@ -220,15 +221,15 @@ marked_less w c t x e =
     let full = is_full (kind_at (plan_in w) h.place.0) (with_fact (set_of w c (tag_session h.cell.tag) h.place.0) (fact_in w t u h)) in
     let d = if full then Lifting else Nothing in
     let v = with_due u h d in
-    let facts = with_set w c (tag_session h.cell.tag) h.place.0 (with_fact (set_of w c (tag_session h.cell.tag) h.place.0) (fact_in w t u h)) in
+    let facts = record c { sets = set c.sets (index_of (length w.places) (tag_session h.cell.tag) h.place.0) (with_fact (set_of w c (tag_session h.cell.tag) h.place.0) (fact_in w t u h)) } in
     let kept : left w (with_task facts t v) t ≡ left_of w t v v.stage = put_left w facts t v (exists c t _ refl here.0) in
     let less : due_left d < due_left h.due = rw due (mark_due_less full) in
     rw (← m.2) (rw (kept, holding_left w t u h held.0) (due_less w t u h d less))
 
-lifted_less : (w : World) (c : Parts) (t : ℕ) (x : Stepped) → of_task c t (lift_step w c t) ≡ Some x → left w x.parts t < left w c t
+lifted_less : (w : World) (c : Parts) (t : ℕ) (x : Stepped) → of_task c t (λ (u : TaskPart). option_map (lifted w c t u) (in_hand Lifting u.stage)) ≡ Some x → left w x.parts t < left w c t
 lifted_less w c t x e =
     let u = part_of c t in
-    let here = if_some (nat_lt t (length c.tasks)) (lift_step w c t u) x e in
+    let here = if_some (nat_lt t (length c.tasks)) (option_map (lifted w c t u) (in_hand Lifting u.stage)) x e in
     let m = mapped (lifted w c t u) (in_hand Lifting u.stage) x here.1 in
     let h = m.0 in
     let held = in_hand-stage Lifting u.stage h m.1 in
@@ -242,10 +243,10 @@ lifted_less w c t x e =
         rw (put_left w (with_cell c h.place.0 (original_under w h.place.0 h.cell)) t (with_due u h Nothing) lt, holding_left w t u h held) (due_less w t u h Nothing less)
     by_cell u h held less lt false = rw (put_left w c t (with_due u h Nothing) lt, holding_left w t u h held) (due_less w t u h Nothing less)
 
-run_less : (w : World) (c : Parts) (t : ℕ) (x : Stepped) → of_task c t (do_step w c t) ≡ Some x → left w x.parts t < left w c t
+run_less : (w : World) (c : Parts) (t : ℕ) (x : Stepped) → of_task c t (λ (u : TaskPart). option_map (done_by c t) (task_done w t u u.stage)) ≡ Some x → left w x.parts t < left w c t
 run_less w c t x e =
     let u = part_of c t in
-    let here = if_some (nat_lt t (length c.tasks)) (do_step w c t u) x e in
+    let here = if_some (nat_lt t (length c.tasks)) (option_map (done_by c t) (task_done w t u u.stage)) x e in
     let m = mapped (done_by c t) (task_done w t u u.stage) x here.1 in
     let kept : left w (with_task c t m.0) t ≡ left_of w t m.0 m.0.stage = put_left w c t m.0 (exists c t _ refl here.0) in
     rw (← m.2) (rw kept (done_less w t u m.0 u.stage m.1))
@@ -254,7 +255,7 @@ changed_less : (w : World) (c : Parts) (t : ℕ) (closes : Bool) (s p : ℕ) (x 
 changed_less w c t closes s p x by same plan =
     let u : TaskPart = part_of c by.task in
     let v : TaskPart = record u { changed = u.changed + 1 } in
-    let parts : part_of x.parts by.task ≡ v = ap (λ (y : Stepped). part_of y.parts by.task) by.made ∙ get_or-set_at c.tasks by.task by.task v no_part refl by.there in
+    let parts : part_of x.parts by.task ≡ v = ap (λ (y : Stepped). part_of y.parts by.task) by.made ∙ get_or-set_at c.tasks by.task by.task v (first_part no_task) refl by.there in
     let kept : left w x.parts by.task ≡ left_of w by.task v v.stage = ap (λ (y : TaskPart). left_of w by.task y y.stage) parts in
     let less : left_of w by.task v u.stage < left_of w by.task u u.stage = place_less w by.task u u.stage by.change plan by.due in
     subst (λ (n : ℕ). left w x.parts n < left w c n) same (subst (λ (n : ℕ). n < left w c by.task) (sym kept) less)
@@ -329,17 +330,17 @@ gone_by w n c t = run_on w c (go_events w n c t)
 -- the task's next event, and those behind it
 go_one : (w : World) (n : ℕ) (c : Parts) (t : TaskNo) (e : Event) (x : Stepped) → next_of w c t ≡ Some e → parts_step w c e ≡ Some x → gone_by w (suc n) c t ≡ gone_by w n x.parts t
 go_one w n c t e x q step =
-    ap (λ (o : Option Event). run_on w c (next_events (λ d. go_events w n d t) w c o)) q
+    ap (λ (o : Option Event). run_on w c (option_map_or (λ (e : Event). e ∷ go_events w n (after c (parts_step w c e)) t) o [])) q
     ∙ (ap (λ (o : Option Stepped). run_on w c (e ∷ go_events w n (after c o) t)) step
     ∙ ap (option_and_then (λ (y : Stepped). run_on w y.parts (go_events w n x.parts t))) step)
 
 pub go_none : (w : World) (n : ℕ) (c : Parts) (t : TaskNo) → next_of w c t ≡ None → gone_by w n c t ≡ Some c
 go_none w zero c t q = refl
-go_none w (suc n) c t q = ap (λ (o : Option Event). run_on w c (next_events (λ d. go_events w n d t) w c o)) q
+go_none w (suc n) c t q = ap (λ (o : Option Event). run_on w c (option_map_or (λ (e : Event). e ∷ go_events w n (after c (parts_step w c e)) t) o [])) q
 
 go_stuck : (w : World) (n : ℕ) (c : Parts) (t : TaskNo) (e : Event) → next_of w c t ≡ Some e → parts_step w c e ≡ None → gone_by w (suc n) c t ≡ None
 go_stuck w n c t e q step =
-    ap (λ (o : Option Event). run_on w c (next_events (λ d. go_events w n d t) w c o)) q
+    ap (λ (o : Option Event). run_on w c (option_map_or (λ (e : Event). e ∷ go_events w n (after c (parts_step w c e)) t) o [])) q
     ∙ ap (option_and_then (λ (y : Stepped). run_on w y.parts (go_events w n (after c (parts_step w c e)) t))) step
 
 -- the number of events makes no difference once it is as many as are left

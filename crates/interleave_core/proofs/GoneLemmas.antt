@@ -1,11 +1,12 @@
 -- What a task that goes has made: its own events, one after the other, until it has ended.
-use Rattle.std.proofs.Common.{◌≡◌, inl, inr, ℕ, zero, suc, ◌<◌, true, false, Option, Some, None, is_none, IsNone, ◌↔◌, All, refl, arith}
+use Rattle.std.proofs.Common.{◌≡◌, inl, inr, ℕ, zero, suc, ◌<◌, true, false, Option, Some, None, is_none, IsNone, ◌↔◌, All, [], ◌∷◌, refl, arith}
+use Rattle.std.specs.Option.{option_map_or}
 use Rattle.std.proofs.lemmas.Bool.{cases_lt}
 use Rattle.std.proofs.lemmas.List.Elements.{All-cons}
 use Rattle.cov_base.specs.declared.numbers.TaskNo.{TaskNo}
-use Rattle.module_area.specs.MeaningOfRule.{IsPlan}
-use Rattle.interleave_core.specs.Meaning.{World, Parts, plan_in, parts_step, run_on, next_of, after, most_events, next_events, go_events, all_events}
-use Rattle.interleave_core.specs.MeaningOfLogs.{is_by}
+use Rattle.module_area.specs.Rule.{IsPlan}
+use Rattle.interleave_core.specs.Meaning.{World, Parts, plan_in, parts_step, run_on, next_of, after, most_events, go_events, all_events}
+use Rattle.interleave_core.specs.CoreState.{is_by}
 use Rattle.interleave_core.specs.Results.{IsOver}
 use Rattle.interleave_core.specs.Going.{HasGone}
 use Rattle.interleave_core.specs.declared.events.Event.{Event}
@@ -15,7 +16,7 @@ go_own : (w : World) (n : ℕ) (c : Parts) (t : TaskNo) → IsPlan (plan_in w) �
 go_own w zero c t plan = λ k d l. absurd (omega arith)
 go_own w (suc n) c t plan = by_next (next_of w c t) refl (λ d. go_own w n d t plan)
   where
-    by_next : (o : Option Event) → next_of w c t ≡ o → ((d : Parts) → All (λ e. is_by w e t.0 ≡ true) (go_events w n d t)) → All (λ e. is_by w e t.0 ≡ true) (next_events (λ d. go_events w n d t) w c o)
+    by_next : (o : Option Event) → next_of w c t ≡ o → ((d : Parts) → All (λ e. is_by w e t.0 ≡ true) (go_events w n d t)) → All (λ e. is_by w e t.0 ≡ true) (option_map_or (λ (e : Event). e ∷ go_events w n (after c (parts_step w c e)) t) o [])
     by_next None q more = λ k d l. absurd (omega arith)
     by_next (Some e) q more = All-cons (λ y. is_by w y t.0 ≡ true) e (go_events w n (after c (parts_step w c e)) t) (next_by w c t e plan q) (more (after c (parts_step w c e)))
 

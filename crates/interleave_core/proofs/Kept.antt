@@ -1,5 +1,5 @@
 -- What is kept of a core as one of its tasks, cells or sets changes.
-use Rattle.std.proofs.Common.{◌≡◌, ◌≢◌, inl, inr, ℕ, ◌+◌, ◌-◌, ◌*◌, ◌/◌, ◌<◌, ◌≤◌, Bool, true, false, ◌&&◌, nat_eq, nat_lt, if◌then◌else◌, Option, Some, None, option_map, List, length, get_or, set, refl, sym, ◌∙◌, ap, subst, arith}
+use Rattle.std.proofs.Common.{◌≡◌, ◌≢◌, inl, inr, ℕ, ◌+◌, ◌-◌, ◌*◌, ◌/◌, ◌<◌, ◌≤◌, Bool, true, false, ◌&&◌, nat_eq, nat_lt, if◌then◌else◌, Option, Some, None, option_map, List, length, get_or, set, refl, sym, ◌∙◌, ap, subst, arith, is_none}
 use Rattle.std.proofs.lemmas.Bool.Decides.{nat_tests}
 use Rattle.std.proofs.lemmas.Grind.{get_or-set_at}
 use Rattle.std.proofs.lemmas.List.{get_or-map, get_or-set_other, length-set, length-map, map-set, get_or_default}
@@ -15,10 +15,11 @@ use Rattle.cov_base.specs.declared.facts.Kind.{Kind}
 use Rattle.cov_base.specs.declared.facts.Kind.TheVariants.{Straight, Conditional}
 use Rattle.module_area.proofs.Indices.{same_index, index_below}
 use Rattle.module_area.specs.Meaning.{tag_session, word_at, no_cell, set_in, index_of, PlanView, kind_at, original_at, is_over}
-use Rattle.module_area.specs.MeaningOfRule.{window_tag, IsForm, planted, lifted as lifted_cell, IsPlan}
+use Rattle.module_area.specs.Rule.{window_tag, IsForm, planted, lifted as lifted_cell, IsPlan}
 use Rattle.module_area.proofs.PlanLemmas.{over_small}
 use Rattle.module_area.specs.declared.cells.Cell.{Cell}
-use Rattle.interleave_core.specs.Meaning.{World, TaskPart, Parts, plan_in, place_at, no_part, Stepped, of_task, with_task, with_stage, with_due, with_cell, place_due, is_spent, is_awaiting, subject_place, step_of, due_after_fetch, in_hand, same_due, fetched, fetch_step, marked, mark_step, lifted, lift_step, done_by, do_step, task_done, task_goes_on, parts_step, set_of, fact_in, original_under, same_cell, hand_at, executed, stage_after, awaits_or, unless_at, instruction_executed}
+use Rattle.session_book.specs.Meaning.{no_task}
+use Rattle.interleave_core.specs.Meaning.{World, TaskPart, Parts, plan_in, place_at, first_part, Stepped, of_task, with_task, with_stage, with_due, with_cell, place_due, is_spent, is_awaiting, subject_place, step_of, due_after_fetch, in_hand, same_due, fetched, marked, lifted, done_by, task_done, task_goes_on, parts_step, set_of, fact_in, original_under, same_cell, hand_at, executed, stage_after, awaits_or, instruction_executed}
 use Rattle.interleave_core.specs.Views.{RunningView, IsRunning, IsStage, IsHand, AreTied, IsCore, parts_of}
 use Rattle.interleave_core.proofs.Changes.{goes_on}
 use Rattle.interleave_core.proofs.Runs.{same_or, in_hand-stage}
@@ -143,7 +144,7 @@ pub of_task-read : (cells : List Cell) (sets : List FactSet) (tasks : List Runni
     t < length tasks → m ≡ get_or tasks t m → step m.part ≡ x → of_task (record { cells = cells; sets = sets; tasks = parts_of tasks }) t step ≡ x
 of_task-read cells sets tasks t m step x lt read e =
     let there : nat_lt t (length (parts_of tasks)) ≡ true = lt-ltb t (length (parts_of tasks)) (subst (λ n. t < n) (sym (length-map tasks (λ (r : RunningView). r.part))) lt) in
-    let part : get_or (parts_of tasks) t no_part ≡ m.part = get_or-map (λ (r : RunningView). r.part) tasks t m no_part lt ∙ ap (λ (r : RunningView). r.part) (sym read) in
+    let part : get_or (parts_of tasks) t (first_part no_task) ≡ m.part = get_or-map (λ (r : RunningView). r.part) tasks t m (first_part no_task) lt ∙ ap (λ (r : RunningView). r.part) (sym read) in
     rw (there, part) e
 
 pub due_unspent : (w : World) (t : ℕ) (u : TaskPart) (stage : Stage) (p : ℕ) → IsStage w t u stage → place_due w t u stage ≡ Some p → is_spent w t u.state ≡ false
@@ -205,7 +206,7 @@ pub fetch_possible : (w : World) (cells : List Cell) (sets : List FactSet) (task
     t < length tasks → r ≡ get_or tasks t r → m ≡ get_or tasks t m → q ≡ get_or tasks t q → place_due w t r.part r.part.stage ≡ Some p.0 → subject ≡ is_awaiting q.part.stage →
     p.0 < length cells → c ≡ get_or cells p.0 c → due ≡ due_after_fetch w subject p.0 c →
     n ≡ record m { part = with_stage m.part (Holding (record { subject = subject; place = p; cell = c; due = due })) } →
-    of_task (record { cells = cells; sets = sets; tasks = parts_of tasks }) t (fetch_step w (record { cells = cells; sets = sets; tasks = parts_of tasks }) t)
+    of_task (record { cells = cells; sets = sets; tasks = parts_of tasks }) t (λ (u : TaskPart). option_map (fetched w (record { cells = cells; sets = sets; tasks = parts_of tasks }) t u) (place_due w t u u.stage))
     ≡ Some (record { parts = record { cells = cells; sets = sets; tasks = parts_of (set tasks t n) }; shown = Fetched c })
 fetch_possible w cells sets tasks t r m q n subject p c due lt read_r read_m read_q at is_subject p_in read_c is_due e =
     let P : Parts = record { cells = cells; sets = sets; tasks = parts_of tasks } in
@@ -221,7 +222,7 @@ fetch_possible w cells sets tasks t r m q n subject p c due lt read_r read_m rea
     ∙ ap (λ (h : Hand). with_stage r.part (Holding h)) hand) in
     let made : fetched w P t r.part p.0 ≡ record { parts = record { cells = cells; sets = sets; tasks = parts_of (set tasks t n) }; shown = Fetched c } =
     stepped_is _ _ (Fetched (word_at cells p.0)) (parts_with cells sets tasks t n _ part) ∙ ap (λ (z : Cell). record { parts = record { cells = cells; sets = sets; tasks = parts_of (set tasks t n) }; shown = Fetched z }) (sym same_c) in
-    of_task-read cells sets tasks t r (fetch_step w P t) _ lt read_r (ap (option_map (fetched w P t r.part)) at ∙ ap Some made)
+    of_task-read cells sets tasks t r (λ (u : TaskPart). option_map (fetched w P t u) (place_due w t u u.stage)) _ lt read_r (ap (option_map (fetched w P t r.part)) at ∙ ap Some made)
 
 -- a hand of which something is due: it is the breakpoint of a session over the place, which is one of the job
 pub record HandDue (w : World) (t : ℕ) (u : TaskPart) (h : Hand) : Type 0 where
@@ -311,7 +312,7 @@ pub mark_possible : (w : World) (cells : List Cell) (sets : List FactSet) (plan 
     at ≡ index_of (length w.places) (tag_session h.cell.tag) h.place.0 → found ≡ get_or sets at found → kind ≡ kind_at (plan_in w) h.place.0 →
     facts ≡ with_fact found (fact_of kind went) → (visit_of (step_of w t q.part) h.subject).went ≡ went → d ≡ (if is_full kind facts then Lifting else Nothing) →
     g ≡ record h { due = d } → n ≡ record m { part = with_stage m.part (Holding g) } →
-    of_task (record { cells = cells; sets = sets; tasks = parts_of tasks }) t (mark_step w (record { cells = cells; sets = sets; tasks = parts_of tasks }) t)
+    of_task (record { cells = cells; sets = sets; tasks = parts_of tasks }) t (λ (u : TaskPart). option_map (marked w (record { cells = cells; sets = sets; tasks = parts_of tasks }) t u) (in_hand Marking u.stage))
     ≡ Some (record { parts = record { cells = cells; sets = set sets at facts; tasks = parts_of (set tasks t n) }; shown = Marked found })
 mark_possible w cells sets plan tasks t r m q n h g d at found facts kind went is lt read_r read_m read_q held due index read_found is_kind is_facts is_went is_d is_g e =
     let P : Parts = record { cells = cells; sets = sets; tasks = parts_of tasks } in
@@ -332,7 +333,7 @@ mark_possible w cells sets plan tasks t r m q n h g d at found facts kind went i
     ∙ (ap (λ (z : Hand). with_stage r.part (Holding z)) is_g ∙ ap (λ (z : Due). with_due r.part h z) d_is)) in
     let made : marked w P t r.part h ≡ record { parts = record { cells = cells; sets = set sets i X; tasks = parts_of (set tasks t n) }; shown = Marked (set_of w P (tag_session h.cell.tag) h.place.0) } =
     stepped_is _ _ _ (parts_with cells (set sets i X) tasks t n _ part) in
-    of_task-read cells sets tasks t r (mark_step w P t) _ lt read_r (ap (option_map (marked w P t r.part)) held ∙ ap Some (made
+    of_task-read cells sets tasks t r (λ (u : TaskPart). option_map (marked w P t u) (in_hand Marking u.stage)) _ lt read_r (ap (option_map (marked w P t r.part)) held ∙ ap Some (made
     ∙ (ap (λ (f : FactSet). record { parts = record { cells = cells; sets = set sets i f; tasks = parts_of (set tasks t n) }; shown = Marked (set_of w P (tag_session h.cell.tag) h.place.0) }) (sym facts_is)
     ∙ (ap (λ (j : ℕ). record { parts = record { cells = cells; sets = set sets j facts; tasks = parts_of (set tasks t n) }; shown = Marked (set_of w P (tag_session h.cell.tag) h.place.0) }) (sym index)
     ∙ ap (λ (f : FactSet). record { parts = record { cells = cells; sets = set sets at facts; tasks = parts_of (set tasks t n) }; shown = Marked f }) (sym found_is)))))
@@ -364,7 +365,7 @@ pub lift_possible : (w : World) (cells cells2 : List Cell) (sets : List FactSet)
     t < length tasks → r ≡ get_or tasks t r → m ≡ get_or tasks t m → in_hand Lifting r.part.stage ≡ Some h → original ≡ original_at (plan_in w) h.place.0 → taken ≡ same_cell (word_at cells h.place.0) h.cell →
     cells2 ≡ (if taken then set cells h.place.0 (record { tag = h.cell.tag; half = original }) else cells) → g ≡ record h { due = Nothing } →
     n ≡ record m { part = with_stage m.part (Holding g) } →
-    of_task (record { cells = cells; sets = sets; tasks = parts_of tasks }) t (lift_step w (record { cells = cells; sets = sets; tasks = parts_of tasks }) t)
+    of_task (record { cells = cells; sets = sets; tasks = parts_of tasks }) t (λ (u : TaskPart). option_map (lifted w (record { cells = cells; sets = sets; tasks = parts_of tasks }) t u) (in_hand Lifting u.stage))
     ≡ Some (record { parts = record { cells = cells2; sets = sets; tasks = parts_of (set tasks t n) }; shown = Lifted taken })
 lift_possible w cells cells2 sets tasks t r m n h g taken original lt read_r read_m held is_original is_taken is_cells is_g e =
     let P : Parts = record { cells = cells; sets = sets; tasks = parts_of tasks } in
@@ -378,17 +379,17 @@ lift_possible w cells cells2 sets tasks t r m n h g taken original lt read_r rea
     let parts : with_task (if T then with_cell P h.place.0 (original_under w h.place.0 h.cell) else P) t (with_due r.part h Nothing) ≡ record { cells = C; sets = sets; tasks = parts_of (set tasks t n) } =
     ap (λ (x : Parts). with_task x t (with_due r.part h Nothing)) (either T P h.place.0 (original_under w h.place.0 h.cell)) ∙ parts_with C sets tasks t n _ part in
     let made : lifted w P t r.part h ≡ record { parts = record { cells = C; sets = sets; tasks = parts_of (set tasks t n) }; shown = Lifted T } = stepped_is _ _ _ parts in
-    of_task-read cells sets tasks t r (lift_step w P t) _ lt read_r (ap (option_map (lifted w P t r.part)) held ∙ ap Some (made
+    of_task-read cells sets tasks t r (λ (u : TaskPart). option_map (lifted w P t u) (in_hand Lifting u.stage)) _ lt read_r (ap (option_map (lifted w P t r.part)) held ∙ ap Some (made
     ∙ (ap (λ (xs : List Cell). record { parts = record { cells = xs; sets = sets; tasks = parts_of (set tasks t n) }; shown = Lifted T }) (sym cells_is)
     ∙ ap (λ (b : Bool). record { parts = record { cells = cells2; sets = sets; tasks = parts_of (set tasks t n) }; shown = Lifted b }) (sym is_taken))))
 
 pub run_possible : (w : World) (cells : List Cell) (sets : List FactSet) (tasks : List RunningView) (t : ℕ) (m n : RunningView) →
     t < length tasks → m ≡ get_or tasks t m → task_done w t m.part m.part.stage ≡ Some n.part →
-    of_task (record { cells = cells; sets = sets; tasks = parts_of tasks }) t (do_step w (record { cells = cells; sets = sets; tasks = parts_of tasks }) t)
+    of_task (record { cells = cells; sets = sets; tasks = parts_of tasks }) t (λ (u : TaskPart). option_map (done_by (record { cells = cells; sets = sets; tasks = parts_of tasks }) t) (task_done w t u u.stage))
     ≡ Some (record { parts = record { cells = cells; sets = sets; tasks = parts_of (set tasks t n) }; shown = Done })
 run_possible w cells sets tasks t m n lt read is_done =
     let P : Parts = record { cells = cells; sets = sets; tasks = parts_of tasks } in
-    of_task-read cells sets tasks t m (do_step w P t) _ lt read (ap (option_map (done_by P t)) is_done ∙ ap Some (stepped_is _ _ Done (parts_with cells sets tasks t n n.part refl)))
+    of_task-read cells sets tasks t m (λ (u : TaskPart). option_map (done_by P t) (task_done w t u u.stage)) _ lt read (ap (option_map (done_by P t)) is_done ∙ ap Some (stepped_is _ _ Done (parts_with cells sets tasks t n n.part refl)))
 
 executed_stage : (w : World) (t : ℕ) (u : TaskPart) (next : Next) → IsStage w t u (stage_after next)
 executed_stage w t u On = tt
@@ -406,7 +407,7 @@ goes_stage : (w : World) (t : ℕ) (u v : TaskPart) (stage : Stage) → IsStage 
 goes_stage w t u v Ready is h = ready (has_returned u.state) (is_spent w t u.state) refl (place_at w u.state.machine.cpu.ia) h
   where
     ready : (returned spent : Bool) → is_spent w t u.state ≡ spent → (at : Option ℕ) →
-        (if returned then Some (with_stage u (Ended Returned)) else (if spent then Some (with_stage u (Ended Spent)) else unless_at (instruction_executed w t u) at)) ≡ Some v → IsStage w t v v.stage
+        (if returned then Some (with_stage u (Ended Returned)) else (if spent then Some (with_stage u (Ended Spent)) else (if is_none at then Some (instruction_executed w t u) else None))) ≡ Some v → IsStage w t v v.stage
     ready true spent s at k = subst (λ (x : TaskPart). IsStage w t x x.stage) (same_Some _ v k) tt
     ready false true s at k = subst (λ (x : TaskPart). IsStage w t x x.stage) (same_Some _ v k) tt
     ready false false s None k = subst (λ (x : TaskPart). IsStage w t x x.stage) (same_Some _ v k) (instruction_stage w t u s)

@@ -19,6 +19,7 @@ pub mod Quiet
 pub mod Runs
 pub mod SampleLemmas
 pub mod Starts
+pub mod Told
 pub mod Changes
 pub mod Tied
 pub mod Turns

@@ -1,5 +1,5 @@
 -- Each event keeps each task's log.
-use Rattle.std.proofs.Common.{◌≡◌, ◌≢◌, ◌⊎◌, inl, inr, ℕ, zero, suc, ◌+◌, ◌*◌, ◌%◌, ◌<◌, ◌≤◌, Bool, true, false, ◌==◌, nat_lt, nat_eq, if◌then◌else◌, Option, Some, None, option_map, List, [], ◌∷◌, ◌++◌, length, get_or, set, refl, sym, ◌∙◌, ap, subst, arith}
+use Rattle.std.proofs.Common.{◌≡◌, ◌≢◌, ◌⊎◌, inl, inr, ℕ, zero, suc, ◌+◌, ◌*◌, ◌%◌, ◌<◌, ◌≤◌, Bool, true, false, ◌==◌, nat_lt, nat_eq, if◌then◌else◌, Option, Some, None, option_map, List, [], ◌∷◌, ◌++◌, length, take, get_or, set, refl, sym, ◌∙◌, ap, subst, arith, is_none}
 use Rattle.std.specs.Option.{option_or}
 use Rattle.std.proofs.lemmas.Bool.Decides.{nat_tests}
 use Rattle.std.proofs.lemmas.List.{append_assoc, append-nil, get_or-map, get_or-set_other, length-set, length-map}
@@ -15,9 +15,10 @@ use Rattle.module_area.specs.declared.places.Place.{Place}
 use Rattle.brk_table.specs.Places.{ArePlaces, IsPlace, AreSeen}
 use Rattle.module_area.specs.declared.cells.Cell.{Cell}
 use Rattle.s370_exec.proofs.StepLemmas.{solo_step-rest_refused, solo_step-unread, solo_step-read, solo_step-ex}
-use Rattle.interleave_core.specs.Meaning.{World, TaskPart, Parts, part_of, memory_in, budget_in, place_at, place_from, no_part, first_part, Stepped, parts_step, fetch_step, fetched, mark_step, marked, lift_step, lifted, do_step, done_by, with_due, original_under, same_cell, in_hand, subject_place, step_of, place_due, is_awaiting, is_spent, executed, stage_after, awaits_or, with_stage, unless_at, instruction_executed, task_goes_on, task_done, same_due, hand_at, set_of}
+use Rattle.interleave_core.specs.Meaning.{World, TaskPart, Parts, part_of, memory_in, budget_in, place_at, place_from, first_part, Stepped, parts_step, fetched, marked, lifted, done_by, with_due, original_under, same_cell, in_hand, subject_place, step_of, place_due, is_awaiting, is_spent, executed, stage_after, awaits_or, with_stage, instruction_executed, task_goes_on, task_done, same_due, hand_at, set_of}
 use Rattle.interleave_core.specs.World.{IsWorld}
-use Rattle.interleave_core.specs.MeaningOfLogs.{Item, Met, Gave, CoreState, CoreStepped, core_start, core_step, core_after, core_from, core_run, log_after, alone, Noted, note, noted, fact_at, logged, first_visit, visits_in_hand, HasLog, HaveLogs}
+use Rattle.interleave_core.specs.CoreState.{Item, Met, Gave, CoreState, CoreStepped, core_start, core_step, core_after, core_from, core_run, log_after}
+use Rattle.interleave_core.specs.MeaningOfEvents.{alone, Noted, note, noted, fact_at, visits_in_hand}
 use Rattle.interleave_core.specs.declared.events.Shown.{Shown}
 use Rattle.interleave_core.specs.declared.events.Shown.TheVariants.{Fetched, Marked, Lifted, Done}
 use Rattle.interleave_core.specs.declared.events.Event.{Event}
@@ -31,13 +32,27 @@ use Rattle.s370_state.specs.declared.endings.Ending.TheVariants.{Returned, Spent
 use Rattle.s370_state.specs.declared.endings.Next.{Next}
 use Rattle.s370_state.specs.declared.endings.Next.TheVariants.{On, Ended as NextEnded}
 use Rattle.session_book.specs.Meaning.{task_of, no_task, first_state}
-use Rattle.module_area.specs.MeaningOfRule.{window_tag}
+use Rattle.module_area.specs.Rule.{window_tag}
 use Rattle.std.proofs.lemmas.Grind.{get_or-set_at}
 use Rattle.std.proofs.lemmas.Option.{same_Some}
 use Rattle.std.proofs.lemmas.Bool.{ltb-true}
 use Rattle.interleave_core.specs.declared.stage.Due.{Due}
 use Rattle.interleave_core.specs.declared.stage.Stage.{Stage}
 use Rattle.interleave_core.specs.declared.stage.Stage.TheVariants.{Ready, Awaiting, Holding, Ended}
+
+-- ---- each task's log has the places and facts of its run alone so far, and of the instruction in hand
+
+-- of a log the fetches, the oldest first
+abbrev pub logged : List Item → List Noted
+logged [] = []
+logged (Met e ∷ log) = logged log ++ record { place = e.place; fact = e.fact } ∷ []
+logged (Gave p tag ∷ log) = logged log
+
+abbrev pub HasLog : World → ℕ → TaskPart → List Item → Type 0
+HasLog w t u log = logged log ≡ noted w ((alone w t u.state.done).trace ++ visits_in_hand u.stage (step_of w t u).visits)
+
+abbrev pub HaveLogs : World → Parts → (ℕ → List Item) → Type 0
+HaveLogs w c logs = (t : ℕ) → t < length c.tasks → HasLog w t (part_of c t) (logs t)
 
 pub noted-append : (w : World) (a b : List Visit) → noted w (a ++ b) ≡ noted w a ++ noted w b
 noted-append w [] b = refl
@@ -96,15 +111,15 @@ pass_by m s (Some e) pass h =
 
 -- one fetch of an instruction more
 push_first : (w : World) (V trace vs : List Visit) (v : Visit) (p : ℕ) (L : List Noted) → V ≡ v ∷ vs → place_at w v.at ≡ Some p → L ≡ noted w (trace ++ []) →
-    L ++ record { place = p; fact = fact_at w p (get_or V 0 no_visit) } ∷ [] ≡ noted w (trace ++ first_visit V)
+    L ++ record { place = p; fact = fact_at w p (get_or V 0 no_visit) } ∷ [] ≡ noted w (trace ++ take 1 V)
 push_first w V trace vs v p L is at e =
     let before : L ≡ noted w trace = e ∙ ap (noted w) (append-nil trace) in
     let one : noted w (v ∷ []) ≡ record { place = p; fact = fact_at w p v } ∷ [] = ap (λ (o : Option ℕ). note w v o ++ []) at in
-    subst (λ (X : List Visit). L ++ record { place = p; fact = fact_at w p (get_or X 0 no_visit) } ∷ [] ≡ noted w (trace ++ first_visit X)) (sym is)
+    subst (λ (X : List Visit). L ++ record { place = p; fact = fact_at w p (get_or X 0 no_visit) } ∷ [] ≡ noted w (trace ++ take 1 X)) (sym is)
     (ap (λ (n : List Noted). n ++ record { place = p; fact = fact_at w p v } ∷ []) before ∙ (ap (λ (n : List Noted). noted w trace ++ n) (sym one) ∙ sym (noted-append w trace (v ∷ []))))
 
 -- and of its subject
-push_subject : (w : World) (V trace : List Visit) (p : ℕ) (L : List Noted) → length V ≤ 2 → subject_place w V ≡ Some p → L ≡ noted w (trace ++ first_visit V) →
+push_subject : (w : World) (V trace : List Visit) (p : ℕ) (L : List Noted) → length V ≤ 2 → subject_place w V ≡ Some p → L ≡ noted w (trace ++ take 1 V) →
     L ++ record { place = p; fact = fact_at w p (get_or V 1 no_visit) } ∷ [] ≡ noted w (trace ++ V)
 push_subject w [] trace p L few at e = let n : None ≡ Some p = at in absurd cc
 push_subject w (v ∷ []) trace p L few at e = let n : None ≡ Some p = at in absurd cc
@@ -116,17 +131,17 @@ push_subject w (v ∷ (s ∷ [])) trace p L few at e =
     ∙ (sym parts ∙ ap (noted w) (append_assoc trace (v ∷ []) (s ∷ []))))
 
 -- an instruction whose subject is at no place
-no_subject : (w : World) (V : List Visit) → length V ≤ 2 → subject_place w V ≡ None → noted w V ≡ noted w (first_visit V)
+no_subject : (w : World) (V : List Visit) → length V ≤ 2 → subject_place w V ≡ None → noted w V ≡ noted w (take 1 V)
 no_subject w [] few at = refl
 no_subject w (v ∷ []) few at = refl
 no_subject w (v ∷ (s ∷ (x ∷ xs))) few at = absurd (omega arith)
 no_subject w (v ∷ (s ∷ [])) few at = ap (λ (o : Option ℕ). note w v (place_at w v.at) ++ (note w s o ++ [])) at
 
 -- and it itself too
-no_place : (w : World) (m : Memory) (s : State) → place_at w s.machine.cpu.ia ≡ None → noted w (first_visit (solo_step m s).visits) ≡ []
+no_place : (w : World) (m : Memory) (s : State) → place_at w s.machine.cpu.ia ≡ None → noted w (take 1 (solo_step m s).visits) ≡ []
 no_place w m s at = elim (visits_are m s) [
-  | inl none ↦ ap (λ (V : List Visit). noted w (first_visit V)) none
-  | inr some ↦ ap (λ (V : List Visit). noted w (first_visit V)) some.2 ∙ ap (λ (o : Option ℕ). note w some.0 o ++ []) (ap (place_at w) some.3 ∙ at)
+  | inl none ↦ ap (λ (V : List Visit). noted w (take 1 V)) none
+  | inr some ↦ ap (λ (V : List Visit). noted w (take 1 V)) some.2 ∙ ap (λ (o : Option ℕ). note w some.0 o ++ []) (ap (place_at w) some.3 ∙ at)
 ]
 
 with_nil : (w : World) (trace V : List Visit) → noted w ((trace ++ V) ++ []) ≡ noted w trace ++ noted w V
@@ -158,7 +173,7 @@ due_at false false at p h = h
 
 log_fetch : (w : World) (t : ℕ) (u : TaskPart) (stage : Stage) (p : ℕ) (c : Cell) (due : Due) (log : List Item) → AreSeen (memory_in w t) w.places → ArePlaces w.places → u.stage ≡ stage → place_due w t u stage ≡ Some p →
     logged log ≡ noted w (trace_of w t u ++ visits_in_hand stage (visits_of w t u)) →
-    logged log ++ record { place = p; fact = fact_at w p (get_or (visits_of w t u) (if is_awaiting stage then 1 else 0) no_visit) } ∷ [] ≡ noted w (trace_of w t u ++ (if is_awaiting stage then visits_of w t u else first_visit (visits_of w t u)))
+    logged log ++ record { place = p; fact = fact_at w p (get_or (visits_of w t u) (if is_awaiting stage then 1 else 0) no_visit) } ∷ [] ≡ noted w (trace_of w t u ++ (if is_awaiting stage then visits_of w t u else take 1 (visits_of w t u)))
 log_fetch w t u Ready p c due log seen are at h e =
     let place = due_at (has_returned u.state) (is_spent w t u.state) (place_at w u.state.machine.cpu.ia) p h in
     let v = pass_by (memory_in w t) u.state _ (at_place w (memory_in w t) u.state.machine.cpu.ia p are seen place) refl in
@@ -179,20 +194,20 @@ log_executed w t u log was on g h =
     h ∙ (sym (with_nil w (trace_of w t u) (visits_of w t u)) ∙ (ap (λ (V : List Visit). noted w (V ++ [])) (sym trace) ∙ ap (λ (V : List Visit). noted w (trace_of w t (executed w t u) ++ V)) (sym hand)))
 
 log_whole : (w : World) (t : ℕ) (u : TaskPart) (log : List Item) (at : Option ℕ) → subject_place w (visits_of w t u) ≡ at → has_ended u.stage ≡ false → has_returned u.state ≡ false → GoesAt w t u →
-    logged log ≡ noted w (trace_of w t u ++ first_visit (visits_of w t u)) → HasLog w t (awaits_or u (executed w t u) at) log
+    logged log ≡ noted w (trace_of w t u ++ take 1 (visits_of w t u)) → HasLog w t (awaits_or u (executed w t u) at) log
 log_whole w t u log None at was on g h =
-    log_executed w t u log was on g (h ∙ (noted-append w (trace_of w t u) (first_visit (visits_of w t u)) ∙ ap (λ (n : List Noted). noted w (trace_of w t u) ++ n) (sym (no_subject w (visits_of w t u) (few w t u) at))))
+    log_executed w t u log was on g (h ∙ (noted-append w (trace_of w t u) (take 1 (visits_of w t u)) ∙ ap (λ (n : List Noted). noted w (trace_of w t u) ++ n) (sym (no_subject w (visits_of w t u) (few w t u) at))))
 log_whole w t u log (Some p) at was on g h = h
 
 log_ready : (w : World) (t : ℕ) (u v : TaskPart) (log : List Item) (returned spent : Bool) (at : Option ℕ) → has_returned u.state ≡ returned → place_at w u.state.machine.cpu.ia ≡ at → has_ended u.stage ≡ false → GoesAt w t u →
-    (if returned then Some (with_stage u (Ended Returned)) else (if spent then Some (with_stage u (Ended Spent)) else unless_at (instruction_executed w t u) at)) ≡ Some v →
+    (if returned then Some (with_stage u (Ended Returned)) else (if spent then Some (with_stage u (Ended Spent)) else (if is_none at then Some (instruction_executed w t u) else None))) ≡ Some v →
     logged log ≡ noted w (trace_of w t u ++ []) → HasLog w t v log
 log_ready w t u v log true spent at r p was g h e = subst (λ (x : TaskPart). HasLog w t x log) (same_Some _ v h) e
 log_ready w t u v log false true at r p was g h e = subst (λ (x : TaskPart). HasLog w t x log) (same_Some _ v h) e
 log_ready w t u v log false false (Some x) r p was g h e = let n : None ≡ Some v = h in absurd cc
 log_ready w t u v log false false None r p was g h e =
-    let first : logged log ≡ noted w (trace_of w t u ++ first_visit (visits_of w t u)) =
-    e ∙ (noted-append w (trace_of w t u) [] ∙ (ap (λ (n : List Noted). noted w (trace_of w t u) ++ n) (sym (no_place w (memory_in w t) u.state p)) ∙ sym (noted-append w (trace_of w t u) (first_visit (visits_of w t u))))) in
+    let first : logged log ≡ noted w (trace_of w t u ++ take 1 (visits_of w t u)) =
+    e ∙ (noted-append w (trace_of w t u) [] ∙ (ap (λ (n : List Noted). noted w (trace_of w t u) ++ n) (sym (no_place w (memory_in w t) u.state p)) ∙ sym (noted-append w (trace_of w t u) (take 1 (visits_of w t u))))) in
     subst (λ (x : TaskPart). HasLog w t x log) (same_Some _ v h) (log_whole w t u log (subject_place w (visits_of w t u)) refl was r g first)
 
 log_going : (w : World) (t : ℕ) (u v : TaskPart) (stage : Stage) (log : List Item) → u.stage ≡ stage → task_goes_on w t u stage ≡ Some v → GoesAt w t u →
@@ -203,7 +218,7 @@ log_going w t u v (Ended x) log at h g e = let n : None ≡ Some v = h in absurd
 log_going w t u v (Holding x) log at h g e = by (same_due x.due Nothing) x.subject h e
   where
     by : (nothing subject : Bool) → (if nothing then Some (if subject then executed w t u else instruction_executed w t u) else None) ≡ Some v →
-        logged log ≡ noted w (trace_of w t u ++ (if subject then visits_of w t u else first_visit (visits_of w t u))) → HasLog w t v log
+        logged log ≡ noted w (trace_of w t u ++ (if subject then visits_of w t u else take 1 (visits_of w t u))) → HasLog w t v log
     by false subject k f = let n : None ≡ Some v = k in absurd cc
     by true true k f = subst (λ (y : TaskPart). HasLog w t y log) (same_Some _ v k)
         (log_executed w t u log (ap has_ended at) (g.inside (ap is_inside at)).0 g (f ∙ noted-append w (trace_of w t u) (visits_of w t u)))
@@ -231,10 +246,10 @@ pub all_logs : (P : ℕ → TaskPart → List Item → Type 0) (c : CoreState) (
     ((s : ℕ) → s ≢ t → logs s ≡ c.logs s) → ((s : ℕ) → s < length c.parts.tasks → P s (part_of c.parts s) (c.logs s)) → (s : ℕ) → s < length d.tasks → P s (part_of d s) (logs s)
 all_logs P c d t u logs e lt own others is s l =
     let inside : s < length c.parts.tasks = subst (λ (n : ℕ). s < n) (ap (λ (x : List TaskPart). length x) e ∙ length-set c.parts.tasks t u) l in
-    let there : part_of d s ≡ get_or (set c.parts.tasks t u) s no_part = ap (λ (x : List TaskPart). get_or x s no_part) e in
+    let there : part_of d s ≡ get_or (set c.parts.tasks t u) s (first_part no_task) = ap (λ (x : List TaskPart). get_or x s (first_part no_task)) e in
     elim (same_or s t) [
-      | inl same ↦ subst (λ (x : TaskPart). P s x (logs s)) (sym (there ∙ get_or-set_at c.parts.tasks t s u no_part same lt)) (subst (λ (n : ℕ). P n u (logs n)) (sym same) own)
-      | inr other ↦ subst (λ (x : TaskPart). P s x (logs s)) (sym (there ∙ get_or-set_other c.parts.tasks t s u no_part other)) (subst (P s (part_of c.parts s)) (sym (others s other)) (is s inside))
+      | inl same ↦ subst (λ (x : TaskPart). P s x (logs s)) (sym (there ∙ get_or-set_at c.parts.tasks t s u (first_part no_task) same lt)) (subst (λ (n : ℕ). P n u (logs n)) (sym same) own)
+      | inr other ↦ subst (λ (x : TaskPart). P s x (logs s)) (sym (there ∙ get_or-set_other c.parts.tasks t s u (first_part no_task) other)) (subst (P s (part_of c.parts s)) (sym (others s other)) (is s inside))
     ]
 
 -- after one task's event
@@ -245,7 +260,7 @@ one_log w P c d t u shown e lt own is = all_logs P c d t u (λ s. if nat_eq t s 
     (λ s other. ap (λ (b : Bool). if b then log_after w s (part_of d s) shown (c.logs s) else c.logs s) (apart t s other)) is
   where
     part : part_of d t ≡ u
-    part = ap (λ (x : List TaskPart). get_or x t no_part) e ∙ get_or-set_at c.parts.tasks t t u no_part refl lt
+    part = ap (λ (x : List TaskPart). get_or x t (first_part no_task)) e ∙ get_or-set_at c.parts.tasks t t u (first_part no_task) refl lt
 
 -- after a change of the sessions that a task controls
 pub changed_log : (w : World) (P : ℕ → TaskPart → List Item → Type 0) (c : CoreState) (closes : Bool) (s p tag : ℕ) (x : Stepped) (logs : ℕ → List Item) (by : Changed w c.parts closes s p x) → ((u : ℕ) → logs u ≡ logs_given c.logs by.task p tag u) →
@@ -265,7 +280,7 @@ log_changed w c closes s p tag x logs by given is = (
 log_step : (w : World) (c : CoreState) (e : Event) (x : Stepped) → IsWorld w → parts_step w c.parts e ≡ Some x → Logged w c → (length x.parts.tasks ≡ length w.job.tasks) × HaveLogs w x.parts (core_after w c e x).core.logs
 log_step w c (Fetch t) x world h is =
     let u : TaskPart = part_of c.parts t.0 in
-    let at = exists_by (nat_lt t.0 (length c.parts.tasks)) (fetch_step w c.parts t.0 u) x h in
+    let at = exists_by (nat_lt t.0 (length c.parts.tasks)) (option_map (fetched w c.parts t.0 u) (place_due w t.0 u u.stage)) x h in
     let lt : t.0 < length c.parts.tasks = ltb-true t.0 (length c.parts.tasks) at.0 in
     let p = got ℕ (fetched w c.parts t.0 u) (place_due w t.0 u u.stage) x at.1 in
     let seen = world.seen t.0 (subst (λ (n : ℕ). t.0 < n) is.count lt) in
@@ -274,7 +289,7 @@ log_step w c (Fetch t) x world h is =
     (length-set c.parts.tasks t.0 _ ∙ is.count, one_log w (λ n y log. HasLog w n y log) c (fetched w c.parts t.0 u p.0).parts t.0 (with_stage u (Holding (hand_at w c.parts (is_awaiting u.stage) p.0))) (Fetched (word_at c.parts.cells p.0)) refl lt own is.logs)
 log_step w c (Mark t) x world h is =
     let u : TaskPart = part_of c.parts t.0 in
-    let at = exists_by (nat_lt t.0 (length c.parts.tasks)) (mark_step w c.parts t.0 u) x h in
+    let at = exists_by (nat_lt t.0 (length c.parts.tasks)) (option_map (marked w c.parts t.0 u) (in_hand Marking u.stage)) x h in
     let lt : t.0 < length c.parts.tasks = ltb-true t.0 (length c.parts.tasks) at.0 in
     let p = got Hand (marked w c.parts t.0 u) (in_hand Marking u.stage) x at.1 in
     let found : FactSet = set_of w c.parts (tag_session p.0.cell.tag) p.0.place.0 in
@@ -284,7 +299,7 @@ log_step w c (Mark t) x world h is =
     (length-set c.parts.tasks t.0 _ ∙ is.count, one_log w (λ n y log. HasLog w n y log) c (marked w c.parts t.0 u p.0).parts t.0 _ (Marked found) refl lt (found_logged w t.0 u found (c.logs t.0) ∙ before) is.logs)
 log_step w c (Lift t) x world h is =
     let u : TaskPart = part_of c.parts t.0 in
-    let at = exists_by (nat_lt t.0 (length c.parts.tasks)) (lift_step w c.parts t.0 u) x h in
+    let at = exists_by (nat_lt t.0 (length c.parts.tasks)) (option_map (lifted w c.parts t.0 u) (in_hand Lifting u.stage)) x h in
     let lt : t.0 < length c.parts.tasks = ltb-true t.0 (length c.parts.tasks) at.0 in
     let p = got Hand (lifted w c.parts t.0 u) (in_hand Lifting u.stage) x at.1 in
     let taken : Bool = same_cell (word_at c.parts.cells p.0.place.0) p.0.cell in
@@ -295,7 +310,7 @@ log_step w c (Lift t) x world h is =
     (ap (λ (ts : List TaskPart). length ts) tasks ∙ (length-set c.parts.tasks t.0 _ ∙ is.count), one_log w (λ n y log. HasLog w n y log) c (lifted w c.parts t.0 u p.0).parts t.0 (with_due u p.0 Nothing) (Lifted taken) tasks lt (lifted_logged w t.0 (with_due u p.0 Nothing) taken (c.logs t.0) ∙ before) is.logs)
 log_step w c (Do t) x world h is =
     let u : TaskPart = part_of c.parts t.0 in
-    let at = exists_by (nat_lt t.0 (length c.parts.tasks)) (do_step w c.parts t.0 u) x h in
+    let at = exists_by (nat_lt t.0 (length c.parts.tasks)) (option_map (done_by c.parts t.0) (task_done w t.0 u u.stage)) x h in
     let lt : t.0 < length c.parts.tasks = ltb-true t.0 (length c.parts.tasks) at.0 in
     let v = got TaskPart (done_by c.parts t.0) (task_done w t.0 u u.stage) x at.1 in
     subst (λ (y : Stepped). (length y.parts.tasks ≡ length w.job.tasks) × HaveLogs w y.parts (core_after w c (Do t) y).core.logs) (sym v.2)
@@ -304,7 +319,7 @@ log_step w c (Plant s p) x world h is = elim (plant_cases w c.parts s.0 p.0 x h)
   | inl whole ↦
       let tasks : c.parts.tasks ≡ x.parts.tasks = ap (λ (y : Stepped). y.parts.tasks) (sym whole.made) in (
         ap (λ (ts : List TaskPart). length ts) (sym tasks) ∙ is.count,
-        subst (λ (ts : List TaskPart). (t : ℕ) → t < length ts → HasLog w t (get_or ts t no_part) ((core_after w c (Plant s p) x).core.logs t)) tasks
+        subst (λ (ts : List TaskPart). (t : ℕ) → t < length ts → HasLog w t (get_or ts t (first_part no_task)) ((core_after w c (Plant s p) x).core.logs t)) tasks
             (λ t l. subst (HasLog w t (part_of c.parts t)) (sym (logs_whole w c s p x whole t)) (is.logs t l)),
       )
   | inr by ↦ log_changed w c false s.0 p.0 (window_tag s.0) x (core_after w c (Plant s p) x).core.logs by (logs_plant w c s p x by) is
@@ -324,7 +339,7 @@ log_first w = record {
   go = all_first w;
   logs = λ t l.
       let lt : t < length w.job.tasks = subst (λ (n : ℕ). t < n) (length-map w.job.tasks first_part) l in
-      subst (λ (u : TaskPart). HasLog w t u []) (sym (get_or-map first_part w.job.tasks t no_task no_part lt)) (none_yet (memory_in w t) w (first_state (task_of w.job t)) refl);
+      subst (λ (u : TaskPart). HasLog w t u []) (sym (get_or-map first_part w.job.tasks t no_task (first_part no_task) lt)) (none_yet (memory_in w t) w (first_state (task_of w.job t)) refl);
 }
 
 pub got_step : (w : World) (d : CoreState) (e : Event) (o : Option Stepped) (y : CoreStepped) → option_map (core_after w d e) o ≡ Some y → (x : Stepped) × (o ≡ Some x) × ((core_after w d e x).core ≡ y.core)

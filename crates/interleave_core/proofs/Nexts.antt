@@ -7,11 +7,11 @@ use Rattle.cov_base.specs.declared.numbers.TaskNo.{TaskNo}
 use Rattle.s370_state.specs.declared.endings.Ending.TheVariants.{Returned, Spent}
 use Rattle.s370_exec.specs.Meaning.{has_returned}
 use Rattle.module_area.specs.Meaning.{word_at}
-use Rattle.module_area.specs.MeaningOfRule.{IsPlan}
+use Rattle.module_area.specs.Rule.{IsPlan}
 use Rattle.cov_base.specs.declared.numbers.PlaceNo.{PlaceNo as Number}
 use Rattle.cov_base.specs.declared.numbers.SessNo.{SessNo}
-use Rattle.interleave_core.specs.Meaning.{World, TaskPart, Parts, part_of, place_at, plan_in, PlaceChange, controller_of, change_of, next_place, Stepped, of_task, task_goes_on, change_due, unless_due, may_change, changed, change_where, change_step, by_controller, whole_step, fetch_step, fetched, mark_step, marked, lift_step, lifted, do_step, done_by, task_done, ready_done, instruction_executed, executed, unless_at, with_stage, place_due, subject_place, step_of, is_spent, in_hand, same_due, stage_event, next_of, fetch_or, change_or_do, event_due}
-use Rattle.interleave_core.specs.MeaningOfLogs.{is_by, is_task}
+use Rattle.interleave_core.specs.Meaning.{World, TaskPart, Parts, part_of, place_at, plan_in, PlaceChange, controller_of, change_of, next_place, Stepped, of_task, task_goes_on, change_due, may_change, changed, change_step, by_controller, whole_step, fetched, marked, lifted, done_by, task_done, ready_done, instruction_executed, executed, with_stage, place_due, subject_place, step_of, is_spent, in_hand, same_due, stage_event, next_of, change_or_do, event_due}
+use Rattle.interleave_core.specs.CoreState.{is_by, is_task}
 use Rattle.interleave_core.specs.Results.{IsDue}
 use Rattle.interleave_core.specs.Views.{IsStage, IsTied}
 use Rattle.interleave_core.proofs.Changes.{goes_on, done_due, Changed, plant_cases, close_by}
@@ -40,28 +40,28 @@ due_fetch : (w : World) (c : Parts) (t : TaskNo) (p : ℕ) → nat_lt t.0 (lengt
 due_fetch w c t p there h = record {
   by = itself t.0;
   stepped = fetched w c t.0 (part_of c t.0) p;
-  step = of_task-some c t.0 (fetch_step w c t.0) _ there (ap (option_map (fetched w c t.0 (part_of c t.0))) h);
+  step = of_task-some c t.0 (λ (u : TaskPart). option_map (fetched w c t.0 u) (place_due w t.0 u u.stage)) _ there (ap (option_map (fetched w c t.0 (part_of c t.0))) h);
 }
 
 due_mark : (w : World) (c : Parts) (t : TaskNo) (h : Hand) → nat_lt t.0 (length c.tasks) ≡ true → in_hand Marking (part_of c t.0).stage ≡ Some h → IsDue w c t.0 (Mark t)
 due_mark w c t h there e = record {
   by = itself t.0;
   stepped = marked w c t.0 (part_of c t.0) h;
-  step = of_task-some c t.0 (mark_step w c t.0) _ there (ap (option_map (marked w c t.0 (part_of c t.0))) e);
+  step = of_task-some c t.0 (λ (u : TaskPart). option_map (marked w c t.0 u) (in_hand Marking u.stage)) _ there (ap (option_map (marked w c t.0 (part_of c t.0))) e);
 }
 
 due_lift : (w : World) (c : Parts) (t : TaskNo) (h : Hand) → nat_lt t.0 (length c.tasks) ≡ true → in_hand Lifting (part_of c t.0).stage ≡ Some h → IsDue w c t.0 (Lift t)
 due_lift w c t h there e = record {
   by = itself t.0;
   stepped = lifted w c t.0 (part_of c t.0) h;
-  step = of_task-some c t.0 (lift_step w c t.0) _ there (ap (option_map (lifted w c t.0 (part_of c t.0))) e);
+  step = of_task-some c t.0 (λ (u : TaskPart). option_map (lifted w c t.0 u) (in_hand Lifting u.stage)) _ there (ap (option_map (lifted w c t.0 (part_of c t.0))) e);
 }
 
 due_do : (w : World) (c : Parts) (t : TaskNo) (v : TaskPart) → nat_lt t.0 (length c.tasks) ≡ true → task_done w t.0 (part_of c t.0) (part_of c t.0).stage ≡ Some v → IsDue w c t.0 (Do t)
 due_do w c t v there e = record {
   by = itself t.0;
   stepped = done_by c t.0 v;
-  step = of_task-some c t.0 (do_step w c t.0) _ there (ap (option_map (done_by c t.0)) e);
+  step = of_task-some c t.0 (λ (u : TaskPart). option_map (done_by c t.0) (task_done w t.0 u u.stage)) _ there (ap (option_map (done_by c t.0)) e);
 }
 
 -- a plant or a close that is due is its controller's
@@ -73,7 +73,7 @@ change_by w c t closes whole x plan tied there due way =
     let below : closes ≡ false → nat_lt ((word_at c.cells x.place.0).tag + 1) (2 * x.session) ≡ true = λ e. lt-ltb ((word_at c.cells x.place.0).tag + 1) (2 * x.session) (is.lower (way ∙ e)) in
     let may : may_change c closes x.session x.place.0 x ≡ true = may_from closes x.closes _ _ _ way (itself x.session) (itself x.place.0) below in
     let step : change_step w c closes x.session x.place.0 t (part_of c t) ≡ Some (changed w c t (part_of c t) x) =
-    ap (option_and_then (change_where w c closes x.session x.place.0 t (part_of c t))) due ∙ ap (λ (b : Bool). if b then Some (changed w c t (part_of c t) x) else None) may in
+    ap (option_and_then (λ (y : PlaceChange). if may_change c closes x.session x.place.0 y then Some (changed w c t (part_of c t) y) else None)) due ∙ ap (λ (b : Bool). if b then Some (changed w c t (part_of c t) x) else None) may in
     (by, ap (by_controller w c closes x.session x.place.0 whole) by ∙ of_task-some c t (change_step w c closes x.session x.place.0 t) _ there step)
 
 due_change : (w : World) (c : Parts) (t : TaskNo) (x : PlaceChange) → IsPlan (plan_in w) → IsTied w c.cells t.0 (part_of c t.0) → nat_lt t.0 (length c.tasks) ≡ true → change_due w t.0 (part_of c t.0) (part_of c t.0).stage ≡ Some x →
@@ -94,11 +94,11 @@ due_or_do : (w : World) (c : Parts) (t : TaskNo) (v : TaskPart) → IsPlan (plan
 due_or_do w c t v plan tied there goes = by (change_due w t.0 (part_of c t.0) (part_of c t.0).stage) refl
   where
     by : (o : Option PlaceChange) → change_due w t.0 (part_of c t.0) (part_of c t.0).stage ≡ o → IsDue w c t.0 (change_or_do t o)
-    by None e = due_do w c t v there (ap (λ (o : Option PlaceChange). unless_due o (task_goes_on w t.0 (part_of c t.0) (part_of c t.0).stage)) e ∙ goes)
+    by None e = due_do w c t v there (ap (λ (o : Option PlaceChange). if is_none o then task_goes_on w t.0 (part_of c t.0) (part_of c t.0).stage else None) e ∙ goes)
     by (Some x) e = due_change w c t x plan tied there e
 
 ready_by : (returned spent : Bool) (at : Option ℕ) (a b c : TaskPart) → (if returned then None else (if spent then None else at)) ≡ None →
-    (v : TaskPart) × ((if returned then Some a else (if spent then Some b else unless_at c at)) ≡ Some v)
+    (v : TaskPart) × ((if returned then Some a else (if spent then Some b else (if is_none at then Some c else None))) ≡ Some v)
 ready_by true spent at a b c h = (a, refl)
 ready_by false true at a b c h = (b, refl)
 ready_by false false None a b c h = (c, refl)
@@ -111,7 +111,7 @@ possible_at : (w : World) (c : Parts) (t : TaskNo) (stage : Stage) → IsPlan (p
     IfSome (stage_event w t (part_of c t.0) stage) (IsDue w c t.0)
 possible_at w c t Ready plan tied there e is = by (place_due w t.0 (part_of c t.0) Ready) refl
   where
-    by : (at : Option ℕ) → place_due w t.0 (part_of c t.0) Ready ≡ at → IsDue w c t.0 (fetch_or t (change_or_do t (change_due w t.0 (part_of c t.0) Ready)) at)
+    by : (at : Option ℕ) → place_due w t.0 (part_of c t.0) Ready ≡ at → IsDue w c t.0 (if is_none at then change_or_do t (change_due w t.0 (part_of c t.0) Ready) else Fetch t)
     by (Some p) h = due_fetch w c t p there (ap (place_due w t.0 (part_of c t.0)) e ∙ h)
     by None h =
         let v = ready_some w t.0 (part_of c t.0) h in
@@ -146,7 +146,7 @@ same_task : (t u : TaskNo) → nat_eq t.0 u.0 ≡ true → t ≡ u
 same_task t u h = let e : t.0 ≡ u.0 = grind (arith, nat_tests) in ap (λ (n : ℕ). record { 0 = n }) e
 
 fetch_only : (w : World) (t : TaskNo) (u : TaskPart) (stage : Stage) (p : ℕ) → place_due w t.0 u stage ≡ Some p → stage_event w t u stage ≡ Some (Fetch t)
-fetch_only w t u Ready p h = ap (λ (o : Option ℕ). Some (fetch_or t (change_or_do t (change_due w t.0 u Ready)) o)) h
+fetch_only w t u Ready p h = ap (λ (o : Option ℕ). Some (if is_none o then change_or_do t (change_due w t.0 u Ready) else Fetch t)) h
 fetch_only w t u Awaiting p h = refl
 fetch_only w t u (Holding g) p h = let n : None ≡ Some p = h in absurd cc
 fetch_only w t u (Ended e) p h = let n : None ≡ Some p = h in absurd cc
@@ -167,7 +167,7 @@ hand_only w t u stage due h e =
     let at = in_hand-stage due stage h e in
     subst (λ (s : Stage). stage_event w t u s ≡ Some (event_due t (change_due w t.0 u s) due)) (sym at.0) (ap Some (held_only due h.due t (change_due w t.0 u (Holding h)) at.1))
 
-none_by : (returned spent : Bool) (at : Option ℕ) (a b c v : TaskPart) → (if returned then Some a else (if spent then Some b else unless_at c at)) ≡ Some v →
+none_by : (returned spent : Bool) (at : Option ℕ) (a b c v : TaskPart) → (if returned then Some a else (if spent then Some b else (if is_none at then Some c else None))) ≡ Some v →
     (if returned then None else (if spent then None else at)) ≡ None
 none_by true spent at a b c v h = refl
 none_by false true at a b c v h = refl
@@ -175,7 +175,7 @@ none_by false false None a b c v h = refl
 none_by false false (Some p) a b c v h = let n : None ≡ Some v = h in absurd cc
 
 going_only : (w : World) (t : TaskNo) (u : TaskPart) (stage : Stage) (v : TaskPart) → task_goes_on w t.0 u stage ≡ Some v → stage_event w t u stage ≡ Some (change_or_do t (change_due w t.0 u stage))
-going_only w t u Ready v h = ap (λ (o : Option ℕ). Some (fetch_or t (change_or_do t (change_due w t.0 u Ready)) o))
+going_only w t u Ready v h = ap (λ (o : Option ℕ). Some (if is_none o then change_or_do t (change_due w t.0 u Ready) else Fetch t))
     (none_by (has_returned u.state) (is_spent w t.0 u.state) (place_at w u.state.machine.cpu.ia) (with_stage u (Ended Returned)) (with_stage u (Ended Spent)) (instruction_executed w t.0 u) v h)
 going_only w t u Awaiting v h = let n : None ≡ Some v = h in absurd cc
 going_only w t u (Ended e) v h = let n : None ≡ Some v = h in absurd cc
@@ -194,7 +194,7 @@ executes_on : (w : World) (t : TaskNo) (u : TaskPart) (stage : Stage) (x : Place
 executes_on w t u Ready x h = ready (has_returned u.state) (is_spent w t.0 u.state) (place_at w u.state.machine.cpu.ia) (is_none (subject_place w (step_of w t.0 u).visits)) h
   where
     ready : (returned spent : Bool) (at : Option ℕ) (b : Bool) → (if not returned && (not spent && (is_none at && b)) then option_and_then (next_place u.changed) (change_of w t.0 u) else None) ≡ Some x →
-        (v : TaskPart) × ((if returned then Some (with_stage u (Ended Returned)) else (if spent then Some (with_stage u (Ended Spent)) else unless_at (instruction_executed w t.0 u) at)) ≡ Some v)
+        (v : TaskPart) × ((if returned then Some (with_stage u (Ended Returned)) else (if spent then Some (with_stage u (Ended Spent)) else (if is_none at then Some (instruction_executed w t.0 u) else None))) ≡ Some v)
     ready true spent at b k = (_, refl)
     ready false true at b k = (_, refl)
     ready false false None b k = (_, refl)
@@ -237,19 +237,19 @@ changed_only w c u closes s p x by same =
 -- what is possible is next
 pub next_only : (w : World) (c : Parts) (u : TaskNo) (e : Event) → IsDue w c u.0 e → next_of w c u ≡ Some e
 next_only w c u (Fetch t) d =
-    let at = exists_by (nat_lt t.0 (length c.tasks)) (fetch_step w c t.0 (part_of c t.0)) d.stepped d.step in
+    let at = exists_by (nat_lt t.0 (length c.tasks)) (option_map (fetched w c t.0 (part_of c t.0)) (place_due w t.0 (part_of c t.0) (part_of c t.0).stage)) d.stepped d.step in
     let p = mapped _ _ _ (place_due w t.0 (part_of c t.0) (part_of c t.0).stage) d.stepped at.1 in
     only_of w c t u (Fetch t) (same_task t u d.by) at.0 (fetch_only w t (part_of c t.0) (part_of c t.0).stage p.0 p.1)
 next_only w c u (Mark t) d =
-    let at = exists_by (nat_lt t.0 (length c.tasks)) (mark_step w c t.0 (part_of c t.0)) d.stepped d.step in
+    let at = exists_by (nat_lt t.0 (length c.tasks)) (option_map (marked w c t.0 (part_of c t.0)) (in_hand Marking (part_of c t.0).stage)) d.stepped d.step in
     let h = mapped _ _ _ (in_hand Marking (part_of c t.0).stage) d.stepped at.1 in
     only_of w c t u (Mark t) (same_task t u d.by) at.0 (hand_only w t (part_of c t.0) (part_of c t.0).stage Marking h.0 h.1)
 next_only w c u (Lift t) d =
-    let at = exists_by (nat_lt t.0 (length c.tasks)) (lift_step w c t.0 (part_of c t.0)) d.stepped d.step in
+    let at = exists_by (nat_lt t.0 (length c.tasks)) (option_map (lifted w c t.0 (part_of c t.0)) (in_hand Lifting (part_of c t.0).stage)) d.stepped d.step in
     let h = mapped _ _ _ (in_hand Lifting (part_of c t.0).stage) d.stepped at.1 in
     only_of w c t u (Lift t) (same_task t u d.by) at.0 (hand_only w t (part_of c t.0) (part_of c t.0).stage Lifting h.0 h.1)
 next_only w c u (Do t) d =
-    let at = exists_by (nat_lt t.0 (length c.tasks)) (do_step w c t.0 (part_of c t.0)) d.stepped d.step in
+    let at = exists_by (nat_lt t.0 (length c.tasks)) (option_map (done_by c t.0) (task_done w t.0 (part_of c t.0) (part_of c t.0).stage)) d.stepped d.step in
     let v = mapped _ _ _ (task_done w t.0 (part_of c t.0) (part_of c t.0).stage) d.stepped at.1 in
     only_of w c t u (Do t) (same_task t u d.by) at.0 (do_only w t (part_of c t.0) (part_of c t.0).stage v.0 v.1)
 next_only w c u (Plant s p) d = elim (plant_cases w c s.0 p.0 d.stepped d.step) [
@@ -279,7 +279,7 @@ or_do_by w t u stage plan = by (change_due w t.0 u stage) refl
 stage_by : (w : World) (t : TaskNo) (u : TaskPart) (stage : Stage) (e : Event) → IsPlan (plan_in w) → stage_event w t u stage ≡ Some e → is_by w e t.0 ≡ true
 stage_by w t u Ready e plan h = by (place_due w t.0 u Ready) h
   where
-    by : (o : Option ℕ) → Some (fetch_or t (change_or_do t (change_due w t.0 u Ready)) o) ≡ Some e → is_by w e t.0 ≡ true
+    by : (o : Option ℕ) → Some (if is_none o then change_or_do t (change_due w t.0 u Ready) else Fetch t) ≡ Some e → is_by w e t.0 ≡ true
     by None k = let same : change_or_do t (change_due w t.0 u Ready) ≡ e = cc in subst (λ (x : Event). is_by w x t.0 ≡ true) same (or_do_by w t u Ready plan)
     by (Some p) k = let same : Fetch t ≡ e = cc in subst (λ (x : Event). is_by w x t.0 ≡ true) same (itself t.0)
 stage_by w t u Awaiting e plan h = let same : Fetch t ≡ e = cc in subst (λ (x : Event). is_by w x t.0 ≡ true) same (itself t.0)

@@ -9,10 +9,11 @@ use Rattle.cov_base.specs.declared.limits.TheConstants.{SESSION_LIMIT, PLACE_LIM
 use Rattle.cov_base.specs.declared.numbers.PlaceNo.{PlaceNo}
 use Rattle.cov_base.specs.declared.numbers.SessNo.{SessNo}
 use Rattle.module_area.specs.Meaning.{word_at, PlanView, window_at, is_over, is_controlled}
-use Rattle.module_area.specs.MeaningOfRule.{IsForm, IsPlan, IsControlled}
+use Rattle.module_area.specs.Rule.{IsForm, IsPlan, IsControlled}
 use Rattle.module_area.specs.declared.cells.Cell.{Cell}
 use Rattle.module_area.proofs.PlanLemmas.{over_small}
-use Rattle.interleave_core.specs.Meaning.{World, TaskPart, Parts, plan_in, part_of, no_part, PlaceChange, controller_of, Stepped, of_task, with_task, breakpoint_of, changed_cell, may_change, changed, change_where, change_step, change_due, parts_step, by_controller, whole_step}
+use Rattle.session_book.specs.Meaning.{no_task}
+use Rattle.interleave_core.specs.Meaning.{World, TaskPart, Parts, plan_in, part_of, first_part, PlaceChange, controller_of, Stepped, of_task, with_task, breakpoint_of, changed_cell, may_change, changed, change_step, change_due, parts_step, by_controller, whole_step}
 use Rattle.interleave_core.specs.Views.{RunningView, IsRunning, IsStage, IsCore, IsTied, IsPlaced, parts_of, no_controlled, session_at, turn_number, turn_of}
 use Rattle.interleave_core.specs.declared.events.Event.{Event}
 use Rattle.interleave_core.specs.declared.events.Event.TheVariants.{Plant, Close}
@@ -37,7 +38,7 @@ window_core w cells sets plan tasks s p x is lt some window e =
     let over : is_over (plan_in w) s p ≡ true = window_over (plan_in w) s p (above s some) (same_number (window_at (plan_in w) p) s there) in
     let form : IsForm (plan_in w) p x = inr (s, some, over, inl e) in
     moved_core w cells (set cells p x) sets sets plan tasks tasks is (length-set cells p x) refl refl (words_with w cells sets plan tasks p x is lt form) is.within is.running is.stages
-    (λ t l. tied_window w cells t p x (get_or (parts_of tasks) t no_part) is.is_plan (subst (λ (n : ℕ). 0 < n) (sym there) some) (is.tied t l))
+    (λ t l. tied_window w cells t p x (get_or (parts_of tasks) t (first_part no_task)) is.is_plan (subst (λ (n : ℕ). 0 < n) (sym there) some) (is.tied t l))
   where
     above : (n : ℕ) → 0 < n → nat_lt 0 n ≡ true
     above n h = grind (arith, nat_tests)
@@ -63,7 +64,7 @@ same_place : (p q : PlaceNo) → p.0 ≡ q.0 → p ≡ q
 same_place p q h = ap (λ (n : ℕ). record { 0 = n }) h
 
 due_of : (w : World) (c : Parts) (closes : Bool) (s : ℕ) (p : PlaceNo) (t : ℕ) (o : Option PlaceChange) → nat_lt t (length c.tasks) ≡ true → change_due w t (part_of c t) (part_of c t).stage ≡ o →
-    is_some (option_and_then (change_where w c closes s p.0 t (part_of c t)) o) ≡ true → IsDue w c closes s p t
+    is_some (option_and_then (λ (y : PlaceChange). if may_change c closes s p.0 y then Some (changed w c t (part_of c t) y) else None) o) ≡ true → IsDue w c closes s p t
 due_of w c closes s p t None there due h = let f : false ≡ true = h in absurd cc
 due_of w c closes s p t (Some y) there due h = by (may_change c closes s p.0 y) refl h
   where
@@ -88,8 +89,8 @@ is_due w c closes s p t h = by (nat_lt t (length c.tasks)) refl h
     by false e k = let f : false ≡ true = k in absurd cc
     by true e k = due_of w c closes s p t (change_due w t (part_of c t) (part_of c t).stage) e refl k
 
-read_part : (tasks : List RunningView) (t : ℕ) (m : RunningView) → t < length tasks → m ≡ get_or tasks t m → get_or (parts_of tasks) t no_part ≡ m.part
-read_part tasks t m lt read = get_or-map (λ (r : RunningView). r.part) tasks t m no_part lt ∙ ap (λ (r : RunningView). r.part) (sym read)
+read_part : (tasks : List RunningView) (t : ℕ) (m : RunningView) → t < length tasks → m ≡ get_or tasks t m → get_or (parts_of tasks) t (first_part no_task) ≡ m.part
+read_part tasks t m lt read = get_or-map (λ (r : RunningView). r.part) tasks t m (first_part no_task) lt ∙ ap (λ (r : RunningView). r.part) (sym read)
 
 in_tasks : (tasks : List RunningView) (t : ℕ) → t < length tasks → t < length (parts_of tasks)
 in_tasks tasks t lt = subst (λ n. t < n) (sym (length-map tasks (λ (r : RunningView). r.part))) lt
@@ -137,7 +138,7 @@ change_possible w cells sets tasks closes s p t m n x lt read some is_x e =
   where
     made : Cell → Stepped
     made c = record {
-      parts = with_task (record { cells = set cells p.0 c; sets = sets; tasks = parts_of tasks }) t (record (get_or (parts_of tasks) t no_part) { changed = (get_or (parts_of tasks) t no_part).changed + 1 });
+      parts = with_task (record { cells = set cells p.0 c; sets = sets; tasks = parts_of tasks }) t (record (get_or (parts_of tasks) t (first_part no_task)) { changed = (get_or (parts_of tasks) t (first_part no_task)).changed + 1 });
       shown = if closes then Closed else Planted;
     }
 

@@ -1,5 +1,5 @@
 -- What is quiet stays so, and its sets with it; what is drained is quiet.
-use Rattle.std.proofs.Common.{◌≡◌, inl, inr, ℕ, zero, suc, ◌+◌, ◌*◌, ◌<◌, ◌≤◌, Bool, true, false, not, ◌&&◌, ◌||◌, nat_eq, nat_lt, nat_le, if◌then◌else◌, Option, Some, None, is_some, List, [], ◌∷◌, length, get_or, set, refl, sym, ◌∙◌, ap, subst, arith, eqb-true, eq-eqb}
+use Rattle.std.proofs.Common.{◌≡◌, inl, inr, ℕ, zero, suc, ◌+◌, ◌*◌, ◌<◌, ◌≤◌, Bool, true, false, not, ◌&&◌, ◌||◌, nat_eq, nat_lt, nat_le, if◌then◌else◌, Option, Some, None, is_some, List, [], ◌∷◌, length, get_or, set, refl, sym, ◌∙◌, ap, subst, arith, eqb-true, eq-eqb, is_none, option_map}
 use Rattle.std.specs.List.{list_any, list_all}
 use Rattle.std.proofs.lemmas.Grind.{get_or-set_at}
 use Rattle.std.proofs.lemmas.List.{get_or-set_other, length-set, get_or_default}
@@ -15,11 +15,12 @@ use Rattle.s370_state.specs.declared.endings.Next.TheVariants.{On, Ended as Next
 use Rattle.s370_exec.specs.Meaning.{is_execute, has_returned}
 use Rattle.module_area.specs.Meaning.{word_at, no_cell, index_of, tag_session, PlanView, ControlledView, has_place, is_controlled, is_over, original_at, kind_at, window_at}
 use Rattle.module_area.specs.Notes.{is_closed}
-use Rattle.module_area.specs.MeaningOfRule.{window_tag, IsPlan}
+use Rattle.module_area.specs.Rule.{window_tag, IsPlan}
 use Rattle.module_area.specs.declared.cells.Cell.{Cell}
 use Rattle.module_area.proofs.Indices.{same_index, and_left, and_right, and_both}
 use Rattle.module_area.proofs.PlanLemmas.{any_at, any_shown, over_cases}
-use Rattle.interleave_core.specs.Meaning.{World, TaskPart, Parts, part_of, plan_in, place_at, no_part, PlaceChange, controller_from, controller_of, Stepped, parts_step, fetch_step, fetched, mark_step, marked, lift_step, lifted, do_step, done_by, task_done, task_goes_on, breakpoint_of, changed_cell, changed, change_due, with_cell, with_due, with_stage, original_under, same_cell, same_due, in_hand, hand_at, step_of, subject_place, place_due, is_awaiting, is_spent, stage_after, executed, awaits_or, unless_at, instruction_executed, set_of, fact_in}
+use Rattle.session_book.specs.Meaning.{no_task}
+use Rattle.interleave_core.specs.Meaning.{World, TaskPart, Parts, part_of, plan_in, place_at, first_part, PlaceChange, controller_from, controller_of, Stepped, parts_step, fetched, marked, lifted, done_by, task_done, task_goes_on, breakpoint_of, changed_cell, changed, change_due, with_cell, with_due, with_stage, original_under, same_cell, same_due, in_hand, hand_at, step_of, subject_place, place_due, is_awaiting, is_spent, stage_after, executed, awaits_or, instruction_executed, set_of, fact_in}
 use Rattle.interleave_core.specs.Quiet.{has_unmarked, any_unmarked, is_quiet, SetsStay}
 use Rattle.interleave_core.specs.Views.{RunningView, AreSteady, IsHand, no_controlled, number_at, parts_of}
 use Rattle.interleave_core.specs.declared.events.Event.{Event}
@@ -66,23 +67,23 @@ changed_rises w c t x is lt due =
 pub rises : (w : World) (c : Parts) (e : Event) (x : Stepped) → AreSteady w c → parts_step w c e ≡ Some x → Rises c x.parts
 rises w c (Fetch t) x is h =
     let u : TaskPart = part_of c t.0 in
-    let at = exists_by (nat_lt t.0 (length c.tasks)) (fetch_step w c t.0 u) x h in
+    let at = exists_by (nat_lt t.0 (length c.tasks)) (option_map (fetched w c t.0 u) (place_due w t.0 u u.stage)) x h in
     let p = got ℕ (fetched w c t.0 u) (place_due w t.0 u u.stage) x at.1 in
     subst (λ (y : Stepped). Rises c y.parts) (sym p.2) (λ q l. omega arith)
 rises w c (Mark t) x is h =
     let u : TaskPart = part_of c t.0 in
-    let at = exists_by (nat_lt t.0 (length c.tasks)) (mark_step w c t.0 u) x h in
+    let at = exists_by (nat_lt t.0 (length c.tasks)) (option_map (marked w c t.0 u) (in_hand Marking u.stage)) x h in
     let g = got Hand (marked w c t.0 u) (in_hand Marking u.stage) x at.1 in
     subst (λ (y : Stepped). Rises c y.parts) (sym g.2) (λ q l. omega arith)
 rises w c (Lift t) x is h =
     let u : TaskPart = part_of c t.0 in
-    let at = exists_by (nat_lt t.0 (length c.tasks)) (lift_step w c t.0 u) x h in
+    let at = exists_by (nat_lt t.0 (length c.tasks)) (option_map (lifted w c t.0 u) (in_hand Lifting u.stage)) x h in
     let g = got Hand (lifted w c t.0 u) (in_hand Lifting u.stage) x at.1 in
     subst (λ (y : Stepped). Rises c y.parts) (sym g.2)
     (λ q l. let same = lift_tag w c g.0 (same_cell (word_at c.cells g.0.place.0) g.0.cell) refl q l in omega (arith, same))
 rises w c (Do t) x is h =
     let u : TaskPart = part_of c t.0 in
-    let at = exists_by (nat_lt t.0 (length c.tasks)) (do_step w c t.0 u) x h in
+    let at = exists_by (nat_lt t.0 (length c.tasks)) (option_map (done_by c t.0) (task_done w t.0 u u.stage)) x h in
     let v = got TaskPart (done_by c t.0) (task_done w t.0 u u.stage) x at.1 in
     subst (λ (y : Stepped). Rises c y.parts) (sym v.2) (λ q l. omega arith)
 rises w c (Plant s p) x is h = elim (plant_cases w c s.0 p.0 x h) [
@@ -182,10 +183,10 @@ Clear s stage = has_unmarked s stage ≡ false
 -- one task changes
 one_clear : (s : ℕ) (c d : Parts) (t : ℕ) (u : TaskPart) → d.tasks ≡ set c.tasks t u → t < length c.tasks → (Clear s (part_of c t).stage → Clear s u.stage) → (r : ℕ) → Clear s (part_of c r).stage → Clear s (part_of d r).stage
 one_clear s c d t u e lt one r is =
-    let there : part_of d r ≡ get_or (set c.tasks t u) r no_part = ap (λ (x : List TaskPart). get_or x r no_part) e in
+    let there : part_of d r ≡ get_or (set c.tasks t u) r (first_part no_task) = ap (λ (x : List TaskPart). get_or x r (first_part no_task)) e in
     elim (same_or r t) [
-      | inl same ↦ subst (λ (v : TaskPart). Clear s v.stage) (sym (there ∙ get_or-set_at c.tasks t r u no_part same lt)) (one (subst (λ (n : ℕ). Clear s (part_of c n).stage) same is))
-      | inr other ↦ subst (λ (v : TaskPart). Clear s v.stage) (sym (there ∙ get_or-set_other c.tasks t r u no_part other)) is
+      | inl same ↦ subst (λ (v : TaskPart). Clear s v.stage) (sym (there ∙ get_or-set_at c.tasks t r u (first_part no_task) same lt)) (one (subst (λ (n : ℕ). Clear s (part_of c n).stage) same is))
+      | inr other ↦ subst (λ (v : TaskPart). Clear s v.stage) (sym (there ∙ get_or-set_other c.tasks t r u (first_part no_task) other)) is
     ]
 
 due_inside : (w : World) (t : ℕ) (u : TaskPart) (stage : Stage) (p : ℕ) → place_due w t u stage ≡ Some p → p < length w.places
@@ -238,7 +239,7 @@ whole_clear s w t u (Some p) = refl
 goes_clear : (s : ℕ) (w : World) (t : ℕ) (u v : TaskPart) (stage : Stage) → task_goes_on w t u stage ≡ Some v → Clear s v.stage
 goes_clear s w t u v Ready h = ready (has_returned u.state) (is_spent w t u.state) (place_at w u.state.machine.cpu.ia) h
   where
-    ready : (returned spent : Bool) (at : Option ℕ) → (if returned then Some (with_stage u (Ended Returned)) else (if spent then Some (with_stage u (Ended Spent)) else unless_at (instruction_executed w t u) at)) ≡ Some v → Clear s v.stage
+    ready : (returned spent : Bool) (at : Option ℕ) → (if returned then Some (with_stage u (Ended Returned)) else (if spent then Some (with_stage u (Ended Spent)) else (if is_none at then Some (instruction_executed w t u) else None))) ≡ Some v → Clear s v.stage
     ready true spent at k = subst (λ (x : TaskPart). Clear s x.stage) (same_Some _ v k) refl
     ready false true at k = subst (λ (x : TaskPart). Clear s x.stage) (same_Some _ v k) refl
     ready false false None k = subst (λ (x : TaskPart). Clear s x.stage) (same_Some _ v k) (whole_clear s w t u (subject_place w (step_of w t u).visits))
@@ -256,14 +257,14 @@ goes_clear s w t u v (Holding g) h = by (same_due g.due Nothing) g.subject h
 pub clear_step : (w : World) (s : ℕ) (c : Parts) (e : Event) (x : Stepped) → AreSteady w c → IsLocal w s → AreOver w s c → parts_step w c e ≡ Some x → (r : ℕ) → Clear s (part_of c r).stage → Clear s (part_of x.parts r).stage
 clear_step w s c (Fetch t) x is local over h r clear =
     let u : TaskPart = part_of c t.0 in
-    let at = exists_by (nat_lt t.0 (length c.tasks)) (fetch_step w c t.0 u) x h in
+    let at = exists_by (nat_lt t.0 (length c.tasks)) (option_map (fetched w c t.0 u) (place_due w t.0 u u.stage)) x h in
     let p = got ℕ (fetched w c t.0 u) (place_due w t.0 u u.stage) x at.1 in
     let lt : p.0 < length w.places = due_inside w t.0 u u.stage p.0 p.1 in
     subst (λ (y : Stepped). Clear s (part_of y.parts r).stage) (sym p.2)
     (one_clear s c (fetched w c t.0 u p.0).parts t.0 _ refl (ltb-true t.0 (length c.tasks) at.0) (λ _. fetch_clear w s c (is_awaiting u.stage) p.0 is local over lt) r clear)
 clear_step w s c (Mark t) x is local over h r clear =
     let u : TaskPart = part_of c t.0 in
-    let at = exists_by (nat_lt t.0 (length c.tasks)) (mark_step w c t.0 u) x h in
+    let at = exists_by (nat_lt t.0 (length c.tasks)) (option_map (marked w c t.0 u) (in_hand Marking u.stage)) x h in
     let g = got Hand (marked w c t.0 u) (in_hand Marking u.stage) x at.1 in
     let found : FactSet = set_of w c (tag_session g.0.cell.tag) g.0.place.0 in
     let full : Bool = is_full (kind_at (plan_in w) g.0.place.0) (with_fact found (fact_in w t.0 u g.0)) in
@@ -271,7 +272,7 @@ clear_step w s c (Mark t) x is local over h r clear =
     (one_clear s c (marked w c t.0 u g.0).parts t.0 (with_due u g.0 (if full then Lifting else Nothing)) refl (ltb-true t.0 (length c.tasks) at.0) (λ _. mark_clear s u g.0 full) r clear)
 clear_step w s c (Lift t) x is local over h r clear =
     let u : TaskPart = part_of c t.0 in
-    let at = exists_by (nat_lt t.0 (length c.tasks)) (lift_step w c t.0 u) x h in
+    let at = exists_by (nat_lt t.0 (length c.tasks)) (option_map (lifted w c t.0 u) (in_hand Lifting u.stage)) x h in
     let g = got Hand (lifted w c t.0 u) (in_hand Lifting u.stage) x at.1 in
     let taken : Bool = same_cell (word_at c.cells g.0.place.0) g.0.cell in
     let tasks : (lifted w c t.0 u g.0).parts.tasks ≡ set c.tasks t.0 (with_due u g.0 Nothing) = ap (λ (ts : List TaskPart). set ts t.0 (with_due u g.0 Nothing)) (lifted_tasks taken c g.0.place.0 (original_under w g.0.place.0 g.0.cell)) in
@@ -279,7 +280,7 @@ clear_step w s c (Lift t) x is local over h r clear =
     (one_clear s c (lifted w c t.0 u g.0).parts t.0 (with_due u g.0 Nothing) tasks (ltb-true t.0 (length c.tasks) at.0) (λ _. refl) r clear)
 clear_step w s c (Do t) x is local over h r clear =
     let u : TaskPart = part_of c t.0 in
-    let at = exists_by (nat_lt t.0 (length c.tasks)) (do_step w c t.0 u) x h in
+    let at = exists_by (nat_lt t.0 (length c.tasks)) (option_map (done_by c t.0) (task_done w t.0 u u.stage)) x h in
     let v = got TaskPart (done_by c t.0) (task_done w t.0 u u.stage) x at.1 in
     subst (λ (y : Stepped). Clear s (part_of y.parts r).stage) (sym v.2)
     (one_clear s c (done_by c t.0 v.0).parts t.0 v.0 refl (ltb-true t.0 (length c.tasks) at.0) (λ _. goes_clear s w t.0 u v.0 u.stage (goes_on w t.0 u v.0 u.stage v.1)) r clear)
@@ -297,23 +298,23 @@ clear_step w s c (Close n p) x is local over h r clear =
 count_step : (w : World) (c : Parts) (e : Event) (x : Stepped) → parts_step w c e ≡ Some x → length x.parts.tasks ≡ length c.tasks
 count_step w c (Fetch t) x h =
     let u : TaskPart = part_of c t.0 in
-    let at = exists_by (nat_lt t.0 (length c.tasks)) (fetch_step w c t.0 u) x h in
+    let at = exists_by (nat_lt t.0 (length c.tasks)) (option_map (fetched w c t.0 u) (place_due w t.0 u u.stage)) x h in
     let p = got ℕ (fetched w c t.0 u) (place_due w t.0 u u.stage) x at.1 in
     ap (λ (y : Stepped). length y.parts.tasks) p.2 ∙ length-set c.tasks t.0 _
 count_step w c (Mark t) x h =
     let u : TaskPart = part_of c t.0 in
-    let at = exists_by (nat_lt t.0 (length c.tasks)) (mark_step w c t.0 u) x h in
+    let at = exists_by (nat_lt t.0 (length c.tasks)) (option_map (marked w c t.0 u) (in_hand Marking u.stage)) x h in
     let g = got Hand (marked w c t.0 u) (in_hand Marking u.stage) x at.1 in
     ap (λ (y : Stepped). length y.parts.tasks) g.2 ∙ length-set c.tasks t.0 _
 count_step w c (Lift t) x h =
     let u : TaskPart = part_of c t.0 in
-    let at = exists_by (nat_lt t.0 (length c.tasks)) (lift_step w c t.0 u) x h in
+    let at = exists_by (nat_lt t.0 (length c.tasks)) (option_map (lifted w c t.0 u) (in_hand Lifting u.stage)) x h in
     let g = got Hand (lifted w c t.0 u) (in_hand Lifting u.stage) x at.1 in
     let taken : Bool = same_cell (word_at c.cells g.0.place.0) g.0.cell in
     ap (λ (y : Stepped). length y.parts.tasks) g.2 ∙ (ap (λ (ts : List TaskPart). length (set ts t.0 (with_due u g.0 Nothing))) (lifted_tasks taken c g.0.place.0 (original_under w g.0.place.0 g.0.cell)) ∙ length-set c.tasks t.0 _)
 count_step w c (Do t) x h =
     let u : TaskPart = part_of c t.0 in
-    let at = exists_by (nat_lt t.0 (length c.tasks)) (do_step w c t.0 u) x h in
+    let at = exists_by (nat_lt t.0 (length c.tasks)) (option_map (done_by c t.0) (task_done w t.0 u u.stage)) x h in
     let v = got TaskPart (done_by c t.0) (task_done w t.0 u u.stage) x at.1 in
     ap (λ (y : Stepped). length y.parts.tasks) v.2 ∙ length-set c.tasks t.0 _
 count_step w c (Plant n p) x h = elim (plant_cases w c n.0 p.0 x h) [
@@ -349,19 +350,19 @@ mark_stays w s c t h facts is pos lt due clear p l =
 pub sets_step : (w : World) (s : ℕ) (c : Parts) (e : Event) (x : Stepped) → AreSteady w c → 0 < s → parts_step w c e ≡ Some x → ((t : ℕ) → t < length c.tasks → Clear s (part_of c t).stage) → SetsStay w s c x.parts
 sets_step w s c (Fetch t) x is pos h clear =
     let u : TaskPart = part_of c t.0 in
-    let at = exists_by (nat_lt t.0 (length c.tasks)) (fetch_step w c t.0 u) x h in
+    let at = exists_by (nat_lt t.0 (length c.tasks)) (option_map (fetched w c t.0 u) (place_due w t.0 u u.stage)) x h in
     let p = got ℕ (fetched w c t.0 u) (place_due w t.0 u u.stage) x at.1 in
     subst (λ (y : Stepped). SetsStay w s c y.parts) (sym p.2) (λ q l. refl)
 sets_step w s c (Mark t) x is pos h clear =
     let u : TaskPart = part_of c t.0 in
-    let at = exists_by (nat_lt t.0 (length c.tasks)) (mark_step w c t.0 u) x h in
+    let at = exists_by (nat_lt t.0 (length c.tasks)) (option_map (marked w c t.0 u) (in_hand Marking u.stage)) x h in
     let lt : t.0 < length c.tasks = ltb-true t.0 (length c.tasks) at.0 in
     let g = got Hand (marked w c t.0 u) (in_hand Marking u.stage) x at.1 in
     subst (λ (y : Stepped). SetsStay w s c y.parts) (sym g.2)
     (mark_stays w s c t.0 g.0 (with_fact (set_of w c (tag_session g.0.cell.tag) g.0.place.0) (fact_in w t.0 u g.0)) is pos lt g.1 (clear t.0 lt))
 sets_step w s c (Lift t) x is pos h clear =
     let u : TaskPart = part_of c t.0 in
-    let at = exists_by (nat_lt t.0 (length c.tasks)) (lift_step w c t.0 u) x h in
+    let at = exists_by (nat_lt t.0 (length c.tasks)) (option_map (lifted w c t.0 u) (in_hand Lifting u.stage)) x h in
     let g = got Hand (lifted w c t.0 u) (in_hand Lifting u.stage) x at.1 in
     subst (λ (y : Stepped). SetsStay w s c y.parts) (sym g.2)
     (λ q l. ap (λ (sets : List FactSet). get_or sets (index_of (length w.places) s q) no_facts) (lifted_sets (same_cell (word_at c.cells g.0.place.0) g.0.cell) c g.0.place.0 (original_under w g.0.place.0 g.0.cell)))
@@ -371,7 +372,7 @@ sets_step w s c (Lift t) x is pos h clear =
     lifted_sets false P p y = refl
 sets_step w s c (Do t) x is pos h clear =
     let u : TaskPart = part_of c t.0 in
-    let at = exists_by (nat_lt t.0 (length c.tasks)) (do_step w c t.0 u) x h in
+    let at = exists_by (nat_lt t.0 (length c.tasks)) (option_map (done_by c t.0) (task_done w t.0 u u.stage)) x h in
     let v = got TaskPart (done_by c t.0) (task_done w t.0 u u.stage) x at.1 in
     subst (λ (y : Stepped). SetsStay w s c y.parts) (sym v.2) (λ q l. refl)
 sets_step w s c (Plant n p) x is pos h clear = elim (plant_cases w c n.0 p.0 x h) [
@@ -389,12 +390,12 @@ pub record Quiet (w : World) (c : Parts) (s : ℕ) : Type 0 where
   pub over : AreOver w s c
   pub clear : (t : ℕ) → t < length c.tasks → Clear s (part_of c t).stage
 
-none_of : (s : ℕ) (tasks : List TaskPart) (t : ℕ) → any_unmarked s tasks ≡ false → t < length tasks → Clear s (get_or tasks t no_part).stage
-none_of s tasks t h lt = by (has_unmarked s (get_or tasks t no_part).stage) refl
+none_of : (s : ℕ) (tasks : List TaskPart) (t : ℕ) → any_unmarked s tasks ≡ false → t < length tasks → Clear s (get_or tasks t (first_part no_task)).stage
+none_of s tasks t h lt = by (has_unmarked s (get_or tasks t (first_part no_task)).stage) refl
   where
-    by : (b : Bool) → has_unmarked s (get_or tasks t no_part).stage ≡ b → Clear s (get_or tasks t no_part).stage
+    by : (b : Bool) → has_unmarked s (get_or tasks t (first_part no_task)).stage ≡ b → Clear s (get_or tasks t (first_part no_task)).stage
     by false e = e
-    by true e = let no : false ≡ true = sym h ∙ any_shown (λ (u : TaskPart). has_unmarked s u.stage) tasks no_part t lt e in absurd cc
+    by true e = let no : false ≡ true = sym h ∙ any_shown (λ (u : TaskPart). has_unmarked s u.stage) tasks (first_part no_task) t lt e in absurd cc
 
 pub quiet_is : (w : World) (c : Parts) (s : ℕ) → is_quiet w c s ≡ true → Quiet w c s
 quiet_is w c s h =
@@ -409,7 +410,7 @@ pub is_quiet_by : (w : World) (c : Parts) (s : ℕ) → Quiet w c s → is_quiet
 is_quiet_by w c s is =
     let closed : is_closed (plan_in w) (λ p. (word_at c.cells p).tag) s ≡ true = closed_of_places (plan_in w) (λ p. (word_at c.cells p).tag) s is.over in
     let none : any_unmarked s c.tasks ≡ false = list_any_none (λ (u : TaskPart). has_unmarked s u.stage) c.tasks
-    (λ t d lt. subst (λ (u : TaskPart). has_unmarked s u.stage ≡ false) (get_or_default c.tasks t no_part d lt) (is.clear t lt)) in
+    (λ t d lt. subst (λ (u : TaskPart). has_unmarked s u.stage ≡ false) (get_or_default c.tasks t (first_part no_task) d lt) (is.clear t lt)) in
     and_both (is_some (controller_of w s)) _ is.controlled (and_both (is_closed (plan_in w) (λ p. (word_at c.cells p).tag) s) _ closed (ap not none))
 
 -- an event that is possible keeps it, and the session's sets

@@ -7,12 +7,13 @@ use Rattle.std.proofs.lemmas.List.{length-set}
 use Rattle.cov_base.specs.Meaning.{FactSet, with_fact, is_full}
 use Rattle.cov_base.specs.declared.facts.Fact.{Fact}
 use Rattle.module_area.specs.Meaning.{word_at, tag_session, PlanView, kind_at, is_over}
-use Rattle.module_area.specs.MeaningOfRule.{planted, Held, window_tag, is_breakpoint, fetching}
+use Rattle.module_area.specs.Rule.{planted, Held, window_tag, is_breakpoint, fetching}
 use Rattle.module_area.specs.declared.cells.Cell.{Cell}
 use Rattle.module_area.specs.declared.parties.Role.TheVariants.{Root, Task}
 use Rattle.module_area.specs.declared.parties.View.{View}
-use Rattle.interleave_core.specs.Meaning.{World, TaskPart, Parts, part_of, plan_in, no_part, same_due, in_hand, set_of, fact_in}
-use Rattle.interleave_core.specs.MeaningOfLogs.{CoreState, log_after, Entry, Item, Met, Gave, with_mark, with_lift, task_view, task_views}
+use Rattle.session_book.specs.Meaning.{no_task}
+use Rattle.interleave_core.specs.Meaning.{World, TaskPart, Parts, part_of, plan_in, first_part, same_due, in_hand, set_of, fact_in}
+use Rattle.interleave_core.specs.CoreState.{CoreState, log_after, Entry, Item, Met, Gave, with_mark, with_lift, task_view, task_views}
 use Rattle.interleave_core.specs.declared.events.Shown.{Shown}
 use Rattle.interleave_core.specs.declared.stage.Hand.{Hand}
 use Rattle.interleave_core.specs.declared.stage.Due.{Due}
@@ -132,7 +133,7 @@ logs_after w c d t shown s = if nat_eq t s then log_after w s (part_of d s) show
 
 own_log : (w : World) (c : CoreState) (d : Parts) (t : ℕ) (u : TaskPart) (shown : Shown) → d.tasks ≡ set c.parts.tasks t u → t < length c.parts.tasks → log_after w t u shown (c.logs t) ≡ logs_after w c d t shown t
 own_log w c d t u shown e lt =
-    let part : part_of d t ≡ u = ap (λ (x : List TaskPart). get_or x t no_part) e ∙ get_or-set_at c.parts.tasks t t u no_part refl lt in
+    let part : part_of d t ≡ u = ap (λ (x : List TaskPart). get_or x t (first_part no_task)) e ∙ get_or-set_at c.parts.tasks t t u (first_part no_task) refl lt in
     ap (λ (x : TaskPart). log_after w t x shown (c.logs t)) (sym part) ∙ ap (λ (b : Bool). if b then log_after w t (part_of d t) shown (c.logs t) else c.logs t) (sym (itself t))
 
 other_log : (w : World) (c : CoreState) (d : Parts) (t : ℕ) (shown : Shown) (s : ℕ) → s ≢ t → logs_after w c d t shown s ≡ c.logs s

@@ -1,11 +1,11 @@
 -- The rule of an area holds of a core after every list of events.
-use Rattle.std.proofs.Common.{◌≡◌, ◌≢◌, ◌⊎◌, inl, inr, ℕ, zero, suc, ◌+◌, ◌*◌, ◌<◌, ◌≤◌, Bool, true, false, not, ◌&&◌, nat_lt, nat_eq, if◌then◌else◌, Option, Some, None, is_none, List, [], ◌∷◌, ◌++◌, length, get_or, set, replicate, refl, sym, ◌∙◌, ap, subst, arith, eqb-true}
+use Rattle.std.proofs.Common.{◌≡◌, ◌≢◌, ◌⊎◌, inl, inr, ℕ, zero, suc, ◌+◌, ◌*◌, ◌<◌, ◌≤◌, Bool, true, false, not, ◌&&◌, nat_lt, nat_eq, if◌then◌else◌, Option, Some, None, is_none, List, [], ◌∷◌, ◌++◌, length, get_or, set, replicate, refl, sym, ◌∙◌, ap, subst, arith, eqb-true, option_map}
 use Rattle.std.proofs.lemmas.Grind.{get_or-set_at}
 use Rattle.std.proofs.lemmas.List.{get_or-map, get_or-set_other, get_or-replicate, length-set, length-map, length-replicate}
 use Rattle.std.proofs.lemmas.Option.{same_Some}
 use Rattle.std.proofs.lemmas.Bool.{and_parts, ltb-true, cases_lt}
 use Rattle.cov_base.specs.Meaning.{breakpoint, FactSet, no_facts, has_fact, with_fact, is_full, fact_of, Visit}
-use Rattle.cov_base.specs.MeaningOfFacts.{is_of_kind}
+use Rattle.cov_base.specs.FactKind.{is_of_kind}
 use Rattle.cov_base.specs.declared.facts.Fact.{Fact}
 use Rattle.cov_base.specs.declared.facts.Fact.TheVariants.{Ran, Went, Stayed}
 use Rattle.cov_base.specs.declared.facts.Kind.{Kind}
@@ -15,7 +15,7 @@ use Rattle.s370_state.specs.declared.endings.Next.{Next}
 use Rattle.s370_state.specs.declared.endings.Next.TheVariants.{On, Ended as NextEnded}
 use Rattle.s370_exec.specs.Meaning.{is_execute, has_returned, visit_of}
 use Rattle.module_area.specs.Meaning.{fresh_word, word_at, no_cell, tag_session, index_of, PlanView, original_at, kind_at, is_over, no_place}
-use Rattle.module_area.specs.MeaningOfRule.{planted, lifted as lifted_cell, IsForm, Held, Has, window_tag, is_breakpoint, blank, fetching, marking, lifting, planting, IsPlan}
+use Rattle.module_area.specs.Rule.{planted, lifted as lifted_cell, IsForm, Held, Has, window_tag, is_breakpoint, blank, fetching, marking, lifting, planting, IsPlan}
 use Rattle.module_area.specs.declared.cells.Cell.{Cell}
 use Rattle.module_area.specs.declared.parties.Role.TheVariants.{Root, Task, Spent}
 use Rattle.module_area.specs.declared.parties.View.{View}
@@ -27,9 +27,9 @@ use Rattle.module_area.proofs.PartyLemmas.{here-add_if}
 use Rattle.module_area.proofs.CellLemmas.{lifts}
 use Rattle.module_area.proofs.StepLemmas.{breakpoint_form, fetches, marks, spent_not_task}
 use Rattle.session_book.specs.Meaning.{no_task}
-use Rattle.interleave_core.specs.Meaning.{World, TaskPart, Parts, part_of, plan_in, place_at, first_parts, first_part, no_part, task_goes_on, Stepped, parts_step, fetch_step, fetched, mark_step, marked, lift_step, lifted, do_step, done_by, with_cell, with_due, with_stage, original_under, same_cell, same_due, in_hand, hand_at, subject_place, step_of, place_due, is_awaiting, is_spent, executed, stage_after, awaits_or, unless_at, instruction_executed, task_done, set_of, fact_in}
+use Rattle.interleave_core.specs.Meaning.{World, TaskPart, Parts, part_of, plan_in, place_at, first_parts, first_part, task_goes_on, Stepped, parts_step, fetched, marked, lifted, done_by, with_cell, with_due, with_stage, original_under, same_cell, same_due, in_hand, hand_at, subject_place, step_of, place_due, is_awaiting, is_spent, executed, stage_after, awaits_or, instruction_executed, task_done, set_of, fact_in}
 use Rattle.interleave_core.specs.World.{IsWorld}
-use Rattle.interleave_core.specs.MeaningOfLogs.{CoreState, core_start, core_step, core_after, core_from, core_run, log_after, entry_of, Entry, Item, Met, task_view, task_views, numbers, first_planter, planted_by, planter_from, KeepRule}
+use Rattle.interleave_core.specs.CoreState.{CoreState, core_start, core_step, core_after, core_from, core_run, log_after, entry_of, Entry, Item, Met, task_view, task_views, numbers, first_planter, planted_by, planter_from, KeepsRule}
 use Rattle.interleave_core.specs.declared.events.Event.{Event}
 use Rattle.interleave_core.specs.declared.events.Event.TheVariants.{Fetch, Mark, Lift, Do, Plant, Close}
 use Rattle.interleave_core.specs.declared.events.Shown.TheVariants.{Fetched, Marked, Lifted, Done}
@@ -272,7 +272,7 @@ awaits_hand w t u log (Some p) h = h
 going_hand : (w : World) (t : ℕ) (u v : TaskPart) (log : List Item) (stage : Stage) → InStage w t u log stage → task_goes_on w t u stage ≡ Some v → InStage w t v log v.stage
 going_hand w t u v log Ready is h = ready (has_returned u.state) (is_spent w t u.state) (place_at w u.state.machine.cpu.ia) h
   where
-    ready : (returned spent : Bool) (at : Option ℕ) → (if returned then Some (with_stage u (Ended Returned)) else (if spent then Some (with_stage u (Ended SpentEnding)) else unless_at (instruction_executed w t u) at)) ≡ Some v → InStage w t v log v.stage
+    ready : (returned spent : Bool) (at : Option ℕ) → (if returned then Some (with_stage u (Ended Returned)) else (if spent then Some (with_stage u (Ended SpentEnding)) else (if is_none at then Some (instruction_executed w t u) else None))) ≡ Some v → InStage w t v log v.stage
     ready true spent at k = subst (λ (x : TaskPart). InStage w t x log x.stage) (same_Some _ v k) is
     ready false true at k = subst (λ (x : TaskPart). InStage w t x log x.stage) (same_Some _ v k) is
     ready false false None k = subst (λ (x : TaskPart). InStage w t x log x.stage) (same_Some _ v k) (awaits_hand w t u log (subject_place w (step_of w t u).visits) is)
@@ -351,7 +351,7 @@ ruled_first w world = record {
       (λ s p f l pos h. no_fact f (subst (λ (x : FactSet). has_fact x f ≡ true) (empty_by (length w.job.sessions * length w.places) (index_of (length w.places) s p) (cases_lt _ _)) h)));
   hands = λ t l.
       let lt : t < length w.job.tasks = subst (λ (n : ℕ). t < n) (length-map w.job.tasks first_part) l in
-      subst (λ (u : TaskPart). InStage w t u [] u.stage) (sym (get_or-map first_part w.job.tasks t no_task no_part lt)) tt;
+      subst (λ (u : TaskPart). InStage w t u [] u.stage) (sym (get_or-map first_part w.job.tasks t no_task (first_part no_task) lt)) tt;
 }
 
 -- ---- each event
@@ -359,22 +359,22 @@ ruled_first w world = record {
 pub ruled_step : (w : World) (c : CoreState) (v : View) (e : Event) (x : Stepped) → IsWorld w → parts_step w c.parts e ≡ Some x → AreTied w c.parts → Ruled w c v → Ruled w (core_after w c e x).core (planted_by w v e)
 ruled_step w c v (Fetch t) x world h tied is =
     let u : TaskPart = part_of c.parts t.0 in
-    let at = exists_by (nat_lt t.0 (length c.parts.tasks)) (fetch_step w c.parts t.0 u) x h in
+    let at = exists_by (nat_lt t.0 (length c.parts.tasks)) (option_map (fetched w c.parts t.0 u) (place_due w t.0 u u.stage)) x h in
     let p = got ℕ (fetched w c.parts t.0 u) (place_due w t.0 u u.stage) x at.1 in
     subst (λ (y : Stepped). Ruled w (core_after w c (Fetch t) y).core v) (sym p.2) (rule_fetch w c v t.0 p.0 world is (ltb-true t.0 (length c.parts.tasks) at.0) p.1)
 ruled_step w c v (Mark t) x world h tied is =
     let u : TaskPart = part_of c.parts t.0 in
-    let at = exists_by (nat_lt t.0 (length c.parts.tasks)) (mark_step w c.parts t.0 u) x h in
+    let at = exists_by (nat_lt t.0 (length c.parts.tasks)) (option_map (marked w c.parts t.0 u) (in_hand Marking u.stage)) x h in
     let p = got Hand (marked w c.parts t.0 u) (in_hand Marking u.stage) x at.1 in
     subst (λ (y : Stepped). Ruled w (core_after w c (Mark t) y).core v) (sym p.2) (rule_mark w c v t.0 p.0 is (ltb-true t.0 (length c.parts.tasks) at.0) p.1)
 ruled_step w c v (Lift t) x world h tied is =
     let u : TaskPart = part_of c.parts t.0 in
-    let at = exists_by (nat_lt t.0 (length c.parts.tasks)) (lift_step w c.parts t.0 u) x h in
+    let at = exists_by (nat_lt t.0 (length c.parts.tasks)) (option_map (lifted w c.parts t.0 u) (in_hand Lifting u.stage)) x h in
     let p = got Hand (lifted w c.parts t.0 u) (in_hand Lifting u.stage) x at.1 in
     subst (λ (y : Stepped). Ruled w (core_after w c (Lift t) y).core v) (sym p.2) (rule_lift w c v t.0 p.0 is (ltb-true t.0 (length c.parts.tasks) at.0) p.1)
 ruled_step w c v (Do t) x world h tied is =
     let u : TaskPart = part_of c.parts t.0 in
-    let at = exists_by (nat_lt t.0 (length c.parts.tasks)) (do_step w c.parts t.0 u) x h in
+    let at = exists_by (nat_lt t.0 (length c.parts.tasks)) (option_map (done_by c.parts t.0) (task_done w t.0 u u.stage)) x h in
     let n = got TaskPart (done_by c.parts t.0) (task_done w t.0 u u.stage) x at.1 in
     subst (λ (y : Stepped). Ruled w (core_after w c (Do t) y).core v) (sym n.2) (rule_do w c v t.0 n.0 is (ltb-true t.0 (length c.parts.tasks) at.0) n.1)
 ruled_step w c v (Plant s p) x world h tied is = elim (plant_cases w c.parts s.0 p.0 x h) [
@@ -402,5 +402,5 @@ ruled_from w d c v (e ∷ events) world tied is h =
 pub run_ruled : (w : World) (c : CoreState) (events : List Event) → IsWorld w → core_run w events ≡ Some c → Ruled w c (planter_from w (first_planter (length w.job.tasks)) events)
 run_ruled w c events world h = ruled_from w (core_start w) c (first_planter (length w.job.tasks)) events world (tied_first w world.is_plan) (ruled_first w world) h
 
-pub run_keeps : (w : World) (c : CoreState) (events : List Event) → IsWorld w → core_run w events ≡ Some c → KeepRule w events c.parts c.logs
+pub run_keeps : (w : World) (c : CoreState) (events : List Event) → IsWorld w → core_run w events ≡ Some c → KeepsRule w events c
 run_keeps w c events world h = (run_ruled w c events world h).held

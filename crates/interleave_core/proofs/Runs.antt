@@ -4,7 +4,7 @@ use Rattle.std.proofs.lemmas.Option.{same_Some}
 use Rattle.std.specs.Option.{option_and_then}
 use Rattle.module_area.specs.declared.cells.Cell.{Cell}
 use Rattle.interleave_core.specs.Meaning.{World, Parts, Stepped, parts_step, run_on, in_hand, same_due, with_cell}
-use Rattle.interleave_core.specs.MeaningOfLogs.{CoreState, CoreStepped, core_step, core_from, go_on}
+use Rattle.interleave_core.specs.CoreState.{CoreState, CoreStepped, core_step, core_from, go_on}
 use Rattle.interleave_core.specs.declared.events.Event.{Event}
 use Rattle.interleave_core.specs.declared.stage.Due.{Due}
 use Rattle.interleave_core.specs.declared.stage.Hand.{Hand}

@@ -8,12 +8,12 @@ use Rattle.cov_base.specs.declared.facts.Kind.TheVariants.{Straight, Conditional
 use Rattle.brk_table.specs.Places.{ArePlaces, IsIn}
 use Rattle.session_book.specs.JobView.{IsJob}
 use Rattle.module_area.specs.Meaning.{index_of, set_in, fresh_word, word_at, no_cell, PlanView, kind_at, no_place}
-use Rattle.module_area.specs.MeaningOfRule.{IsPlan}
+use Rattle.module_area.specs.Rule.{IsPlan}
 use Rattle.module_area.specs.declared.cells.Cell.{Cell}
 use Rattle.session_book.specs.Meaning.{task_of, no_task}
 use Rattle.space_map.specs.Space.{row_of}
 use Rattle.space_map.proofs.SpaceLemmas.{private_filled-as}
-use Rattle.interleave_core.specs.Meaning.{World, TaskPart, Parts, no_part, first_part, first_parts, plan_in, results_of, part_result, in_hand}
+use Rattle.interleave_core.specs.Meaning.{World, TaskPart, Parts, first_part, first_parts, plan_in, results_of, in_hand}
 use Rattle.interleave_core.specs.World.{IsWorld}
 use Rattle.interleave_core.specs.Results.{Fits}
 use Rattle.interleave_core.specs.Views.{RunningView, IsRunning, IsStage, IsHand, IsCore, AreReady, AreSteady, AreTied, parts_of}
@@ -23,16 +23,16 @@ use Rattle.interleave_core.specs.declared.stage.Stage.{Stage}
 use Rattle.interleave_core.proofs.Runs.{in_hand-stage}
 use Rattle.interleave_core.proofs.Tied.{tied_first}
 
-pub part_read : (tasks : List RunningView) (t : ℕ) (r : RunningView) → t < length tasks → r ≡ get_or tasks t r → get_or (parts_of tasks) t no_part ≡ r.part
-part_read tasks t r lt read = get_or-map (λ (x : RunningView). x.part) tasks t r no_part lt ∙ ap (λ (x : RunningView). x.part) (sym read)
+pub part_read : (tasks : List RunningView) (t : ℕ) (r : RunningView) → t < length tasks → r ≡ get_or tasks t r → get_or (parts_of tasks) t (first_part no_task) ≡ r.part
+part_read tasks t r lt read = get_or-map (λ (x : RunningView). x.part) tasks t r (first_part no_task) lt ∙ ap (λ (x : RunningView). x.part) (sym read)
 
-pub result_read : (cells : List Cell) (sets : List FactSet) (tasks : List RunningView) (t : ℕ) (r : RunningView) → t < length tasks → r ≡ get_or tasks t r →
-    results_of (record { cells = cells; sets = sets; tasks = parts_of tasks }) t ≡ part_result r.part
-result_read cells sets tasks t r lt read = ap part_result (part_read tasks t r lt read)
+pub bytes_read : (cells : List Cell) (sets : List FactSet) (tasks : List RunningView) (t : ℕ) (r : RunningView) → t < length tasks → r ≡ get_or tasks t r →
+    (results_of (record { cells = cells; sets = sets; tasks = parts_of tasks }) t).bytes ≡ r.part.state.machine.bytes
+bytes_read cells sets tasks t r lt read = ap (λ (u : TaskPart). u.state.machine.bytes) (part_read tasks t r lt read)
 
 -- a task that was read is where it stands
 pub stage_read : (w : World) (cells : List Cell) (sets : List FactSet) (plan : PlanView) (tasks : List RunningView) (t : ℕ) (r : RunningView) → IsCore w cells sets plan tasks → t < length tasks → r ≡ get_or tasks t r →
-    IsStage w t (get_or (parts_of tasks) t no_part) (get_or (parts_of tasks) t no_part).stage
+    IsStage w t (get_or (parts_of tasks) t (first_part no_task)) (get_or (parts_of tasks) t (first_part no_task)).stage
 stage_read w cells sets plan tasks t r is lt read =
     subst (λ (u : TaskPart). IsStage w t u u.stage) (sym (part_read tasks t r lt read)) (subst (λ (x : RunningView). IsStage w t x.part x.part.stage) (sym read) (is.stages t r lt))
 
@@ -40,7 +40,7 @@ pub exists_read : (tasks : List RunningView) (t : ℕ) → t < length tasks → 
 exists_read tasks t lt = lt-ltb t (length (parts_of tasks)) (subst (λ n. t < n) (sym (length-map tasks (λ (r : RunningView). r.part))) lt)
 
 no_running : RunningView
-no_running = record { part = no_part; space = record { bytes = []; images = []; places = [] }; budget = 0 }
+no_running = record { part = first_part no_task; space = record { bytes = []; images = []; places = [] }; budget = 0 }
 
 bytes_fit : (w : World) (t : ℕ) (r : RunningView) → IsRunning w t r → length r.part.state.machine.bytes ≡ (task_of w.job t).private
 bytes_fit w t r is =
@@ -53,7 +53,7 @@ Fits-core w cells sets plan tasks is = record {
   tasks = length-map tasks (λ (r : RunningView). r.part) ∙ is.count;
   bytes = λ t l.
       let lt : t < length tasks = subst (λ (n : ℕ). t < n) (length-map tasks (λ (r : RunningView). r.part)) l in
-      ap (λ (u : TaskPart). length u.state.machine.bytes) (get_or-map (λ (x : RunningView). x.part) tasks t no_running no_part lt) ∙ bytes_fit w t (get_or tasks t no_running) (is.running t no_running lt);
+      ap (λ (u : TaskPart). length u.state.machine.bytes) (get_or-map (λ (x : RunningView). x.part) tasks t no_running (first_part no_task) lt) ∙ bytes_fit w t (get_or tasks t no_running) (is.running t no_running lt);
   within = is.within;
 }
 
@@ -68,8 +68,8 @@ steady_core w cells sets plan tasks is = record {
   words = is.words;
   hands = λ t h l due.
       let lt : t < length tasks = subst (λ (n : ℕ). t < n) (length-map tasks (λ (r : RunningView). r.part)) l in
-      let part : get_or (parts_of tasks) t no_part ≡ (get_or tasks t no_running).part = get_or-map (λ (x : RunningView). x.part) tasks t no_running no_part lt in
-      hand_held w t (get_or (parts_of tasks) t no_part) (get_or (parts_of tasks) t no_part).stage h (subst (λ (u : TaskPart). IsStage w t u u.stage) (sym part) (is.stages t no_running lt)) due;
+      let part : get_or (parts_of tasks) t (first_part no_task) ≡ (get_or tasks t no_running).part = get_or-map (λ (x : RunningView). x.part) tasks t no_running (first_part no_task) lt in
+      hand_held w t (get_or (parts_of tasks) t (first_part no_task)) (get_or (parts_of tasks) t (first_part no_task)).stage h (subst (λ (u : TaskPart). IsStage w t u u.stage) (sym part) (is.stages t no_running lt)) due;
   tied = is.tied;
 }
 
@@ -110,12 +110,12 @@ AreReady-push w n tasks more r are e runs part = subst (λ (xs : List RunningVie
     at_end t d same = get_or_push tasks r d t (sym same)
 
 pub ready_parts : (w : World) (tasks : List RunningView) → AreReady w (length w.job.tasks) tasks → parts_of tasks ≡ map first_part w.job.tasks
-ready_parts w tasks are = ext_get_or no_part (parts_of tasks) (map first_part w.job.tasks)
+ready_parts w tasks are = ext_get_or (first_part no_task) (parts_of tasks) (map first_part w.job.tasks)
     (length-map tasks (λ (r : RunningView). r.part) ∙ (are.count ∙ sym (length-map w.job.tasks first_part)))
     (λ t l.
     let lt : t < length tasks = subst (λ (n : ℕ). t < n) (length-map tasks (λ (r : RunningView). r.part)) l in
-    get_or-map (λ (x : RunningView). x.part) tasks t no_running no_part lt
-    ∙ (are.parts t no_running lt ∙ sym (get_or-map first_part w.job.tasks t no_task no_part (subst (λ (n : ℕ). t < n) are.count lt))))
+    get_or-map (λ (x : RunningView). x.part) tasks t no_running (first_part no_task) lt
+    ∙ (are.parts t no_running lt ∙ sym (get_or-map first_part w.job.tasks t no_task (first_part no_task) (subst (λ (n : ℕ). t < n) are.count lt))))
 
 pub parts_are : (w : World) (cells : List Cell) (sets : List FactSet) (tasks : List RunningView) → cells ≡ map fresh_word w.places → sets ≡ replicate (length w.job.sessions * length w.places) no_facts →
     AreReady w (length w.job.tasks) tasks → ◌≡◌ {A = Parts} (record { cells = cells; sets = sets; tasks = parts_of tasks }) (first_parts w)

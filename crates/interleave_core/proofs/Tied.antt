@@ -6,14 +6,14 @@ use Rattle.std.proofs.lemmas.List.{get_or-map, get_or-set_other, length-set, len
 use Rattle.std.proofs.lemmas.Bool.{lt-ltb, le-leb, leb-true, ltb-true}
 use Rattle.cov_base.specs.declared.numbers.PlaceNo.{PlaceNo}
 use Rattle.module_area.specs.Meaning.{word_at, no_cell, ControlledView, window_at, fresh_word, tag_session, kind_at}
-use Rattle.module_area.specs.MeaningOfRule.{IsPlan, is_controller}
+use Rattle.module_area.specs.Rule.{IsPlan, is_controller}
 use Rattle.module_area.specs.declared.cells.Cell.{Cell}
 use Rattle.module_area.proofs.PlanLemmas.{one_controller}
 use Rattle.module_area.specs.declared.places.Place.{Place}
 use Rattle.module_area.proofs.Indices.{and_left}
 use Rattle.cov_base.specs.Meaning.{FactSet, with_fact, is_full, State}
 use Rattle.session_book.specs.Meaning.{task_of, no_task}
-use Rattle.interleave_core.specs.Meaning.{World, TaskPart, Parts, part_of, no_part, plan_in, first_part, first_parts, Change, PlaceChange, place_change, sessions_by, change_of, next_place, after_change, Stepped, parts_step, fetch_step, fetched, mark_step, marked, lift_step, lifted, do_step, done_by, task_done, may_plant, breakpoint_of, closed_of, changed_cell, changed, change_due, with_cell, with_due, original_under, same_cell, in_hand, hand_at, step_of, place_due, is_awaiting, stage_after, set_of, fact_in}
+use Rattle.interleave_core.specs.Meaning.{World, TaskPart, Parts, part_of, first_part, plan_in, first_parts, Change, PlaceChange, place_change, sessions_by, change_of, next_place, after_change, Stepped, parts_step, fetched, marked, lifted, done_by, task_done, may_plant, breakpoint_of, closed_of, changed_cell, changed, change_due, with_cell, with_due, original_under, same_cell, in_hand, hand_at, step_of, place_due, is_awaiting, stage_after, set_of, fact_in}
 use Rattle.interleave_core.specs.declared.events.Event.{Event}
 use Rattle.interleave_core.specs.declared.events.Event.TheVariants.{Fetch, Mark, Lift, Do, Plant, Close}
 use Rattle.interleave_core.specs.declared.stage.Due.{Due}
@@ -200,10 +200,10 @@ tied_done w cells t u v stage h is = elim (is_done w t u v stage h) [
 all_but : (w : World) (c d : Parts) (t : ℕ) (u : TaskPart) → d.tasks ≡ set c.tasks t u → t < length c.tasks → IsTied w d.cells t u → ((s : ℕ) → s < length c.tasks → s ≢ t → IsTied w d.cells s (part_of c s)) → AreTied w d
 all_but w c d t u e lt one all s l =
     let inside : s < length c.tasks = subst (λ (n : ℕ). s < n) (ap (λ (x : List TaskPart). length x) e ∙ length-set c.tasks t u) l in
-    let there : part_of d s ≡ get_or (set c.tasks t u) s no_part = ap (λ (x : List TaskPart). get_or x s no_part) e in
+    let there : part_of d s ≡ get_or (set c.tasks t u) s (first_part no_task) = ap (λ (x : List TaskPart). get_or x s (first_part no_task)) e in
     elim (same_or s t) [
-      | inl same ↦ subst (IsTied w d.cells s) (sym (there ∙ get_or-set_at c.tasks t s u no_part same lt)) (subst (λ (n : ℕ). IsTied w d.cells n u) (sym same) one)
-      | inr other ↦ subst (IsTied w d.cells s) (sym (there ∙ get_or-set_other c.tasks t s u no_part other)) (all s inside other)
+      | inl same ↦ subst (IsTied w d.cells s) (sym (there ∙ get_or-set_at c.tasks t s u (first_part no_task) same lt)) (subst (λ (n : ℕ). IsTied w d.cells n u) (sym same) one)
+      | inr other ↦ subst (IsTied w d.cells s) (sym (there ∙ get_or-set_other c.tasks t s u (first_part no_task) other)) (all s inside other)
     ]
 
 -- a change by the controller
@@ -258,14 +258,14 @@ tied_whole w c s p plan may all t lt =
 pub tied_step : (w : World) (c : Parts) (e : Event) (x : Stepped) → IsPlan (plan_in w) → length c.cells ≡ length w.places → parts_step w c e ≡ Some x → AreTied w c → AreTied w x.parts
 tied_step w c (Fetch t) x plan size h all =
     let u : TaskPart = part_of c t.0 in
-    let at = exists_by (nat_lt t.0 (length c.tasks)) (fetch_step w c t.0 u) x h in
+    let at = exists_by (nat_lt t.0 (length c.tasks)) (option_map (fetched w c t.0 u) (place_due w t.0 u u.stage)) x h in
     let lt : t.0 < length c.tasks = ltb-true t.0 (length c.tasks) at.0 in
     let p = got ℕ (fetched w c t.0 u) (place_due w t.0 u u.stage) x at.1 in
     subst (λ (y : Stepped). AreTied w y.parts) (sym p.2)
     (all_but w c (fetched w c t.0 u p.0).parts t.0 _ refl lt (tied_stage w c.cells t.0 u u.state (Holding (hand_at w c (is_awaiting u.stage) p.0)) (all t.0 lt)) (λ s l apart. all s l))
 tied_step w c (Mark t) x plan size h all =
     let u : TaskPart = part_of c t.0 in
-    let at = exists_by (nat_lt t.0 (length c.tasks)) (mark_step w c t.0 u) x h in
+    let at = exists_by (nat_lt t.0 (length c.tasks)) (option_map (marked w c t.0 u) (in_hand Marking u.stage)) x h in
     let lt : t.0 < length c.tasks = ltb-true t.0 (length c.tasks) at.0 in
     let g = got Hand (marked w c t.0 u) (in_hand Marking u.stage) x at.1 in
     let found : FactSet = set_of w c (tag_session g.0.cell.tag) g.0.place.0 in
@@ -274,12 +274,12 @@ tied_step w c (Mark t) x plan size h all =
     (all_but w c (marked w c t.0 u g.0).parts t.0 (with_due u g.0 due) refl lt (tied_stage w c.cells t.0 u u.state (Holding (record g.0 { due = due })) (all t.0 lt)) (λ s l apart. all s l))
 tied_step w c (Lift t) x plan size h all =
     let u : TaskPart = part_of c t.0 in
-    let at = exists_by (nat_lt t.0 (length c.tasks)) (lift_step w c t.0 u) x h in
+    let at = exists_by (nat_lt t.0 (length c.tasks)) (option_map (lifted w c t.0 u) (in_hand Lifting u.stage)) x h in
     let g = got Hand (lifted w c t.0 u) (in_hand Lifting u.stage) x at.1 in
     subst (λ (y : Stepped). AreTied w y.parts) (sym g.2) (tied_lifted w c t.0 g.0 plan size (ltb-true t.0 (length c.tasks) at.0) all)
 tied_step w c (Do t) x plan size h all =
     let u : TaskPart = part_of c t.0 in
-    let at = exists_by (nat_lt t.0 (length c.tasks)) (do_step w c t.0 u) x h in
+    let at = exists_by (nat_lt t.0 (length c.tasks)) (option_map (done_by c t.0) (task_done w t.0 u u.stage)) x h in
     let lt : t.0 < length c.tasks = ltb-true t.0 (length c.tasks) at.0 in
     let v = got TaskPart (done_by c t.0) (task_done w t.0 u u.stage) x at.1 in
     subst (λ (y : Stepped). AreTied w y.parts) (sym v.2) (all_but w c (done_by c t.0 v.0).parts t.0 v.0 refl lt (tied_done w c.cells t.0 u v.0 u.stage v.1 (all t.0 lt)) (λ s l apart. all s l))
@@ -313,4 +313,4 @@ tied_part w t u plan opened shut changed = record {
 pub tied_first : (w : World) → IsPlan (plan_in w) → AreTied w (first_parts w)
 tied_first w plan t l =
     let lt : t < length w.job.tasks = subst (λ (n : ℕ). t < n) (length-map w.job.tasks first_part) l in
-    subst (IsTied w (map fresh_word w.places) t) (sym (get_or-map first_part w.job.tasks t no_task no_part lt)) (tied_part w t (first_part (task_of w.job t)) plan refl refl refl)
+    subst (IsTied w (map fresh_word w.places) t) (sym (get_or-map first_part w.job.tasks t no_task (first_part no_task) lt)) (tied_part w t (first_part (task_of w.job t)) plan refl refl refl)

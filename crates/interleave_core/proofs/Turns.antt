@@ -7,14 +7,14 @@ use Rattle.std.proofs.lemmas.Option.{same_Some}
 use Rattle.std.proofs.lemmas.Bool.{and_from, cases_lt, ne_eqb}
 use Rattle.cov_base.specs.declared.numbers.PlaceNo.{PlaceNo}
 use Rattle.module_area.specs.Meaning.{word_at, ControlledView, has_place, is_controlled, window_at}
-use Rattle.module_area.specs.MeaningOfRule.{IsPlan, IsControlled, AreApart, is_controller}
+use Rattle.module_area.specs.Rule.{IsPlan, IsControlled, AreApart, is_controller}
 use Rattle.module_area.specs.declared.cells.Cell.{Cell}
 use Rattle.module_area.proofs.PlanLemmas.{any_shown}
 use Rattle.s370_exec.specs.Meaning.{call_of}
 use Rattle.interleave_core.proofs.ControlLemmas.{few_places}
-use Rattle.interleave_core.specs.Meaning.{World, TaskPart, plan_in, memory_in, controller_from, controller_of, Change, change, PlaceChange, place_change, controlled_by, sessions_by, asked, change_of, next_place, executes, change_due}
+use Rattle.interleave_core.specs.Meaning.{World, TaskPart, plan_in, memory_in, controller_from, controller_of, Change, change, PlaceChange, place_change, sessions_by, asked, change_of, next_place, executes, change_due}
 use Rattle.interleave_core.specs.declared.stage.Stage.{Stage}
-use Rattle.interleave_core.specs.Views.{no_controlled, session_at, turn_number, turn_of, has_window, number_at, tag_at, IsTied}
+use Rattle.interleave_core.specs.Views.{no_controlled, session_at, turn_number, turn_of, has_window, number_at, tag_at, IsTied, controlled_by}
 
 -- ---- a task's sessions
 

@@ -1,5 +1,5 @@
 -- The sets are those of whole sessions where their windows were planted before any other event.
-use Rattle.std.proofs.Common.{◌≡◌, ◌≢◌, ◌⊎◌, inl, inr, ℕ, zero, suc, ◌+◌, ◌*◌, ◌-◌, ◌<◌, Bool, true, false, ◌&&◌, ◌||◌, ◌==◌, nat_lt, nat_eq, if◌then◌else◌, Option, Some, None, List, [], ◌∷◌, ◌++◌, length, get_or, set, refl, sym, ◌∙◌, ap, subst, arith, eqb-true, eq-eqb}
+use Rattle.std.proofs.Common.{◌≡◌, ◌≢◌, ◌⊎◌, inl, inr, ℕ, zero, suc, ◌+◌, ◌*◌, ◌-◌, ◌<◌, Bool, true, false, ◌&&◌, ◌||◌, ◌==◌, nat_lt, nat_eq, if◌then◌else◌, Option, Some, None, List, [], ◌∷◌, ◌++◌, length, get_or, set, refl, sym, ◌∙◌, ap, subst, arith, eqb-true, eq-eqb, Contains, option_map}
 use Rattle.std.proofs.lemmas.Bool.Decides.{nat_tests}
 use Rattle.std.proofs.lemmas.Grind.{get_or-set_at}
 use Rattle.std.proofs.lemmas.List.{get_or-set_other, get_or-map, append-nil}
@@ -13,7 +13,7 @@ use Rattle.cov_base.specs.declared.facts.Fact.TheVariants.{Ran, Went, Stayed}
 use Rattle.s370_state.specs.declared.endings.Ending.{Ending}
 use Rattle.s370_exec.specs.Meaning.{Run}
 use Rattle.module_area.specs.Meaning.{executes, facts_at, facts_of_all, tag_session, word_at, no_cell, kind_at, window_at, place_of, no_place}
-use Rattle.module_area.specs.MeaningOfRule.{Has, window_tag}
+use Rattle.module_area.specs.Rule.{Has, window_tag}
 use Rattle.module_area.specs.declared.cells.Cell.{Cell}
 use Rattle.module_area.specs.declared.parties.View.{View}
 use Rattle.module_area.specs.declared.places.Place.{Place}
@@ -21,11 +21,12 @@ use Rattle.module_area.proofs.FactLemmas.{has_fact-with_fact, same_fact-true}
 use Rattle.module_area.proofs.Indices.{same_tests}
 use Rattle.module_area.proofs.PartyLemmas.{has-append, left-append, right-append}
 use Rattle.module_area.proofs.StepLemmas.{or_cases, or_left, or_right, same_fact-same}
-use Rattle.session_book.specs.Meaning.{SessionView, TaskView, session_of, no_session, no_task, is_whole, observes, window_from, window_of, traces_from}
+use Rattle.session_book.specs.Meaning.{SessionView, TaskView, session_of, no_session, no_task, is_whole, observes, window_from, window_of, traces_from, session_set}
 use Rattle.brk_table.proofs.PlaceLemmas.{one_begins}
-use Rattle.interleave_core.specs.Meaning.{World, TaskPart, Parts, part_of, plan_in, place_at, Stepped, parts_step, fetch_step, fetched, mark_step, marked, lift_step, lifted, do_step, done_by, may_plant, breakpoint_of, with_cell, with_due, with_stage, original_under, same_cell, in_hand, hand_at, step_of, place_due, is_awaiting, task_done, set_of, fact_in}
+use Rattle.interleave_core.specs.Meaning.{World, TaskPart, Parts, part_of, budget_in, plan_in, place_at, Stepped, parts_step, fetched, marked, lifted, done_by, may_plant, breakpoint_of, with_cell, with_due, with_stage, original_under, same_cell, in_hand, hand_at, step_of, place_due, is_awaiting, task_done, set_of, fact_in}
 use Rattle.interleave_core.specs.World.{IsWorld}
-use Rattle.interleave_core.specs.MeaningOfLogs.{alone, IsAlone, CoreState, core_start, core_step, core_after, core_from, core_run, log_after, Item, Met, Gave, HasShown, Noted, note, noted, fact_at, logged, visits_in_hand, HasLog, planted_by, planter_from, first_planter, planted_first, ArePlantedFirst, trace_in, AreWhole}
+use Rattle.interleave_core.specs.CoreState.{CoreState, core_start, core_step, core_after, core_from, core_run, log_after, Item, Met, Gave, planted_by, planter_from, first_planter}
+use Rattle.interleave_core.specs.MeaningOfEvents.{alone, IsAlone, Noted, note, noted, fact_at, visits_in_hand, HaveEnded, planted_first}
 use Rattle.interleave_core.specs.declared.events.Event.{Event}
 use Rattle.interleave_core.specs.declared.events.Event.TheVariants.{Fetch, Mark, Lift, Do, Plant, Close}
 use Rattle.interleave_core.specs.declared.events.Shown.TheVariants.{Fetched, Marked, Lifted, Done}
@@ -35,14 +36,21 @@ use Rattle.interleave_core.specs.declared.stage.Stage.{Stage}
 use Rattle.interleave_core.specs.declared.stage.Stage.TheVariants.{Holding, Ended}
 use Rattle.interleave_core.proofs.Alone.{run_alone}
 use Rattle.interleave_core.proofs.Changes.{may_by, IsWholePlant, Changed, plant_cases, close_by, logs_whole, logs_plant, logs_close}
-use Rattle.interleave_core.proofs.Exact.{Sound, sound_step, sound_first, run_sound, exact_into, exact_from}
+use Rattle.interleave_core.proofs.Exact.{HasShown, Sound, sound_step, sound_first, run_sound, exact_into, exact_from}
 use Rattle.interleave_core.proofs.Finds.{there}
-use Rattle.interleave_core.proofs.Logs.{found_at, one_log, changed_log, got_step, run_logs}
+use Rattle.interleave_core.proofs.Logs.{logged, HasLog, found_at, one_log, changed_log, got_step, run_logs}
 use Rattle.interleave_core.proofs.Given.{its, cell_other}
 use Rattle.interleave_core.proofs.Ruled.{fetch_due, same_cells}
 use Rattle.interleave_core.proofs.Runs.{same_or, got, lifted_tasks, exists_by, through}
 
 -- ---- the tags
+
+-- the trace of task t's whole run alone
+abbrev trace_in : World → ℕ → List Visit
+trace_in w t = (alone w t (budget_in w t)).trace
+
+abbrev ArePlantedFirst : World → List Event → Type 0
+ArePlantedFirst w events = (p : ℕ) → p < length w.places → 0 < window_at (plan_in w) p → Has p (planted_first events)
 
 -- each window is open
 abbrev Up : World → Parts → Type 0
@@ -113,7 +121,7 @@ plant_entered w c s p x by all = changed_log w (λ n y log. Entered w log) c fal
 open_step : (w : World) (c : CoreState) (v : View) (e : Event) (x : Stepped) → IsWorld w → parts_step w c.parts e ≡ Some x → Sound w c v → Up w c.parts → AllEntered w c → Up w x.parts × AllEntered w (core_after w c e x).core
 open_step w c v (Fetch t) x world h is up all =
     let u : TaskPart = part_of c.parts t.0 in
-    let at = exists_by (nat_lt t.0 (length c.parts.tasks)) (fetch_step w c.parts t.0 u) x h in
+    let at = exists_by (nat_lt t.0 (length c.parts.tasks)) (option_map (fetched w c.parts t.0 u) (place_due w t.0 u u.stage)) x h in
     let lt : t.0 < length c.parts.tasks = ltb-true t.0 (length c.parts.tasks) at.0 in
     let p = got ℕ (fetched w c.parts t.0 u) (place_due w t.0 u u.stage) x at.1 in
     let in_job : t.0 < length w.job.tasks = subst (λ (n : ℕ). t.0 < n) is.ruled.count lt in
@@ -125,7 +133,7 @@ open_step w c v (Fetch t) x world h is up all =
     )
 open_step w c v (Mark t) x world h is up all =
     let u : TaskPart = part_of c.parts t.0 in
-    let at = exists_by (nat_lt t.0 (length c.parts.tasks)) (mark_step w c.parts t.0 u) x h in
+    let at = exists_by (nat_lt t.0 (length c.parts.tasks)) (option_map (marked w c.parts t.0 u) (in_hand Marking u.stage)) x h in
     let lt : t.0 < length c.parts.tasks = ltb-true t.0 (length c.parts.tasks) at.0 in
     let p = got Hand (marked w c.parts t.0 u) (in_hand Marking u.stage) x at.1 in
     let found : FactSet = set_of w c.parts (tag_session p.0.cell.tag) p.0.place.0 in
@@ -134,7 +142,7 @@ open_step w c v (Mark t) x world h is up all =
     (up, one_log w (λ n y log. Entered w log) c (marked w c.parts t.0 u p.0).parts t.0 u2 (Marked found) refl lt (log_kept_mark w t.0 u2 found (c.logs t.0) (all t.0 lt)) all)
 open_step w c v (Lift t) x world h is up all =
     let u : TaskPart = part_of c.parts t.0 in
-    let at = exists_by (nat_lt t.0 (length c.parts.tasks)) (lift_step w c.parts t.0 u) x h in
+    let at = exists_by (nat_lt t.0 (length c.parts.tasks)) (option_map (lifted w c.parts t.0 u) (in_hand Lifting u.stage)) x h in
     let lt : t.0 < length c.parts.tasks = ltb-true t.0 (length c.parts.tasks) at.0 in
     let p = got Hand (lifted w c.parts t.0 u) (in_hand Lifting u.stage) x at.1 in
     let taken : Bool = same_cell (word_at c.parts.cells p.0.place.0) p.0.cell in
@@ -143,7 +151,7 @@ open_step w c v (Lift t) x world h is up all =
     (up_lift w c.parts p.0 taken refl is.ruled.cells up, one_log w (λ n y log. Entered w log) c (lifted w c.parts t.0 u p.0).parts t.0 (with_due u p.0 Nothing) (Lifted taken) tasks lt (log_kept_lift w t.0 (with_due u p.0 Nothing) taken (c.logs t.0) (all t.0 lt)) all)
 open_step w c v (Do t) x world h is up all =
     let u : TaskPart = part_of c.parts t.0 in
-    let at = exists_by (nat_lt t.0 (length c.parts.tasks)) (do_step w c.parts t.0 u) x h in
+    let at = exists_by (nat_lt t.0 (length c.parts.tasks)) (option_map (done_by c.parts t.0) (task_done w t.0 u u.stage)) x h in
     let lt : t.0 < length c.parts.tasks = ltb-true t.0 (length c.parts.tasks) at.0 in
     let n = got TaskPart (done_by c.parts t.0) (task_done w t.0 u u.stage) x at.1 in
     subst (λ (y : Stepped). Up w y.parts × AllEntered w (core_after w c (Do t) y).core) (sym n.2)
@@ -390,7 +398,8 @@ ended_log w t u log e at run has =
     has ∙ (ap (λ (V : List Visit). noted w ((alone w t u.state.done).trace ++ V)) hand ∙ (ap (noted w) (append-nil (alone w t u.state.done).trace) ∙ ap (noted w) (sym trace)))
 
 -- after every list of events
-pub run_whole : (w : World) (c : CoreState) (events : List Event) → IsWorld w → core_run w events ≡ Some c → AreWhole w events c.parts
+pub run_whole : (w : World) (c : CoreState) (events : List Event) → IsWorld w → core_run w events ≡ Some c → HaveEnded c.parts → ArePlantedFirst w events → (p : ℕ) → p < length w.places → 0 < window_at (plan_in w) p →
+    set_of w c.parts (window_at (plan_in w) p) p ≡ session_set w.job (trace_in w) (window_at (plan_in w) p) (place_of w.places p)
 run_whole w c events world h ended first p lt pos =
     let is : Sound w c (planter_from w (first_planter (length w.job.tasks)) events) = run_sound w c events world h in
     let v : View = planter_from w (first_planter (length w.job.tasks)) events in
@@ -411,3 +420,11 @@ run_whole w c events world h ended first p lt pos =
     exact_from w c v is ended s p f pos lt t.0 there
     (noted_shown w p f (c.logs t.0) pos (entered t.0 there) (subst (λ (ns : List Noted). Has (noted_one p f) ns) (sym (logs t.0 there)) (facts_noted w p f (trace_in w t.0) world lt t.2))))) in
     sets ∙ ap (λ (n : ℕ). facts_of_all place (traces_from 0 w.job.tasks n (trace_in w))) (sym (session_phase w p world lt pos))
+
+contains_has : (xs : List ℕ) (p : ℕ) → Contains xs p → Has p xs
+contains_has [] p h = absurd (let lt = h.1 in omega arith)
+contains_has (x ∷ xs) p (zero, lt, e) = inl e
+contains_has (x ∷ xs) p (suc k, lt, e) = inr (contains_has xs p (k, omega arith, e))
+
+pub are_first : (w : World) (events : List Event) → ((p : ℕ) → p < length w.places → 0 < window_at (plan_in w) p → Contains (planted_first events) p) → ArePlantedFirst w events
+are_first w events h = λ p lt pos. contains_has (planted_first events) p (h p lt pos)

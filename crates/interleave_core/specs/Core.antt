@@ -1,6 +1,7 @@
 -- The core: what it stores and each task's log, its deterministic step, and its run by a list of events.
 use Rattle.std.specs.Prelude.{◌≡◌, Some, None, List, [], ◌∷◌, ◌++◌}
-use Rattle.interleave_core.specs.MeaningOfLogs.{CoreState, core_step, core_run, Stands}
+use Rattle.interleave_core.specs.CoreState.{CoreState, core_step, core_run, KeepsRule}
+use Rattle.interleave_core.specs.MeaningOfEvents.{Stands}
 use Rattle.interleave_core.specs.Meaning.{World, Parts}
 use Rattle.interleave_core.specs.declared.events.Event.{Event}
 use Rattle.interleave_core.specs.declared.events.Shown.{Shown}
@@ -11,7 +12,8 @@ pub record Follows (w : World) (events : List Event) (e : Event) (c : CoreState)
   pub step : core_step w c e ≡ Some (record { core = after; shown = shown })
   pub run : core_run w (events ++ e ∷ []) ≡ Some after
   pub stored : after.parts ≡ parts
-  pub stands : Stands w (events ++ e ∷ []) after
+  pub stands : Stands w (events ++ e ∷ []) after.parts
+  pub rule : KeepsRule w (events ++ e ∷ []) after
 
 -- after each list of events that leaves the parts stored so, the event is possible, shows this, and leaves these parts
 abbrev pub FollowsAll : World → Parts → Event → Parts → Shown → Type 0

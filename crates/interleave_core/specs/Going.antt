@@ -2,7 +2,7 @@
 use Rattle.std.specs.Prelude.{◌≡◌, true, false, Some, is_none, All}
 use Rattle.cov_base.specs.declared.numbers.TaskNo.{TaskNo}
 use Rattle.interleave_core.specs.Meaning.{World, Parts, run_on, next_of, all_events}
-use Rattle.interleave_core.specs.MeaningOfLogs.{is_by}
+use Rattle.interleave_core.specs.CoreState.{is_by}
 use Rattle.interleave_core.specs.Results.{IsOver}
 
 -- The task had a next event. All that it makes until it has ended are its own, and possible one after the other, and it

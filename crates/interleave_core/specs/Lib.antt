@@ -1,7 +1,8 @@
 pub mod Core
+pub mod CoreState
 pub mod Going
 pub mod Meaning
-pub mod MeaningOfLogs
+pub mod MeaningOfEvents
 pub mod Quiet
 pub mod Results
 pub mod Sample

@@ -1,5 +1,6 @@
 -- What the claim of the program says by this crate's clauses.
-use Rattle.std.specs.Prelude.{ℕ, ◌+◌, ◌*◌, ◌==◌, Bool, false, if◌then◌else◌, Option, Some, None, List, [], ◌∷◌, length, get_or, map, replicate, ◌-◌, true, nat_eq, option_map, option_and_then, slice_get, not, ◌&&◌, ◌||◌, nat_lt, nat_le, is_none, set, zero, suc}
+use Rattle.std.specs.Prelude.{ℕ, ◌+◌, ◌*◌, ◌==◌, Bool, false, if◌then◌else◌, Option, Some, None, List, [], ◌∷◌, length, get_or, map, replicate, ◌-◌, true, nat_eq, option_map, option_and_then, slice_get, not, ◌&&◌, ◌||◌, nat_lt, nat_le, is_none, set, filter, zero, suc}
+use Rattle.std.specs.Option.{option_map_or}
 use Rattle.cov_base.specs.Meaning.{FactSet, no_facts, with_fact, is_full, fact_of, Memory, State, Visit, breakpoint}
 use Rattle.module_area.specs.Meaning.{fresh_word, word_at, PlanView, ControlledView, original_at, kind_at, window_at, tag_session, index_of, set_in}
 use Rattle.module_area.specs.declared.cells.Cell.{Cell}
@@ -65,14 +66,11 @@ pub record Parts : Type 0 where
   pub sets : List FactSet
   pub tasks : List TaskPart
 
-abbrev pub no_part : TaskPart
-no_part = record { state = first_state no_task; stage = Ready; opened = 0; is_open = false; changed = 0 }
-
-abbrev pub part_of : Parts → ℕ → TaskPart
-part_of p t = get_or p.tasks t no_part
-
 abbrev pub first_part : TaskView → TaskPart
 first_part t = record { state = first_state t; stage = Ready; opened = 0; is_open = false; changed = 0 }
+
+abbrev pub part_of : Parts → ℕ → TaskPart
+part_of p t = get_or p.tasks t (first_part no_task)
 
 -- nothing is planted, no set has a fact, and the tasks are as their cards say
 abbrev pub first_parts : World → Parts
@@ -85,12 +83,8 @@ first_parts w = record {
 -- The sessions that a task opens and closes, and the places at which it is to plant or close before its SVC is done.
 
 -- the sessions of task t, in job order
-abbrev pub controlled_by : ℕ → List ControlledView → List ControlledView
-controlled_by t [] = []
-controlled_by t (c ∷ cs) = if nat_eq c.by t then c ∷ controlled_by t cs else controlled_by t cs
-
 abbrev pub sessions_by : World → ℕ → List ControlledView
-sessions_by w t = controlled_by t (plan_in w).controlled
+sessions_by w t = filter (λ (c : ControlledView). nat_eq c.by t) (plan_in w).controlled
 
 -- the task that controls session s
 abbrev pub controller_from : ℕ → List ControlledView → Option ℕ
@@ -193,18 +187,12 @@ fetched w c t u p = record {
   shown = Fetched (word_at c.cells p);
 }
 
-abbrev pub fetch_step : World → Parts → ℕ → TaskPart → Option Stepped
-fetch_step w c t u = option_map (fetched w c t u) (place_due w t u u.stage)
-
 -- what the execution shows at the place in hand
 abbrev pub fact_in : World → ℕ → TaskPart → Hand → Fact
 fact_in w t u h = fact_of (kind_at (plan_in w) h.place.0) (visit_of (step_of w t u) h.subject).went
 
 abbrev pub set_of : World → Parts → ℕ → ℕ → FactSet
 set_of w c s p = set_in (length w.places) c.sets s p
-
-abbrev pub with_set : World → Parts → ℕ → ℕ → FactSet → Parts
-with_set w c s p facts = record c { sets = set c.sets (index_of (length w.places) s p) facts }
 
 abbrev pub with_due : TaskPart → Hand → Due → TaskPart
 with_due u h due = with_stage u (Holding (record h { due = due }))
@@ -215,10 +203,8 @@ marked w c t u h =
     let s = tag_session h.cell.tag in
     let found = set_of w c s h.place.0 in
     let facts = with_fact found (fact_in w t u h) in
-    record {
-      parts = with_task (with_set w c s h.place.0 facts) t (with_due u h (if is_full (kind_at (plan_in w) h.place.0) facts then Lifting else Nothing));
-      shown = Marked found;
-    }
+    let with_facts = record c { sets = set c.sets (index_of (length w.places) s h.place.0) facts } in
+    record { parts = with_task with_facts t (with_due u h (if is_full (kind_at (plan_in w) h.place.0) facts then Lifting else Nothing)); shown = Marked found }
 
 abbrev pub same_due : Due → Due → Bool
 same_due Marking Marking = true
@@ -230,9 +216,6 @@ same_due a b = false
 abbrev pub in_hand : Due → Stage → Option Hand
 in_hand due (Holding h) = if same_due h.due due then Some h else None
 in_hand due stage = None
-
-abbrev pub mark_step : World → Parts → ℕ → TaskPart → Option Stepped
-mark_step w c t u = option_map (marked w c t u) (in_hand Marking u.stage)
 
 abbrev pub same_cell : Cell → Cell → Bool
 same_cell a b = nat_eq a.tag b.tag && nat_eq a.half b.half
@@ -252,9 +235,6 @@ lifted w c t u h =
       shown = Lifted taken;
     }
 
-abbrev pub lift_step : World → Parts → ℕ → TaskPart → Option Stepped
-lift_step w c t u = option_map (lifted w c t u) (in_hand Lifting u.stage)
-
 abbrev pub stage_after : Next → Stage
 stage_after On = Ready
 stage_after (NextEnded e) = Ended e
@@ -271,16 +251,12 @@ awaits_or u whole (Some p) = with_stage u Awaiting
 abbrev pub instruction_executed : World → ℕ → TaskPart → TaskPart
 instruction_executed w t u = awaits_or u (executed w t u) (subject_place w (step_of w t u).visits)
 
-abbrev pub unless_at : TaskPart → Option ℕ → Option TaskPart
-unless_at u None = Some u
-unless_at u (Some p) = None
-
 -- a task at the return address ends, else one at its budget, else the instruction is executed, where no place begins
 abbrev pub ready_done : World → ℕ → TaskPart → Option TaskPart
 ready_done w t u =
     if has_returned u.state then Some (with_stage u (Ended Returned))
     else (if is_spent w t u.state then Some (with_stage u (Ended Spent))
-    else unless_at (instruction_executed w t u) (place_at w u.state.machine.cpu.ia))
+    else (if is_none (place_at w u.state.machine.cpu.ia) then Some (instruction_executed w t u) else None))
 
 -- the task after a Do, where none of Fetch, Mark and Lift is possible
 abbrev pub task_goes_on : World → ℕ → TaskPart → Stage → Option TaskPart
@@ -302,19 +278,12 @@ due_of w t u stage change = if executes w t u stage then option_and_then (next_p
 abbrev pub change_due : World → ℕ → TaskPart → Stage → Option PlaceChange
 change_due w t u stage = due_of w t u stage (change_of w t u)
 
-abbrev pub unless_due : Option PlaceChange → Option TaskPart → Option TaskPart
-unless_due None u = u
-unless_due (Some x) u = None
-
 -- the task after a Do, which is possible where no other event of the task is
 abbrev pub task_done : World → ℕ → TaskPart → Stage → Option TaskPart
-task_done w t u stage = unless_due (change_due w t u stage) (task_goes_on w t u stage)
+task_done w t u stage = if is_none (change_due w t u stage) then task_goes_on w t u stage else None
 
 abbrev pub done_by : Parts → ℕ → TaskPart → Stepped
 done_by c t u = record { parts = with_task c t u; shown = Done }
-
-abbrev pub do_step : World → Parts → ℕ → TaskPart → Option Stepped
-do_step w c t u = option_map (done_by c t) (task_done w t u u.stage)
 
 abbrev pub breakpoint_of : ℕ → Cell
 breakpoint_of s = record { tag = 2 * s - 1; half = breakpoint }
@@ -340,12 +309,9 @@ changed w c t u x = record {
   shown = if x.closes then Closed else Planted;
 }
 
-abbrev pub change_where : World → Parts → Bool → ℕ → ℕ → ℕ → TaskPart → PlaceChange → Option Stepped
-change_where w c closes s p t u x = if may_change c closes s p x then Some (changed w c t u x) else None
-
 -- Plant or Close of a controlled session, at the place that is due of its controller
 abbrev pub change_step : World → Parts → Bool → ℕ → ℕ → ℕ → TaskPart → Option Stepped
-change_step w c closes s p t u = option_and_then (change_where w c closes s p t u) (change_due w t u u.stage)
+change_step w c closes s p t u = option_and_then (λ x. if may_change c closes s p x then Some (changed w c t u x) else None) (change_due w t u u.stage)
 
 abbrev pub by_controller : World → Parts → Bool → ℕ → ℕ → Option Stepped → Option ℕ → Option Stepped
 by_controller w c closes s p whole None = whole
@@ -358,20 +324,14 @@ may_plant w c s p = nat_lt p (length w.places) && (nat_lt 0 s && (nat_eq (window
 abbrev pub whole_step : World → Parts → ℕ → ℕ → Option Stepped
 whole_step w c s p = if may_plant w c s p then Some (record { parts = with_cell c p (breakpoint_of s); shown = Planted }) else None
 
-abbrev pub plant_step : World → Parts → ℕ → ℕ → Option Stepped
-plant_step w c s p = by_controller w c false s p (whole_step w c s p) (controller_of w s)
-
-abbrev pub close_step : World → Parts → ℕ → ℕ → Option Stepped
-close_step w c s p = by_controller w c true s p None (controller_of w s)
-
 -- what the event makes of what is stored; none where it isn't possible
 abbrev pub parts_step : World → Parts → Event → Option Stepped
-parts_step w c (Fetch t) = of_task c t.0 (fetch_step w c t.0)
-parts_step w c (Mark t) = of_task c t.0 (mark_step w c t.0)
-parts_step w c (Lift t) = of_task c t.0 (lift_step w c t.0)
-parts_step w c (Do t) = of_task c t.0 (do_step w c t.0)
-parts_step w c (Plant s p) = plant_step w c s.0 p.0
-parts_step w c (Close s p) = close_step w c s.0 p.0
+parts_step w c (Fetch t) = of_task c t.0 (λ (u : TaskPart). option_map (fetched w c t.0 u) (place_due w t.0 u u.stage))
+parts_step w c (Mark t) = of_task c t.0 (λ (u : TaskPart). option_map (marked w c t.0 u) (in_hand Marking u.stage))
+parts_step w c (Lift t) = of_task c t.0 (λ (u : TaskPart). option_map (lifted w c t.0 u) (in_hand Lifting u.stage))
+parts_step w c (Do t) = of_task c t.0 (λ (u : TaskPart). option_map (done_by c t.0) (task_done w t.0 u u.stage))
+parts_step w c (Plant s p) = by_controller w c false s.0 p.0 (whole_step w c s.0 p.0) (controller_of w s.0)
+parts_step w c (Close s p) = by_controller w c true s.0 p.0 None (controller_of w s.0)
 
 -- what is stored after the events, one after the other; none where one of them isn't possible
 abbrev pub run_on : World → Parts → List Event → Option Parts
@@ -386,17 +346,10 @@ ending_of (Ended e) = Some e
 ending_of stage = None
 
 -- what a task has come to
-abbrev pub part_result : TaskPart → ResultView
-part_result u = record {
-  ending = ending_of u.stage;
-  done = u.state.done;
-  cpu = u.state.machine.cpu;
-  output = u.state.io.output;
-  bytes = u.state.machine.bytes;
-}
-
 abbrev pub results_of : Parts → ℕ → ResultView
-results_of c t = part_result (part_of c t)
+results_of c t =
+    let u = part_of c t in
+    record { ending = ending_of u.stage; done = u.state.done; cpu = u.state.machine.cpu; output = u.state.io.output; bytes = u.state.machine.bytes }
 
 -- the planting or closing that is due, or else Do
 abbrev pub change_or_do : TaskNo → Option PlaceChange → Event
@@ -408,13 +361,9 @@ event_due t change Marking = Mark t
 event_due t change Lifting = Lift t
 event_due t change Nothing = change_or_do t change
 
-abbrev pub fetch_or : TaskNo → Event → Option ℕ → Event
-fetch_or t other None = other
-fetch_or t other (Some p) = Fetch t
-
 -- the event of the task as it stands; none where it has ended
 abbrev pub stage_event : World → TaskNo → TaskPart → Stage → Option Event
-stage_event w t u Ready = Some (fetch_or t (change_or_do t (change_due w t.0 u Ready)) (place_due w t.0 u Ready))
+stage_event w t u Ready = Some (if is_none (place_due w t.0 u Ready) then change_or_do t (change_due w t.0 u Ready) else Fetch t)
 stage_event w t u Awaiting = Some (Fetch t)
 stage_event w t u (Holding h) = Some (event_due t (change_due w t.0 u (Holding h)) h.due)
 stage_event w t u (Ended e) = None
@@ -435,14 +384,10 @@ abbrev pub after : Parts → Option Stepped → Parts
 after c None = c
 after c (Some x) = x.parts
 
-abbrev pub next_events : (Parts → List Event) → World → Parts → Option Event → List Event
-next_events more w c None = []
-next_events more w c (Some e) = e ∷ more (after c (parts_step w c e))
-
 -- the task's next events, at most so many
 abbrev pub go_events : World → ℕ → Parts → TaskNo → List Event
 go_events w zero c t = []
-go_events w (suc n) c t = next_events (λ d. go_events w n d t) w c (next_of w c t)
+go_events w (suc n) c t = option_map_or (λ (e : Event). e ∷ go_events w n (after c (parts_step w c e)) t) (next_of w c t) []
 
 -- all that it makes until it has ended
 abbrev pub all_events : World → Parts → TaskNo → List Event

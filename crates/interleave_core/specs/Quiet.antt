@@ -4,7 +4,7 @@ use Rattle.std.specs.List.{list_any}
 use Rattle.module_area.specs.Meaning.{word_at, is_controlled}
 use Rattle.module_area.specs.Notes.{is_closed}
 use Rattle.interleave_core.specs.Meaning.{World, TaskPart, Parts, part_of, plan_in, controller_of, ending_of, same_due, set_of}
-use Rattle.interleave_core.specs.MeaningOfLogs.{CoreState, CoreStepped, core_step, core_run}
+use Rattle.interleave_core.specs.CoreState.{CoreState, CoreStepped, core_step, core_run}
 use Rattle.interleave_core.specs.declared.events.Event.{Event}
 use Rattle.interleave_core.specs.declared.events.Event.TheVariants.{Do, Close}
 use Rattle.interleave_core.specs.declared.stage.Due.TheVariants.{Marking}

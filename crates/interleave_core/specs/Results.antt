@@ -4,7 +4,7 @@ use Rattle.cov_base.specs.Meaning.{is_within}
 use Rattle.module_area.specs.Meaning.{kind_at}
 use Rattle.session_book.specs.Meaning.{task_of}
 use Rattle.interleave_core.specs.Meaning.{World, Parts, plan_in, Stepped, parts_step, set_of, results_of}
-use Rattle.interleave_core.specs.MeaningOfLogs.{is_by}
+use Rattle.interleave_core.specs.CoreState.{is_by}
 use Rattle.interleave_core.specs.declared.events.Event.{Event}
 
 abbrev pub IsOver : Parts → ℕ → Type 0

@@ -1,12 +1,12 @@
 -- What a task of a core keeps besides what the core stores of it, and what holds of a core at every moment.
-use Rattle.std.specs.Prelude.{◌≡◌, ◌≢◌, ℕ, ◌+◌, ◌-◌, ◌*◌, ◌<◌, ◌≤◌, Bool, true, false, nat_le, nat_lt, if◌then◌else◌, Option, Some, None, option_map, Result, IfOk, List, [], length, get_or, map, All}
+use Rattle.std.specs.Prelude.{◌≡◌, ◌≢◌, ℕ, ◌+◌, ◌-◌, ◌*◌, ◌<◌, ◌≤◌, Bool, true, false, nat_le, nat_lt, if◌then◌else◌, Option, Some, None, option_map, Result, IfOk, List, [], length, get_or, map, All, filter, nat_eq}
 use Rattle.std.specs.List.{list_all}
 use Rattle.cov_base.specs.Meaning.{is_within, FactSet}
 use Rattle.cov_base.specs.declared.numbers.PlaceNo.{PlaceNo}
 use Rattle.cov_base.specs.declared.limits.TheConstants.{SESSION_LIMIT, PLACE_LIMIT}
 use Rattle.module_area.specs.declared.cells.Cell.{Cell}
 use Rattle.module_area.specs.Meaning.{word_at, set_in, PlanView, ControlledView, kind_at, is_over}
-use Rattle.module_area.specs.MeaningOfRule.{planted, IsForm, IsPlan}
+use Rattle.module_area.specs.Rule.{planted, IsForm, IsPlan}
 use Rattle.brk_table.specs.Meaning.{TablesView}
 use Rattle.brk_table.specs.Places.{AreSeen, ArePlaces, IsIn}
 use Rattle.space_map.specs.Space.{SpaceView, memory_of_space}
@@ -83,6 +83,10 @@ IsStage w t u stage = Unit {0}
 
 abbrev pub parts_of : List RunningView → List TaskPart
 parts_of tasks = map (λ (r : RunningView). r.part) tasks
+
+-- those of the controlled sessions that task t opens and closes
+abbrev pub controlled_by : ℕ → List ControlledView → List ControlledView
+controlled_by t cs = filter (λ (c : ControlledView). nat_eq c.by t) cs
 
 abbrev pub no_controlled : ControlledView
 no_controlled = record { session = 0; by = 0; places = [] }

@@ -1,6 +1,6 @@
 -- What the events of a core are judged by, and what a core stores.
 use Rattle.std.specs.Prelude.{◌≡◌, ℕ, ◌<◌, length, All}
-use Rattle.module_area.specs.MeaningOfRule.{IsPlan}
+use Rattle.module_area.specs.Rule.{IsPlan}
 use Rattle.brk_table.specs.Meaning.{TablesView}
 use Rattle.brk_table.specs.Places.{ArePlaces, AreSeen, IsIn}
 use Rattle.session_book.specs.Meaning.{JobView}

@@ -2,8 +2,8 @@
 ghost use Rattle.std.specs.Prelude.{◌≡◌, ◌<◌, not, ◌||◌, nat_eq, option_map, slice_get, IsSome};
 ghost use Rattle.module_area.specs.Notes.{is_closed};
 ghost use Rattle.cov_base.specs.declared.limits.TheConstants.{SESSION_LIMIT};
-ghost use Rattle.interleave_core.specs.Meaning.{controlled_by, controller_from, next_place};
-ghost use Rattle.interleave_core.specs.Views.{seen_change, seen_at, tag_in, are_closed};
+ghost use Rattle.interleave_core.specs.Meaning.{controller_from, next_place};
+ghost use Rattle.interleave_core.specs.Views.{controlled_by, seen_change, seen_at, tag_in, are_closed};
 
 use crate::hands::tag_at;
 use cov_base::{PlaceNo, SessNo, TaskNo};

@@ -7,7 +7,8 @@ ghost use Rattle.brk_table.specs.Places.{IsIn};
 ghost use Rattle.cov_base.specs.declared.limits.TheConstants.{SESSION_LIMIT};
 ghost use Rattle.interleave_core.specs.Meaning.{first_parts, plan_in, controller_of, whole_step, changed_cell, parts_step, run_on, set_of, all_events, next_of, results_of};
 ghost use Rattle.interleave_core.specs.World.{IsWorld, world_of};
-ghost use Rattle.interleave_core.specs.MeaningOfLogs.{core_start, Stands};
+ghost use Rattle.interleave_core.specs.CoreState.{core_start, KeepsRule};
+ghost use Rattle.interleave_core.specs.MeaningOfEvents.{Stands};
 ghost use Rattle.interleave_core.specs.Core.{FollowsAll, FollowsNone};
 ghost use Rattle.interleave_core.specs.declared.events.Event.{Event};
 ghost use Rattle.interleave_core.specs.declared.events.Event.TheVariants as event;
@@ -404,7 +405,8 @@ pub fn start<'a>(alloc: Global, job: &'a Job, tables: &'a Tables) -> Result<Core
     ensures parts { IfOk result (λ c. c.parts ≡ first_parts (world_of job.now tables.now)) }
     ensures fits { IfOk result (λ c. Fits c.world c.parts) }
     ensures is_world { IfOk result (λ c. IsWorld c.world) }
-    ensures stands { IfOk result (λ c. Stands c.world [] (core_start c.world)) }
+    ensures stands { IfOk result (λ c. Stands c.world [] c.parts) }
+    ensures rule { IfOk result (λ c. KeepsRule c.world [] (core_start c.world)) }
 {
     let tasks = make_tasks(alloc, job, tables)?;
     let plan = plan_of(alloc, job, tables, 0)?;

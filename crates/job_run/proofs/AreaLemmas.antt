@@ -10,7 +10,7 @@ use Rattle.cov_base.specs.Meaning.{Visit}
 use Rattle.module_area.specs.Ended.{HasSets, HasTally}
 use Rattle.module_area.specs.Meaning.{FinalsView, PlanView, window_at}
 use Rattle.module_area.specs.Notes.{Notes}
-use Rattle.module_area.specs.MeaningOfRule.{IsPlan, is_controller}
+use Rattle.module_area.specs.Rule.{IsPlan, is_controller}
 use Rattle.module_area.proofs.PlanLemmas.{no_controller}
 use Rattle.module_area.specs.declared.tallies.Tally.{Tally}
 use Rattle.task_run.proofs.SetLemmas.{IsReady, exact_set, exact_lifts}

@@ -4,7 +4,7 @@ use Rattle.std.proofs.lemmas.Bool.{cases_Bool, eq-eqb, or_left, or_right}
 use Rattle.std.proofs.lemmas.Bool.Decides.{nat_tests}
 use Rattle.std.proofs.lemmas.List.{append-nil, take_more, take_all, length-take-le}
 use Rattle.cov_base.specs.declared.numbers.TaskNo.{TaskNo}
-use Rattle.module_area.specs.MeaningOfRule.{has_task}
+use Rattle.module_area.specs.Rule.{has_task}
 use Rattle.session_book.specs.Meaning.{TaskView, task_of, no_task, tasks_from}
 use Rattle.job_run.specs.Crews.{PhaseView, IsTaskOf, is_its, all_tasks, tasks_before}
 

@@ -14,7 +14,7 @@ use Rattle.module_area.specs.declared.cells.Cell.{Cell}
 use Rattle.module_area.specs.declared.places.Place.{Place}
 use Rattle.module_area.specs.declared.tallies.Tally.{Tally}
 use Rattle.module_area.specs.Meaning.{PlanView, ControlledView, place_of, kind_at, has_place, ControlView, first_control, places_in, places_under, executes, facts_at, facts_of_all, is_place, FinalsView, set_at, has_session}
-use Rattle.module_area.specs.MeaningOfRule.{IsPlan, IsControlled, AreApart, has_task, is_controller}
+use Rattle.module_area.specs.Rule.{IsPlan, IsControlled, AreApart, has_task, is_controller}
 use Rattle.module_area.specs.Ended.{HasSets}
 use Rattle.module_area.specs.Notes.{Notes, bearer, calls, keeps, split_notes, after_join}
 use Rattle.module_area.specs.Tied.{keeps_session_as, IsTied}

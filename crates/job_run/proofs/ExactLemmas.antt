@@ -3,12 +3,12 @@ use Rattle.std.proofs.Common.{◌≡◌, ◌⊎◌, ℕ, zero, suc, ◌<◌, ◌
 use Rattle.std.proofs.lemmas.Bool.{or_cases, or_left, or_right, and_from, and_parts, both_ways, cases_Bool}
 use Rattle.std.proofs.lemmas.List.Folds.{list_any-append}
 use Rattle.cov_base.specs.Meaning.{FactSet, has_fact, same_fact, fact_of, no_facts, union, Visit}
-use Rattle.cov_base.specs.MeaningOfFacts.{is_of_kind}
+use Rattle.cov_base.specs.FactKind.{is_of_kind}
 use Rattle.cov_base.specs.declared.facts.Fact.{Fact}
 use Rattle.cov_base.specs.declared.numbers.TaskNo.{TaskNo}
 use Rattle.module_area.specs.declared.cells.Cell.{Cell}
 use Rattle.module_area.specs.Meaning.{PlanView, ControlledView, ControlView, kind_at, has_place, first_control, FinalsView, set_at}
-use Rattle.module_area.specs.MeaningOfRule.{IsPlan, has_task, is_controller}
+use Rattle.module_area.specs.Rule.{IsPlan, has_task, is_controller}
 use Rattle.module_area.specs.Ended.{HasSets}
 use Rattle.module_area.specs.Notes.{Notes, bearer, keeps, split_notes, after_join}
 use Rattle.module_area.specs.Tied.{IsTied}

@@ -9,7 +9,7 @@ use Rattle.cov_base.specs.declared.limits.TheConstants.{PLACE_LIMIT}
 use Rattle.cov_base.specs.declared.numbers.TaskNo.{TaskNo}
 use Rattle.module_area.specs.Meaning.{ControlView, first_control, PlanView}
 use Rattle.module_area.specs.Notes.{Notes, bearer, calls, split_notes, after_split, after_join}
-use Rattle.module_area.specs.MeaningOfRule.{IsPlan, has_task}
+use Rattle.module_area.specs.Rule.{IsPlan, has_task}
 use Rattle.module_area.specs.Tied.{IsTied}
 use Rattle.module_area.specs.declared.places.Place.{Place}
 use Rattle.module_area.proofs.TiedLemmas.{first_tied}

@@ -6,7 +6,7 @@ use Rattle.cov_base.specs.declared.numbers.TaskNo.{TaskNo}
 use Rattle.cov_base.specs.Meaning.{has_fact}
 use Rattle.module_area.specs.Meaning.{facts_at, first_control, PlanView, ControlledView, place_of, has_place, has_session}
 use Rattle.module_area.specs.Notes.{Notes, calls}
-use Rattle.module_area.specs.MeaningOfRule.{has_task, is_controller}
+use Rattle.module_area.specs.Rule.{has_task, is_controller}
 use Rattle.module_area.specs.declared.cells.Cell.{Cell}
 use Rattle.svc_monitor.specs.Meaning.{at_places, facts_under}
 use Rattle.svc_monitor.specs.Observed.{IsShown}

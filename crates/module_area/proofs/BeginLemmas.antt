@@ -9,7 +9,7 @@ use Rattle.module_area.specs.declared.parties.View.{View}
 use Rattle.module_area.specs.declared.parties.Role.TheVariants.{Root, Task, Spent}
 use Rattle.module_area.specs.Drained.{IsNumber, IsSettled, Drained}
 use Rattle.module_area.specs.Meaning.{PlanView, original_at, kind_at}
-use Rattle.module_area.specs.MeaningOfRule.{IsPlan, has_task, Has, last_tag, window_tag, blank, untouched, lifted, Keeps, IsRole, Kept, Held}
+use Rattle.module_area.specs.Rule.{IsPlan, has_task, Has, last_tag, window_tag, blank, untouched, lifted, Keeps, IsRole, Kept, Held}
 use Rattle.module_area.proofs.StepLemmas.{task_not_root, spent_not_root, full_some}
 
 only_one : (x v : View) (j : ℕ) → get_elem? (x ∷ []) j ≡ some v → (j ≡ 0) × (x ≡ v)

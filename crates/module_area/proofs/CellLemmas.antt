@@ -10,7 +10,7 @@ use Rattle.module_area.specs.declared.cells.Cell.{Cell}
 use Rattle.module_area.specs.declared.parties.View.{View}
 use Rattle.module_area.specs.declared.parties.Role.TheVariants.{Spent}
 use Rattle.module_area.specs.Meaning.{PlanView, original_at, kind_at, is_over, is_controlled}
-use Rattle.module_area.specs.MeaningOfRule.{Has, add_if, times, last_tag, window_tag, lifting, planting, planted, lifted, closed, IsForm, Once, Keeps, Owes, Held}
+use Rattle.module_area.specs.Rule.{Has, add_if, times, last_tag, window_tag, lifting, planting, planted, lifted, closed, IsForm, Once, Keeps, Owes, Held}
 use Rattle.module_area.specs.Parties.{closing}
 use Rattle.module_area.proofs.PartyLemmas.{has-add_if}
 use Rattle.module_area.proofs.StepLemmas.{Grows, kept_grows, back, into, moved, once_same, ties_same, one_keeper, planted_not, same_window, full_some, one_if, and_false, breakpoint_form, or_right}

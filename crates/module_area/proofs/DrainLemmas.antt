@@ -11,7 +11,7 @@ use Rattle.module_area.specs.declared.parties.View.{View}
 use Rattle.module_area.specs.declared.parties.Role.{Role}
 use Rattle.module_area.specs.declared.parties.Role.TheVariants.{Root, Task, Spent}
 use Rattle.module_area.specs.Meaning.{PlanView, is_controlled}
-use Rattle.module_area.specs.MeaningOfRule.{has_task, Has, last_tag, window_tag, blank, IsRole, Held}
+use Rattle.module_area.specs.Rule.{has_task, Has, last_tag, window_tag, blank, IsRole, Held}
 use Rattle.module_area.specs.Parties.{chosen, giving, newcomer, joining, role_task, bounding, noting, reading}
 use Rattle.module_area.specs.Drained.{Noted, IsOverAt, IsPast, IsNumber, IsSettled, Drained}
 use Rattle.module_area.proofs.PartyLemmas.{has-append, has-add_if, at_set, all_set, all_snoc, all_two, kept_tag, no_tag, first_tag, dropped_tag}

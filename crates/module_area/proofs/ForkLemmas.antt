@@ -8,7 +8,7 @@ use Rattle.module_area.specs.declared.parties.View.{View}
 use Rattle.module_area.specs.declared.parties.Role.{Role}
 use Rattle.module_area.specs.declared.parties.Role.TheVariants.{Root, Task, Spent}
 use Rattle.module_area.specs.Meaning.{PlanView, original_at}
-use Rattle.module_area.specs.MeaningOfRule.{is_controller, Has, times, total, last_tag, window_tag, blank, Once, KeepsAs, Keeps, IsRole, Owes, Kept, Held}
+use Rattle.module_area.specs.Rule.{is_controller, Has, times, total, last_tag, window_tag, blank, Once, KeepsAs, Keeps, IsRole, Owes, Kept, Held}
 use Rattle.module_area.specs.Parties.{chosen, giving, newcomer, joining, role_task}
 use Rattle.module_area.proofs.StepLemmas.{task_not_root, spent_not_root, spent_not_task, moved, same, once_same, first_only, role_before}
 use Rattle.module_area.proofs.PartyLemmas.{has-append, left-append, right-append, at_set, at_end, at_two, all_snoc, all_two, some_snoc, some_two, total-snoc, total_two, times-append, has-chosen, kept_tag, dropped_tag, no_tag, first_tag}

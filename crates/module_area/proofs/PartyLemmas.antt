@@ -4,7 +4,7 @@ use mathlib.Core.Option.{some, some-injective, some-ne-none}
 use mathlib.Core.Logic.{dite}
 use native.Mathlib.Decide.{ℕ_discrete}
 use lib.ListN.{get_elem?}
-use Rattle.module_area.specs.MeaningOfRule.{Has, add_if, times, total, last_tag}
+use Rattle.module_area.specs.Rule.{Has, add_if, times, total, last_tag}
 use Rattle.module_area.specs.Parties.{chosen}
 
 module _ {X : Type 0} where

@@ -6,7 +6,7 @@ use mathlib.Core.Logic.{dite}
 use native.Mathlib.Decide.{dec_le}
 use Rattle.cov_base.specs.declared.numbers.PlaceNo.{PlaceNo}
 use Rattle.module_area.specs.Meaning.{PlanView, ControlledView, has_place, is_controlled, is_over, window_at}
-use Rattle.module_area.specs.MeaningOfRule.{IsPlan, is_controller}
+use Rattle.module_area.specs.Rule.{IsPlan, is_controller}
 use Rattle.module_area.proofs.Indices.{and_left, and_right, and_both}
 
 any_step : {X : Type 0} (f : X → Bool) (x : X) (xs : List X) (d : X) (b : Bool) → f x ≡ b → (b || list_any f xs) ≡ true

@@ -10,13 +10,13 @@ use Rattle.cov_base.specs.declared.facts.Fact.TheVariants.{Ran, Went, Stayed}
 use Rattle.cov_base.specs.declared.facts.Kind.{Kind}
 use Rattle.cov_base.specs.declared.facts.Kind.TheVariants.{Straight, Conditional}
 use Rattle.cov_base.specs.Meaning.{FactSet, has_fact, is_full, full_of, with_fact, same_fact, breakpoint}
-use Rattle.cov_base.specs.MeaningOfFacts.{is_of_kind}
+use Rattle.cov_base.specs.FactKind.{is_of_kind}
 use Rattle.module_area.specs.declared.cells.Cell.{Cell}
 use Rattle.module_area.specs.declared.parties.View.{View}
 use Rattle.module_area.specs.declared.parties.Role.{Role}
 use Rattle.module_area.specs.declared.parties.Role.TheVariants.{Root, Task, Spent}
 use Rattle.module_area.specs.Meaning.{PlanView, original_at, kind_at, is_over, tag_session}
-use Rattle.module_area.specs.MeaningOfRule.{is_controller, Has, times, total, last_tag, window_tag, is_breakpoint, is_lifted, blank, fetching, marking, planted, lifted, IsForm, Once, KeepsAs, Keeps, IsRole, Owes, Kept, IsSite, Held}
+use Rattle.module_area.specs.Rule.{is_controller, Has, times, total, last_tag, window_tag, is_breakpoint, is_lifted, blank, fetching, marking, planted, lifted, IsForm, Once, KeepsAs, Keeps, IsRole, Owes, Kept, IsSite, Held}
 use Rattle.module_area.proofs.FactLemmas.{has_fact-with_fact, same_fact-true, is_full-true}
 use Rattle.module_area.proofs.PlanLemmas.{one_controller, no_controller}
 use Rattle.module_area.proofs.PartyLemmas.{has-add_if, more-add_if, here-add_if, at_put, at_set, all_set, some_set, total-set}

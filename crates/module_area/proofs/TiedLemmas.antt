@@ -7,7 +7,7 @@ use Rattle.std.proofs.lemmas.List.Elements.{All-filter}
 use Rattle.cov_base.specs.declared.numbers.PlaceNo.{PlaceNo}
 use Rattle.cov_base.specs.declared.numbers.SessNo.{SessNo}
 use Rattle.module_area.specs.Meaning.{PlanView, ControlledView, ControlView, number_of, first_control, places_under, has_session}
-use Rattle.module_area.specs.MeaningOfRule.{IsPlan, IsControlled, AreApart, is_controller}
+use Rattle.module_area.specs.Rule.{IsPlan, IsControlled, AreApart, is_controller}
 use Rattle.module_area.specs.Notes.{Notes, split_notes}
 use Rattle.module_area.specs.Tied.{keeps_session_as, IsTied}
 

@@ -8,7 +8,7 @@ use Rattle.module_area.specs.declared.parties.Role.{Role}
 use Rattle.module_area.specs.declared.parties.Role.TheVariants.{Root, Task, Spent}
 use Rattle.module_area.specs.declared.parties.View.{View}
 use Rattle.module_area.specs.Meaning.{PlanView, is_controlled}
-use Rattle.module_area.specs.MeaningOfRule.{has_task, Has, last_tag, window_tag}
+use Rattle.module_area.specs.Rule.{has_task, Has, last_tag, window_tag}
 
 -- a look at a task's word: task, number, and what the party had seen then
 abbrev pub Noted : Type 0

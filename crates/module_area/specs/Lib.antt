@@ -4,9 +4,9 @@ pub mod Drained
 pub mod Ended
 pub mod Images
 pub mod Meaning
-pub mod MeaningOfRule
 pub mod Notes
 pub mod Parties
 pub mod PlanView
+pub mod Rule
 pub mod Standing
 pub mod Tied

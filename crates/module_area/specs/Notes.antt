@@ -8,7 +8,7 @@ use Rattle.cov_base.specs.Meaning.{FactSet, with_fact, has_fact, is_full, is_wit
 use Rattle.module_area.specs.declared.cells.Cell.{Cell}
 use Rattle.module_area.specs.declared.tallies.Tally.{Tally}
 use Rattle.module_area.specs.Meaning.{PlanView, ControlledView, original_at, kind_at, window_at, has_place, is_over, is_controlled}
-use Rattle.module_area.specs.MeaningOfRule.{is_controller}
+use Rattle.module_area.specs.Rule.{is_controller}
 
 -- a look at a task's word: its number then, and the highest tags that the pass knew of the places
 pub record NotedView : Type 0 where

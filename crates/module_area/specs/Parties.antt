@@ -5,7 +5,7 @@ use Rattle.module_area.specs.declared.parties.Role.{Role}
 use Rattle.module_area.specs.declared.parties.Role.TheVariants.{Task}
 use Rattle.module_area.specs.declared.parties.View.{View}
 use Rattle.module_area.specs.Meaning.{PlanView}
-use Rattle.module_area.specs.MeaningOfRule.{is_controller, add_if, blank, tagging}
+use Rattle.module_area.specs.Rule.{is_controller, add_if, blank, tagging}
 
 -- what was planted at places that the test chooses
 abbrev pub chosen : (ℕ → Bool) → List (ℕ × ℕ) → List (ℕ × ℕ)

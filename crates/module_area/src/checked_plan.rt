@@ -1,7 +1,7 @@
 //! Plans that are tested at run time.
 ghost use Rattle.std.specs.Prelude.{◌≡◌, ◌≢◌, ◌<◌, true, false, length, AllPairs, IfSome, IsNone, ◌↔◌};
 ghost use Rattle.cov_base.specs.declared.numbers.TaskNo.{TaskNo};
-ghost use Rattle.module_area.specs.MeaningOfRule.{IsPlan};
+ghost use Rattle.module_area.specs.Rule.{IsPlan};
 ghost use Rattle.module_area.specs.PlanView.{MayStand, whole_plan};
 ghost use Rattle.module_area.specs.Standing.{MayAllStand, IsNew};
 

@@ -2,7 +2,7 @@
 ghost use Rattle.std.specs.Prelude.{◌≡◌, ◌≢◌, ◌<◌, ◌≤◌, length, IfOk};
 ghost use Rattle.cov_base.specs.Meaning.{breakpoint, kind_of};
 ghost use Rattle.module_area.specs.Meaning.{original_at, kind_at, window_at, places_under, first_control};
-ghost use Rattle.module_area.specs.MeaningOfRule.{IsPlan};
+ghost use Rattle.module_area.specs.Rule.{IsPlan};
 
 use crate::control::Control;
 use crate::places::Place;
@@ -54,7 +54,7 @@ pub struct Plan {
 
 impl Model for Plan {
     ghost use Rattle.module_area.specs.Meaning.{PlanView};
-    ghost use Rattle.module_area.specs.MeaningOfRule.{IsPlan};
+    ghost use Rattle.module_area.specs.Rule.{IsPlan};
 
     ghost Value = { PlanView };
 

@@ -2,9 +2,9 @@
 ghost use Rattle.std.specs.Prelude.{◌≡◌, ◌+◌, ◌-◌, ◌*◌, ◌<◌, ◌≤◌, ◌^◌, length, true, false, IsSome};
 ghost use Rattle.std.specs.declared.option.Option.TheVariants.{Some, None};
 ghost use Rattle.cov_base.specs.Meaning.{FactSet};
-ghost use Rattle.cov_base.specs.MeaningOfFacts.{is_of_kind};
+ghost use Rattle.cov_base.specs.FactKind.{is_of_kind};
 ghost use Rattle.module_area.specs.Meaning.{PlanView, kind_at, is_over, is_controlled};
-ghost use Rattle.module_area.specs.MeaningOfRule.{has_task};
+ghost use Rattle.module_area.specs.Rule.{has_task};
 ghost use Rattle.module_area.specs.Notes.{Notes, calls, after_fetch, after_mark, after_lift, after_plant, after_close, after_split, split_notes, after_join, bearer, own_number, is_working, keeps, after_boundary, after_note, after_read, IsAnswer, IsFound, IsWord};
 
 use crate::cells::Cell;

@@ -6,7 +6,7 @@ use Rattle.cov_base.specs.declared.limits.TheConstants.{PLACE_LIMIT, SESSION_LIM
 use Rattle.cov_base.specs.declared.numbers.PlaceNo.{PlaceNo}
 use Rattle.cov_base.specs.declared.numbers.SessNo.{SessNo}
 use Rattle.module_area.specs.Meaning.{PlanView, ControlledView, has_place, is_controlled, window_at, ControlView, places_in, places_under, unless_open, to_open, opening, has_session}
-use Rattle.module_area.specs.MeaningOfRule.{IsPlan, AreApart}
+use Rattle.module_area.specs.Rule.{IsPlan, AreApart}
 use Rattle.module_area.specs.Notes.{Notes, keeps_as}
 use Rattle.std.specs.Prelude.{slice_get}
 use Rattle.std.proofs.lemmas.Option.{slice_get_within, get_or_from_slice_get, same_Some}

@@ -1,13 +1,14 @@
 -- A schedule that was played is a run of the core.
 use Rattle.std.proofs.Common.{◌≡◌, ℕ, ◌+◌, Bool, true, false, nat_eq, if◌then◌else◌, Option, Some, None, option_map, is_none, is_some, List, [], ◌∷◌, ◌++◌, length, refl, ap, ◌∙◌, subst}
 use Rattle.std.proofs.lemmas.Option.{same_Some}
-use Rattle.std.specs.Option.{option_and_then}
+use Rattle.std.specs.Option.{option_and_then, option_map_or}
 use Rattle.cov_base.specs.declared.numbers.TaskNo.{TaskNo}
 use Rattle.module_area.specs.declared.places.Place.{Place}
 use Rattle.session_book.specs.Meaning.{JobView}
 use Rattle.interleave_core.specs.Meaning.{World, Parts, first_parts, Stepped, parts_step, run_on, next_of, results_of, after, all_events}
-use Rattle.interleave_core.specs.MeaningOfLogs.{CoreState, core_start, core_after, core_from, go_on}
+use Rattle.interleave_core.specs.CoreState.{CoreState, core_start, core_after, core_from, go_on}
 use Rattle.interleave_core.specs.Going.{HasGone}
+use Rattle.interleave_core.specs.MeaningOfEvents.{Stands}
 use Rattle.interleave_core.specs.World.{IsWorld}
 use Rattle.interleave_core.specs.declared.events.Event.{Event}
 use Rattle.interleave_core.specs.declared.events.Shown.TheVariants as shown
@@ -16,8 +17,17 @@ use Rattle.interleave_core.proofs.Runs.{run_on-append}
 use Rattle.job_text.specs.Meaning.{LineView, item_at}
 use Rattle.job_text.specs.declared.schedule.Item.{Item}
 use Rattle.job_text.specs.declared.schedule.Item.TheVariants.{Fetch, Mark, Lift, Do, Go, Plant, Close, End}
-use Rattle.schedule_play.specs.Meaning.{Play, Bad, Whole, plants, gone, play, play_item, play_line, play_on, play_end, play_from, play_of, item_event, with_item, is_end, one_event, item_events, items_events, IsRun}
+use Rattle.schedule_play.specs.Meaning.{Play, Bad, Whole, plants, gone, play, play_item, play_line, play_on, play_end, play_of, item_event, with_item, is_end, IsRun}
 use Rattle.schedule_play.specs.declared.playing.Played.{Played}
+
+-- the events that an item stands for: one, or those that GO has made
+abbrev item_events : World → Parts → Item → List Event
+item_events w c (Go t) = all_events w c t
+item_events w c item = option_map_or (λ (e : Event). e ∷ []) (item_event w c item) []
+
+abbrev items_events : World → Parts → List Played → List Event
+items_events w c [] = []
+items_events w c (p ∷ ps) = item_events w c p.item ++ items_events w (after c (play_item w c p.item)) ps
 
 -- a task that has ended
 gone_is : (t : TaskNo) (o : Option Parts) (x : Stepped) → option_and_then (gone t) o ≡ Some x → o ≡ Some x.parts
@@ -35,7 +45,7 @@ went w c t x h = by_none (is_none (next_of w c t)) h
     by_none true q = absurd cc
     by_none false q = gone_is t (run_on w c (all_events w c t)) x q
 
-one_run : (w : World) (c : Parts) (o : Option Event) (x : Stepped) → option_and_then (parts_step w c) o ≡ Some x → run_on w c (one_event o) ≡ Some x.parts
+one_run : (w : World) (c : Parts) (o : Option Event) (x : Stepped) → option_and_then (parts_step w c) o ≡ Some x → run_on w c (option_map_or (λ (e : Event). e ∷ []) o []) ≡ Some x.parts
 one_run w c None x h = absurd cc
 one_run w c (Some e) x h = ap (option_and_then (λ (y : Stepped). Some y.parts)) h
 
@@ -112,21 +122,21 @@ with_logs w c (e ∷ events) d h = by_step (λ b q. with_logs w b events d q) (p
 
 -- of the schedule of a job of one phase
 pub play_is_run : (j : JobView) (places : List Place) (count : ℕ) (d : Parts) (lines : List LineView) (played : List Played) → IsWorld (record { job = j; places = places }) → play_of j places count lines ≡ Whole d played →
-    IsRun (record { job = j; places = places }) d played
+    IsRun (record { job = j; places = places }) d
 play_is_run j places count d lines played is_world h = by_phases (nat_eq (length j.phases) 1) h
   where
     w : World
     w = record { job = j; places = places }
 
-    by_start : (o : Option Parts) → run_on w (first_parts w) (plants w) ≡ o → play_from w (count + 1) lines o ≡ Whole d played → IsRun w d played
+    by_start : (o : Option Parts) → run_on w (first_parts w) (plants w) ≡ o → option_map_or (λ (b : Parts). play w (count + 1) b lines) o (Bad 0) ≡ Whole d played → IsRun w d
     by_start None e q = absurd cc
     by_start (Some c) e q =
         let events : List Event = plants w ++ items_events w c played in
         let run : run_on w (first_parts w) events ≡ Some d = run_on-append w (first_parts w) c (plants w) (items_events w c played) e ∙ play_run w (count + 1) c d lines played q in
         let all = with_logs w (core_start w) events d run in
-        record { planted = c; begin = e; core = all.0; run = all.1; stored = all.2; stands = run_stands w all.0 events is_world all.1 }
+        record { events = items_events w c played; run = run; stands = subst (Stands w events) all.2 (run_stands w all.0 events is_world all.1) }
 
-    by_phases : (b : Bool) → (if b then play_from w (count + 1) lines (run_on w (first_parts w) (plants w)) else Bad 0) ≡ Whole d played → IsRun w d played
+    by_phases : (b : Bool) → (if b then option_map_or (λ (b : Parts). play w (count + 1) b lines) (run_on w (first_parts w) (plants w)) (Bad 0) else Bad 0) ≡ Whole d played → IsRun w d
     by_phases true q = by_start (run_on w (first_parts w) (plants w)) refl q
     by_phases false q = absurd cc
 

@@ -1,12 +1,13 @@
 -- What the claim of the program says by this crate's clauses.
 use Rattle.std.specs.Prelude.{ℕ, ◌+◌, Bool, true, false, nat_eq, nat_lt, if◌then◌else◌, Option, Some, None, option_and_then, is_none, is_some, List, [], ◌∷◌, length, ◌≡◌, ◌++◌, ◌-◌, get_or, codes, decimal}
 use Rattle.std.specs.List.{flat_map, range_with_len}
+use Rattle.std.specs.Option.{option_map_or}
 use Rattle.cov_base.specs.declared.numbers.TaskNo.{TaskNo}
 use Rattle.module_area.specs.Meaning.{window_at, place_of}
 use Rattle.module_area.specs.declared.places.Place.{Place}
 use Rattle.session_book.specs.Meaning.{JobView, task_of, session_of}
-use Rattle.interleave_core.specs.Meaning.{World, Parts, plan_in, first_parts, Stepped, parts_step, run_on, set_of, all_events, after, next_of, results_of}
-use Rattle.interleave_core.specs.MeaningOfLogs.{CoreState, core_run, Stands}
+use Rattle.interleave_core.specs.Meaning.{World, Parts, plan_in, first_parts, Stepped, parts_step, run_on, set_of, all_events, next_of, results_of}
+use Rattle.interleave_core.specs.MeaningOfEvents.{Stands}
 use Rattle.interleave_core.specs.declared.events.Event.{Event}
 use Rattle.interleave_core.specs.declared.events.Event.TheVariants as event
 use Rattle.interleave_core.specs.declared.events.Shown.TheVariants.{Done, Fetched, Marked, Lifted, Planted, Closed}
@@ -89,40 +90,17 @@ abbrev pub play : World → ℕ → Parts → List LineView → Play
 play w n c [] = Bad n
 play w n c (line ∷ lines) = play_line (λ d. play w (n + 1) d lines) w n c lines (item_at w.job line.bytes)
 
-abbrev pub play_from : World → ℕ → List LineView → Option Parts → Play
-play_from w n lines None = Bad 0
-play_from w n lines (Some c) = play w n c lines
-
 -- a schedule behind the job's lines, of which there are so many; a job that hasn't one phase has none
 abbrev pub play_of : JobView → List Place → ℕ → List LineView → Play
 play_of j places count lines =
     let w : World = record { job = j; places = places } in
-    if nat_eq (length j.phases) 1 then play_from w (count + 1) lines (run_on w (first_parts w) (plants w)) else Bad 0
+    if nat_eq (length j.phases) 1 then option_map_or (λ (c : Parts). play w (count + 1) c lines) (run_on w (first_parts w) (plants w)) (Bad 0) else Bad 0
 
--- The events of a schedule that was played.
-
-abbrev pub one_event : Option Event → List Event
-one_event None = []
-one_event (Some e) = e ∷ []
-
--- the events that an item stands for: one, or those that GO has made
-abbrev pub item_events : World → Parts → Item → List Event
-item_events w c (Go t) = all_events w c t
-item_events w c item = one_event (item_event w c item)
-
-abbrev pub items_events : World → Parts → List Played → List Event
-items_events w c [] = []
-items_events w c (p ∷ ps) = item_events w c p.item ++ items_events w (after c (play_item w c p.item)) ps
-
--- The play is the core's run of the list of all events: the plants, after which the core stores these parts, and then those
--- of its items. With each task's log the core stands as it does after every list of events.
-pub record IsRun (w : World) (parts : Parts) (played : List Played) : Type 0 where
-  pub planted : Parts
-  pub begin : run_on w (first_parts w) (plants w) ≡ Some planted
-  pub core : CoreState
-  pub run : core_run w (plants w ++ items_events w planted played) ≡ Some core
-  pub stored : core.parts ≡ parts
-  pub stands : Stands w (plants w ++ items_events w planted played) core
+-- The play is a run of the core, whose first events are the plants. It stands as the core does after every list of events.
+pub record IsRun (w : World) (parts : Parts) : Type 0 where
+  pub events : List Event
+  pub run : run_on w (first_parts w) (plants w ++ events) ≡ Some parts
+  pub stands : Stands w (plants w ++ events) parts
 
 -- The text that tells a schedule that was played.
 

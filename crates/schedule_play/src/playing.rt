@@ -257,7 +257,7 @@ pub fn replay<'a>(
     ensures few { IfOk result (λ r. length r.played.items < 2 ^ 32) }
     ensures world { IfOk result (λ r. r.core.world ≡ world_of job.now tables.now) }
     ensures fits { IfOk result (λ r. Fits r.core.world r.core.parts) }
-    ensures run { IfOk result (λ r. IsRun (world_of job.now tables.now) r.core.parts r.played.items) }
+    ensures run { IfOk result (λ r. IsRun (world_of job.now tables.now) r.core.parts) }
     ensures bad { IfErr result (IsUnplayed (play_behind job.now tables.now count schedule.now)) }
 {
     if !has_one_phase(job) {

@@ -9,7 +9,7 @@ use Rattle.std.proofs.lemmas.List.Elements.{All-get_or, All-cons, All-same, All-
 use Rattle.cov_base.specs.declared.numbers.TaskNo.{TaskNo}
 use Rattle.cov_base.specs.declared.numbers.PlaceNo.{PlaceNo}
 use Rattle.module_area.specs.Meaning.{ControlledView, no_place, place_of}
-use Rattle.module_area.specs.MeaningOfRule.{IsPlan, IsControlled, has_task}
+use Rattle.module_area.specs.Rule.{IsPlan, IsControlled, has_task}
 use Rattle.module_area.specs.declared.places.Place.{Place}
 use Rattle.brk_table.specs.Places.{ArePlaces, IsPlace}
 use Rattle.session_book.specs.Meaning.{JobView, SessionView, TaskView, no_session, no_task, window_from, window_of, tasks_from, places_from, controlled_from, plan_view}

@@ -8,7 +8,7 @@ use Rattle.module_area.specs.declared.parties.View.{View}
 use Rattle.module_area.specs.declared.parties.Role.{Role}
 use Rattle.module_area.specs.declared.parties.Role.TheVariants.{Root, Task, Spent}
 use Rattle.module_area.specs.Meaning.{PlanView, original_at, kind_at, window_at, is_over}
-use Rattle.module_area.specs.MeaningOfRule.{IsPlan, Has, last_tag, window_tag, planted, IsForm, KeepsAs, Keeps, Held}
+use Rattle.module_area.specs.Rule.{IsPlan, Has, last_tag, window_tag, planted, IsForm, KeepsAs, Keeps, Held}
 use Rattle.module_area.specs.declared.tallies.Tally.{Tally}
 use Rattle.module_area.specs.Notes.{IsAnswer, IsFound, no_tally, keeps_as, keeps}
 use Rattle.module_area.proofs.FactLemmas.{is_full-true, within_kind}

@@ -16,7 +16,7 @@ use Rattle.cov_base.specs.declared.facts.Kind.TheVariants.{Straight, Conditional
 use Rattle.cov_base.specs.Meaning.{FactSet, has_fact, no_facts}
 use Rattle.module_area.specs.declared.parties.Role.TheVariants.{Root}
 use Rattle.module_area.specs.Meaning.{PlanView, original_at, kind_at, no_place}
-use Rattle.module_area.specs.MeaningOfRule.{IsPlan, has_task, blank, untouched}
+use Rattle.module_area.specs.Rule.{IsPlan, has_task, blank, untouched}
 use Rattle.module_area.proofs.BeginLemmas.{begins, begins_drained}
 use Rattle.shared_area.specs.Words.{cell_of, bit_of, has_bit, facts_of, set_word, base_of, word_count, front, task_word, cells_in, sets_in, numbers_in}
 use Rattle.shared_area.specs.Begin.{original_of, starting, AllFit, AreSets}

@@ -11,7 +11,7 @@ use Rattle.module_area.specs.declared.parties.Role.{Role}
 use Rattle.module_area.specs.declared.parties.Role.TheVariants.{Root, Task, Spent}
 use Rattle.module_area.specs.declared.tallies.Tally.{Tally}
 use Rattle.module_area.specs.Meaning.{PlanView, original_at, kind_at, is_over, is_controlled}
-use Rattle.module_area.specs.MeaningOfRule.{has_task, Has, add_if, last_tag, window_tag, fetching, marking, lifting, tagging, Keeps}
+use Rattle.module_area.specs.Rule.{has_task, Has, add_if, last_tag, window_tag, fetching, marking, lifting, tagging, Keeps}
 use Rattle.module_area.specs.Notes.{own_number, is_working}
 use Rattle.module_area.specs.Parties.{giving, role_task}
 use Rattle.shared_area.specs.declared.rule.NoSlot.{NoSlot}

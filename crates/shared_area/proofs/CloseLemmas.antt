@@ -14,7 +14,7 @@ use Rattle.module_area.specs.declared.parties.View.{View}
 use Rattle.module_area.specs.declared.parties.Role.TheVariants.{Root}
 use Rattle.module_area.specs.declared.tallies.Tally.{Tally}
 use Rattle.module_area.specs.Meaning.{PlanView, kind_at, window_at, FinalsView, set_at}
-use Rattle.module_area.specs.MeaningOfRule.{Has, last_tag, Held}
+use Rattle.module_area.specs.Rule.{Has, last_tag, Held}
 use Rattle.module_area.specs.Drained.{Drained}
 use Rattle.module_area.specs.Ended.{AreSettled, HasSets, HasTally}
 use Rattle.module_area.proofs.Indices.{index_below, same_tests}

@@ -11,7 +11,7 @@ use Rattle.module_area.specs.declared.parties.View.{View}
 use Rattle.module_area.specs.declared.parties.Role.{Role}
 use Rattle.module_area.specs.declared.parties.Role.TheVariants.{Root, Task, Spent}
 use Rattle.module_area.specs.Meaning.{PlanView, original_at, kind_at, window_at, is_over, count_below, count_pairs}
-use Rattle.module_area.specs.MeaningOfRule.{IsPlan, Has, times, last_tag, blank, untouched, planted, lifted, IsForm, Once, KeepsAs, IsRole, Owes, Held}
+use Rattle.module_area.specs.Rule.{IsPlan, Has, times, last_tag, blank, untouched, planted, lifted, IsForm, Once, KeepsAs, IsRole, Owes, Held}
 use Rattle.module_area.proofs.PlanLemmas.{no_controlled, over_window, over_cases, over_small, controller_of}
 use Rattle.module_area.proofs.Indices.{and_left, and_right}
 use Rattle.module_area.proofs.PartyLemmas.{total_only}

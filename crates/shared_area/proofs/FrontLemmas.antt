@@ -17,7 +17,7 @@ use Rattle.module_area.specs.declared.cells.Cell.{Cell}
 use Rattle.module_area.specs.declared.parties.View.{View}
 use Rattle.module_area.specs.declared.parties.Role.TheVariants.{Root, Task, Spent}
 use Rattle.module_area.specs.Meaning.{PlanView, original_at, kind_at, is_over, is_controlled}
-use Rattle.module_area.specs.MeaningOfRule.{has_task, Has, last_tag, window_tag, blank, is_breakpoint, fetching, marking, lifting, planting, Keeps, Held}
+use Rattle.module_area.specs.Rule.{has_task, Has, last_tag, window_tag, blank, is_breakpoint, fetching, marking, lifting, planting, Keeps, Held}
 use Rattle.module_area.specs.Parties.{closing, giving, newcomer, joining}
 use Rattle.module_area.specs.Drained.{Drained}
 use Rattle.module_area.proofs.ForkLemmas.{splits, joins}

@@ -9,7 +9,7 @@ use Rattle.module_area.specs.declared.parties.View.{View}
 use Rattle.module_area.specs.declared.parties.Role.TheVariants.{Task}
 use Rattle.module_area.specs.declared.tallies.Tally.{Tally}
 use Rattle.module_area.specs.Meaning.{PlanView, original_at, kind_at, tag_session}
-use Rattle.module_area.specs.MeaningOfRule.{is_controller, Has, add_if, is_lifted, window_tag, last_tag, fetching, marking, planting}
+use Rattle.module_area.specs.Rule.{is_controller, Has, add_if, is_lifted, window_tag, last_tag, fetching, marking, planting}
 use Rattle.module_area.specs.Parties.{chosen, closing, giving, newcomer, joining, bounding, role_task}
 use Rattle.module_area.specs.Notes.{no_tally, is_free_under, after_fetch, after_mark, after_plant, after_close, after_split, split_notes, after_boundary, after_join, bearer, same_bit, same_set}
 use Rattle.module_area.proofs.Indices.{and_left, and_right, and_both, same_tests}

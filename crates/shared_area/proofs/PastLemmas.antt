@@ -15,7 +15,7 @@ use Rattle.module_area.specs.declared.parties.View.{View}
 use Rattle.module_area.specs.declared.parties.Role.{Role}
 use Rattle.module_area.specs.declared.parties.Role.TheVariants.{Root, Task, Spent}
 use Rattle.module_area.specs.Meaning.{PlanView, ControlledView, is_controlled}
-use Rattle.module_area.specs.MeaningOfRule.{has_task, Has, window_tag, Held}
+use Rattle.module_area.specs.Rule.{has_task, Has, window_tag, Held}
 use Rattle.module_area.specs.Drained.{Noted, IsOverAt, IsClosed, IsPast, Drained}
 use Rattle.module_area.specs.Notes.{NotedView, is_own, is_at, is_closed, is_past, is_drained, is_final, no_tally}
 use Rattle.module_area.proofs.Indices.{and_left, and_right, and_both}

@@ -4,7 +4,7 @@ use Rattle.atomic_table.specs.Table.{State}
 use Rattle.cov_base.specs.declared.numbers.TaskNo.{TaskNo}
 use Rattle.module_area.specs.declared.parties.View.{View}
 use Rattle.module_area.specs.Meaning.{PlanView, tag_session}
-use Rattle.module_area.specs.MeaningOfRule.{last_tag, tagging, Held}
+use Rattle.module_area.specs.Rule.{last_tag, tagging, Held}
 use Rattle.module_area.specs.Parties.{role_task, bounding, noting}
 use Rattle.module_area.specs.Notes.{IsWord, no_tally}
 use Rattle.shared_area.specs.declared.rule.NoSlot.{NoSlot}

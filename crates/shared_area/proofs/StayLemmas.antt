@@ -3,7 +3,7 @@ use Rattle.std.proofs.Common.{◌≡◌, ℕ, ◌-◌, ◌*◌, ◌≤◌, Bool,
 use Rattle.module_area.specs.declared.cells.Cell.{Cell}
 use Rattle.module_area.specs.declared.parties.View.{View}
 use Rattle.module_area.specs.Meaning.{PlanView}
-use Rattle.module_area.specs.MeaningOfRule.{is_breakpoint}
+use Rattle.module_area.specs.Rule.{is_breakpoint}
 use Rattle.shared_area.specs.Passes.{IsWithin, HasWord}
 use Rattle.shared_area.specs.Rule.{Fetched}
 

@@ -13,7 +13,7 @@ use Rattle.cov_base.specs.Meaning.{has_fact, breakpoint}
 use Rattle.module_area.specs.declared.parties.View.{View}
 use Rattle.module_area.specs.declared.parties.Role.TheVariants.{Spent}
 use Rattle.module_area.specs.Meaning.{PlanView, original_at, kind_at, is_over, is_controlled}
-use Rattle.module_area.specs.MeaningOfRule.{Has, last_tag, window_tag, fetching, marking, lifting, planting, planted, lifted, Keeps}
+use Rattle.module_area.specs.Rule.{Has, last_tag, window_tag, fetching, marking, lifting, planting, planted, lifted, Keeps}
 use Rattle.module_area.specs.Parties.{closing}
 use Rattle.module_area.proofs.CellLemmas.{lifts, plants, closes}
 use Rattle.module_area.proofs.StepLemmas.{fetches, marks}

@@ -8,7 +8,7 @@ use Rattle.module_area.specs.declared.parties.Role.{Role}
 use Rattle.module_area.specs.declared.parties.Role.TheVariants.{Root, Task, Spent}
 use Rattle.cov_base.specs.Meaning.{FactSet}
 use Rattle.module_area.specs.Meaning.{PlanView, kind_at}
-use Rattle.module_area.specs.MeaningOfRule.{has_task, last_tag, Held}
+use Rattle.module_area.specs.Rule.{has_task, last_tag, Held}
 use Rattle.module_area.specs.Parties.{role_task, bounding, noting, reading}
 use Rattle.module_area.specs.Drained.{Noted, IsNumber, Drained}
 use Rattle.module_area.specs.Notes.{NotedView, IsFound, is_final, no_tally}

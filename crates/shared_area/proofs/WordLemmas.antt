@@ -9,9 +9,9 @@ use Rattle.cov_base.specs.declared.facts.Kind.{Kind}
 use Rattle.cov_base.specs.declared.facts.Kind.TheVariants.{Straight, Conditional}
 use Rattle.cov_base.specs.Meaning.{FactSet, has_fact, with_fact}
 use Rattle.cov_base.specs.declared.numbers.TaskNo.{TaskNo}
-use Rattle.cov_base.specs.MeaningOfFacts.{is_of_kind}
+use Rattle.cov_base.specs.FactKind.{is_of_kind}
 use Rattle.module_area.specs.declared.cells.Cell.{Cell}
-use Rattle.module_area.specs.MeaningOfRule.{lifted, closed, has_task, window_tag}
+use Rattle.module_area.specs.Rule.{lifted, closed, has_task, window_tag}
 use Rattle.module_area.specs.Meaning.{PlanView, tag_session}
 use Rattle.shared_area.specs.Words.{cell_of, word_of, closed_word_of, bit_of, has_bit, facts_of, session_words, set_word, base_of, word_count, position, task_word}
 use Rattle.shared_area.proofs.Picked.{tag_in, session_in, no_task, task_at}

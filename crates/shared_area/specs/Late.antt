@@ -2,9 +2,9 @@
 use Rattle.std.specs.Prelude.{◌≡◌, ℕ, ◌<◌, ◌^◌, true, Some, length}
 use Rattle.cov_base.specs.declared.facts.Fact.{Fact}
 use Rattle.cov_base.specs.declared.facts.Kind.{Kind}
-use Rattle.cov_base.specs.MeaningOfFacts.{is_of_kind}
+use Rattle.cov_base.specs.FactKind.{is_of_kind}
 use Rattle.module_area.specs.Meaning.{PlanView, kind_at, is_controlled}
-use Rattle.module_area.specs.MeaningOfRule.{is_controller}
+use Rattle.module_area.specs.Rule.{is_controller}
 use Rattle.module_area.specs.Notes.{Notes, calls, own_number, is_working}
 
 -- it holds of the places, or tasks, 0, 1 and 2

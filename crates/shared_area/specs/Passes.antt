@@ -3,7 +3,7 @@ use Rattle.std.specs.Prelude.{◌≡◌, ℕ, ◌*◌, ◌≤◌, true, [], Opti
 use Rattle.module_area.specs.declared.parties.Role.{Role}
 use Rattle.module_area.specs.declared.parties.Role.TheVariants.{Task}
 use Rattle.module_area.specs.Meaning.{PlanView}
-use Rattle.module_area.specs.MeaningOfRule.{has_task}
+use Rattle.module_area.specs.Rule.{has_task}
 use Rattle.module_area.specs.Notes.{Notes}
 use Rattle.shared_area.specs.declared.pass.SharedPass.{SharedPass}
 use Rattle.shared_area.specs.declared.cells.SharedCells.{SharedCells}

@@ -5,12 +5,12 @@ use lib.ListN.{get_elem?}
 use Rattle.atomic_table.specs.Table.{State}
 use Rattle.cov_base.specs.declared.facts.Fact.{Fact}
 use Rattle.cov_base.specs.Meaning.{FactSet, has_fact}
-use Rattle.cov_base.specs.MeaningOfFacts.{is_of_kind}
+use Rattle.cov_base.specs.FactKind.{is_of_kind}
 use Rattle.module_area.specs.declared.cells.Cell.{Cell}
 use Rattle.module_area.specs.declared.parties.Role.TheVariants.{Root, Task, Spent}
 use Rattle.module_area.specs.declared.parties.View.{View}
 use Rattle.module_area.specs.Meaning.{PlanView, kind_at}
-use Rattle.module_area.specs.MeaningOfRule.{last_tag, window_tag, fetching, marking, lifting, Held}
+use Rattle.module_area.specs.Rule.{last_tag, window_tag, fetching, marking, lifting, Held}
 use Rattle.module_area.specs.Parties.{reading}
 use Rattle.module_area.specs.Notes.{IsAnswer, IsFound, is_final, no_tally}
 use Rattle.module_area.specs.Drained.{Drained}

@@ -5,7 +5,7 @@ use Rattle.cov_base.specs.Meaning.{FactSet, same_fact}
 use Rattle.module_area.specs.declared.parties.Role.{Role}
 use Rattle.module_area.specs.declared.parties.Role.TheVariants.{Task}
 use Rattle.module_area.specs.declared.parties.View.{View}
-use Rattle.module_area.specs.MeaningOfRule.{last_tag}
+use Rattle.module_area.specs.Rule.{last_tag}
 use Rattle.module_area.specs.declared.tallies.Tally.{Tally}
 use Rattle.module_area.specs.Notes.{Notes, NotedView, same_set}
 

@@ -3,7 +3,7 @@ ghost use Rattle.std.specs.Prelude.{◌≡◌, ◌+◌, ◌*◌, ◌<◌, ◌≤
 ghost use Rattle.std.specs.Slots.{slots_items, slots_len, IsFull};
 ghost use Rattle.shared_area.specs.Words.{word_count};
 ghost use Rattle.shared_area.specs.Begin.{starting, original_of, AllFit, AreSets};
-ghost use Rattle.module_area.specs.MeaningOfRule.{IsPlan};
+ghost use Rattle.module_area.specs.Rule.{IsPlan};
 
 use crate::rule::NoSlot;
 use crate::words::{count, facts, word_at};

@@ -4,7 +4,7 @@ ghost use Rattle.std.specs.Prelude.{◌≡◌, ◌<◌, ◌^◌, ◌≤◌, true
 ghost use Rattle.std.specs.declared.option.Option.TheVariants.{Some};
 ghost use Rattle.cov_base.specs.declared.facts.Kind.TheVariants.{Straight};
 ghost use Rattle.module_area.specs.Meaning.{kind_at};
-ghost use Rattle.module_area.specs.MeaningOfRule.{has_task};
+ghost use Rattle.module_area.specs.Rule.{has_task};
 ghost use Rattle.shared_area.specs.Late.{IsTwice, IsFirst, IsPassFor, OfThree};
 ghost use Rattle.module_area.specs.Notes.{calls, own_number};
 

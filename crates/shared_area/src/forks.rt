@@ -1,7 +1,7 @@
 //! Passes split off for tasks and joined again, each by one load.
 ghost use Rattle.std.specs.Prelude.{◌≡◌, true, []};
 ghost use Rattle.module_area.specs.declared.parties.Role.TheVariants.{Root, Task};
-ghost use Rattle.module_area.specs.MeaningOfRule.{has_task, Has};
+ghost use Rattle.module_area.specs.Rule.{has_task, Has};
 ghost use Rattle.module_area.specs.Parties.{giving, newcomer, joining, role_task};
 
 use crate::cells::SharedCells;

@@ -17,7 +17,7 @@ pub struct AreaRule;
 
 impl TableRule<NoSlot, View, Snapshot<Plan>> for AreaRule {
     ghost use Rattle.shared_area.specs.Rule.{IsArea};
-    ghost use Rattle.module_area.specs.MeaningOfRule.{blank};
+    ghost use Rattle.module_area.specs.Rule.{blank};
     ghost use Rattle.module_area.specs.declared.parties.Role.TheVariants.{Root};
 
     ghost holds = { λ k. IsArea k.value };
@@ -135,7 +135,7 @@ impl<K: Forking> Split<View> for Fork<K> {
 }
 
 impl<K: Forking> Join<View> for Fork<K> {
-    ghost use Rattle.module_area.specs.MeaningOfRule.{blank};
+    ghost use Rattle.module_area.specs.Rule.{blank};
     ghost use Rattle.module_area.specs.Parties.{joining};
     ghost use Rattle.module_area.specs.declared.parties.Role.TheVariants.{Spent};
 

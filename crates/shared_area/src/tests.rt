@@ -4,9 +4,9 @@ ghost use Rattle.std.specs.Prelude.{◌≡◌, ◌+◌, ◌<◌, ◌≤◌, ◌^
 ghost use Rattle.std.specs.declared.option.Option.TheVariants.{Some, None};
 ghost use Rattle.cov_base.specs.declared.facts.Fact.TheVariants.{Went, Stayed};
 ghost use Rattle.cov_base.specs.declared.facts.Kind.TheVariants.{Straight, Conditional};
-ghost use Rattle.cov_base.specs.MeaningOfFacts.{is_of_kind};
+ghost use Rattle.cov_base.specs.FactKind.{is_of_kind};
 ghost use Rattle.module_area.specs.Meaning.{kind_at, window_at};
-ghost use Rattle.module_area.specs.MeaningOfRule.{has_task};
+ghost use Rattle.module_area.specs.Rule.{has_task};
 ghost use Rattle.module_area.specs.Notes.{calls, is_working};
 ghost use Rattle.shared_area.specs.Late.{HasKind, IsAtWork, MayVisit, OfThree};
 ghost use Rattle.shared_area.specs.Passes.{notes_of, IsPassOf};

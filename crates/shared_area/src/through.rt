@@ -3,7 +3,7 @@ ghost use Rattle.std.specs.Prelude.{◌≡◌, ◌+◌, ◌*◌, ◌<◌, ◌≤
 ghost use Rattle.std.specs.declared.option.Option.TheVariants.{Some};
 ghost use Rattle.cov_base.specs.declared.facts.Kind.TheVariants.{Straight};
 ghost use Rattle.module_area.specs.Meaning.{kind_at, is_controlled, is_over};
-ghost use Rattle.module_area.specs.MeaningOfRule.{has_task};
+ghost use Rattle.module_area.specs.Rule.{has_task};
 ghost use Rattle.shared_area.specs.Late.{IsTwice, HasKind, IsPassFor, IsAtWork, IsLater, OfThree};
 ghost use Rattle.module_area.specs.Notes.{calls, is_working, keeps};
 

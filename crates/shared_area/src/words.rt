@@ -1,6 +1,6 @@
 //! How a cell, the sets of facts and a task's number lie in words, and where the words lie.
 ghost use Rattle.std.specs.Prelude.{◌≡◌, ◌*◌, ◌/◌, ◌^◌, ◌<◌, ◌≤◌, true, length};
-ghost use Rattle.module_area.specs.MeaningOfRule.{IsPlan, has_task};
+ghost use Rattle.module_area.specs.Rule.{IsPlan, has_task};
 ghost use Rattle.shared_area.specs.Words.{cell_of, has_bit, facts_of, bit_of, word_of, closed_word_of, session_words, set_word, base_of, word_count, position, task_word};
 
 use cov_base::{Bits, Fact, Kind, PlaceNo, SessNo, TaskNo};

@@ -1,7 +1,7 @@
 //! What a trap does.
 ghost use Rattle.std.specs.Prelude.{◌≡◌, ◌+◌, ◌/◌, ◌%◌, ◌<◌, ◌^◌, length, true};
 ghost use Rattle.std.specs.declared.option.Option.TheVariants.{Some};
-ghost use Rattle.cov_base.specs.MeaningOfFacts.{is_of_kind};
+ghost use Rattle.cov_base.specs.FactKind.{is_of_kind};
 ghost use Rattle.module_area.specs.Meaning.{kind_at};
 ghost use Rattle.module_area.specs.Notes.{calls, is_working};
 ghost use Rattle.svc_monitor.specs.Settled.{Settles};

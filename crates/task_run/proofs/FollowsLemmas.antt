@@ -7,7 +7,7 @@ use Rattle.cov_base.specs.Meaning.{Visit}
 use Rattle.cov_base.specs.declared.facts.Fact.{Fact}
 use Rattle.cov_base.specs.declared.numbers.PlaceNo.{PlaceNo}
 use Rattle.cov_base.specs.declared.numbers.SessNo.{SessNo}
-use Rattle.module_area.specs.MeaningOfRule.{Has, IsPlan, IsControlled}
+use Rattle.module_area.specs.Rule.{Has, IsPlan, IsControlled}
 use Rattle.module_area.specs.Meaning.{PlanView, ControlledView, has_place, window_at, ControlView, places_in, places_under, to_open, control_after}
 use Rattle.module_area.specs.Notes.{Notes}
 use Rattle.module_area.specs.Control.{after_open, after_end, after_call}

@@ -3,7 +3,7 @@ use Rattle.std.proofs.Common.{◌≡◌, ℕ, ◌+◌, zero, suc, Bool, true, fa
 use Rattle.cov_base.specs.Meaning.{Memory, State, Visit}
 use Rattle.module_area.specs.Meaning.{ControlView, PlanView}
 use Rattle.module_area.specs.Notes.{Notes}
-use Rattle.module_area.specs.MeaningOfRule.{IsPlan}
+use Rattle.module_area.specs.Rule.{IsPlan}
 use Rattle.observed_step.proofs.CourseLemmas.{course-returned, course-none, course-more, course-ended}
 use Rattle.observed_step.specs.Meaning.{After, Tour, Turn, calls_of, course_on, step_behind, turn_of, visits_of, with_cpu}
 use Rattle.brk_table.specs.Meaning.{TablesView}

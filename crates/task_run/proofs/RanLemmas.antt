@@ -3,7 +3,7 @@ use Rattle.std.proofs.Common.{◌≡◌, ◌≤◌, None, List, sym, ap, subst, 
 use Rattle.s370_state.specs.declared.endings.Ending.{Ending}
 use Rattle.module_area.specs.Notes.{Notes}
 use Rattle.module_area.specs.Meaning.{PlanView}
-use Rattle.module_area.specs.MeaningOfRule.{IsPlan}
+use Rattle.module_area.specs.Rule.{IsPlan}
 use Rattle.module_area.specs.Tied.{IsTied}
 use Rattle.observed_step.specs.Meaning.{Turn, calls_of, visits_of}
 use Rattle.s370_exec.specs.Meaning.{Run, run_ended}

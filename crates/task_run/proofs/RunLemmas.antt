@@ -4,7 +4,7 @@ use Rattle.cov_base.specs.declared.limits.TheConstants.{PLACE_LIMIT}
 use Rattle.cov_base.specs.Meaning.{Memory, State, Visit}
 use Rattle.s370_exec.specs.Meaning.{call_of, solo_step}
 use Rattle.module_area.specs.Meaning.{PlanView, ControlView, control_after}
-use Rattle.module_area.specs.MeaningOfRule.{IsPlan, Has}
+use Rattle.module_area.specs.Rule.{IsPlan, Has}
 use Rattle.module_area.specs.Notes.{Notes, calls}
 use Rattle.s370_exec.proofs.TraceLemmas.{solo_step-visits}
 use Rattle.svc_monitor.specs.Answered.{Turns}

@@ -7,7 +7,7 @@ use Rattle.s370_decode.specs.Meaning.{ex, op_of}
 use Rattle.s370_decode.specs.declared.code.Code.{Code}
 use Rattle.s370_branch.specs.Meaning.{goes}
 use Rattle.s370_exec.specs.Meaning.{effect, updated, link_code, code_at, first_tests, rest_tests, subject_tests, is_execute, Step, solo_step, from_first, fetched, begun_step, stepped, visit, behind, subject_step, subject_fetched}
-use Rattle.module_area.specs.MeaningOfRule.{Has}
+use Rattle.module_area.specs.Rule.{Has}
 
 abbrev AreBehind : ℕ → List Visit → Type 0
 AreBehind n vs = (v : Visit) → Has v vs → v.before ≡ n

@@ -6,7 +6,7 @@ use Rattle.std.proofs.lemmas.Option.{same_Some}
 use Rattle.cov_base.specs.declared.numbers.PlaceNo.{PlaceNo}
 use Rattle.cov_base.specs.declared.numbers.SessNo.{SessNo}
 use Rattle.module_area.specs.Meaning.{PlanView, has_place, ControlView, places_under, to_open, opening, closing, control_after, has_session}
-use Rattle.module_area.specs.MeaningOfRule.{IsPlan}
+use Rattle.module_area.specs.Rule.{IsPlan}
 use Rattle.module_area.specs.Notes.{Notes}
 use Rattle.module_area.specs.Control.{after_plants, after_closes, after_open, after_end, after_call}
 use Rattle.module_area.specs.Tied.{IsTied}

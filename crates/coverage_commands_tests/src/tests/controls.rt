@@ -1,6 +1,6 @@
 //! A task opens and closes two sessions over three places: each place in order of number, and no session twice.
 ghost use Rattle.std.specs.Prelude.{◌≡◌, ℕ, ◌+◌, ◌<◌, ◌≤◌, ◌^◌, true, length, [], ◌∷◌, IfOk};
-ghost use Rattle.module_area.specs.MeaningOfRule.{has_task};
+ghost use Rattle.module_area.specs.Rule.{has_task};
 ghost use Rattle.module_area.specs.Notes.{calls};
 ghost use Rattle.module_area.specs.Tied.{IsTied};
 

@@ -4,7 +4,7 @@ ghost use Rattle.std.specs.declared.option.Option.TheVariants.{None};
 ghost use Rattle.brk_table.specs.Kept.{AreCodes};
 ghost use Rattle.module_area.specs.Notes.{calls, is_working};
 ghost use Rattle.module_area.specs.Meaning.{window_at};
-ghost use Rattle.module_area.specs.MeaningOfRule.{has_task};
+ghost use Rattle.module_area.specs.Rule.{has_task};
 ghost use Rattle.module_area.specs.Tied.{IsTied};
 ghost use Rattle.session_book.specs.JobView.{IsJob};
 

@@ -1,7 +1,7 @@
 use Rattle.std.proofs.Common.{◌≡◌, ◌<◌, ◌||◌, true, nat_eq, length, ap, ◌∙◌, arith}
 use Rattle.cov_base.specs.declared.facts.Fact.TheVariants.{Went}
 use Rattle.cov_base.specs.declared.facts.Kind.{Kind}
-use Rattle.cov_base.specs.MeaningOfFacts.{is_of_kind}
+use Rattle.cov_base.specs.FactKind.{is_of_kind}
 use Rattle.module_area.specs.Meaning.{PlanView, kind_at}
 use Rattle.count_session.specs.Notes.{CountNotes}
 use Rattle.count_session.specs.Passes.{notes_of, plan_in}

@@ -1,6 +1,5 @@
-use Rattle.std.proofs.Common.{rules, ◌≡◌, refl, sym, ap, ◌∙◌, subst}
-use Rattle.interleave_core.specs.World.{world_of}
-use Rattle.schedule_play.specs.Meaning.{IsRun, Whole, Bad}
+use Rattle.std.proofs.Common.{rules, ◌≡◌, refl, sym, ap, ◌∙◌}
+use Rattle.schedule_play.specs.Meaning.{Whole, Bad}
 use Rattle.schedule_play.specs.Play.{play_behind}
 use Rattle.coverage_commands.proofs.AnswerLemmas.{replayed, written_as, wanting_told, bad_schedule}
 use Rattle.command_words.specs.declared.words.Command.TheVariants.{Replay}
@@ -13,7 +12,7 @@ returns g c s a came =
     let same : c.deref-2.result.now ≡ c.in-Ok.replayed.played.items = search rules in
     replayed s c.args.job.now c.args.tables.now c.args.lines c.args.schedule.now c.in-Ok.replayed.core.parts c.deref-2.result.now a _ _ came c.requires.ready.matching
     (c.in-Ok.ensures.whole ∙ ap (Whole c.in-Ok.replayed.core.parts) (sym same))
-    (subst (IsRun (world_of c.args.job.now c.args.tables.now) c.in-Ok.replayed.core.parts) (sym same) c.in-Ok.ensures.run)
+    c.in-Ok.ensures.run
     (written_as _ _ _ c.replay_text.ensures.as_text c.status_of.ensures.whole c.status_of.ensures.failed)
 
 pub returns-in-Err-NoMemory : goal.returns-in-Err-NoMemory

@@ -2,7 +2,7 @@ use Rattle.std.proofs.Common.{◌≡◌, ℕ, true, List, ◌++◌, length, take
 use Rattle.std.proofs.lemmas.List.{with_items_is}
 use Rattle.cov_base.specs.declared.numbers.TaskNo.{TaskNo}
 use Rattle.module_area.specs.Notes.{Notes, bearer}
-use Rattle.module_area.specs.MeaningOfRule.{has_task}
+use Rattle.module_area.specs.Rule.{has_task}
 use Rattle.early_report.specs.DrainView.{DrainView}
 use Rattle.early_report.specs.Meaning.{others}
 use Rattle.early_report.specs.Drains.{IsDrainOf, Begins}

@@ -2,7 +2,7 @@ use Rattle.std.proofs.Common.{◌≡◌, ℕ, ◌+◌, ◌<◌, List, [], ◌∷
 use Rattle.std.proofs.lemmas.List.{append_assoc, append-nil, drop_all, length-map, take_all, take_more_set}
 use Rattle.cov_base.specs.declared.numbers.TaskNo.{TaskNo}
 use Rattle.module_area.specs.Notes.{Notes}
-use Rattle.module_area.specs.MeaningOfRule.{has_task}
+use Rattle.module_area.specs.Rule.{has_task}
 use Rattle.early_report.specs.Drains.{Begins}
 use Rattle.early_report.proofs.LookLemmas.{no_entry, same_task, tasks_stay, Begins-next, task_at}
 use Rattle.early_report.proofs.drains.note_all.Goals as goal

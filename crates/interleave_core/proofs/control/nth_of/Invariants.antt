@@ -1,5 +1,5 @@
 use Rattle.std.proofs.Common.{◌≡◌, slice_get, drop}
-use Rattle.interleave_core.specs.Meaning.{controlled_by}
+use Rattle.interleave_core.specs.Views.{controlled_by}
 use Rattle.interleave_core.proofs.control.nth_of.Given as goal
 
 abbrev pub invariant-loop-c : goal.invariant-loop-c

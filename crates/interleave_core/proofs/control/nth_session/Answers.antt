@@ -1,5 +1,5 @@
 use Rattle.std.proofs.Common.{slice_get, ◌∙◌, ap}
-use Rattle.interleave_core.specs.Meaning.{controlled_by}
+use Rattle.interleave_core.specs.Views.{controlled_by}
 use Rattle.interleave_core.proofs.ControlLemmas.{session_room}
 use Rattle.interleave_core.proofs.control.nth_session.Goals as goal
 

@@ -1,10 +1,12 @@
-use Rattle.std.proofs.Common.{rules, refl, ◌∙◌, subst, ◌≡◌, ◌*◌, map, replicate, length, []}
-use Rattle.module_area.specs.MeaningOfRule.{IsPlan}
+use Rattle.std.proofs.Common.{rules, refl, sym, ◌∙◌, subst, ◌≡◌, ◌*◌, map, replicate, length, []}
+use Rattle.module_area.specs.Rule.{IsPlan}
 use Rattle.cov_base.specs.Meaning.{no_facts}
 use Rattle.module_area.specs.Meaning.{fresh_word}
 use Rattle.interleave_core.specs.Meaning.{World, plan_in}
-use Rattle.interleave_core.specs.MeaningOfLogs.{core_start}
+use Rattle.interleave_core.specs.CoreState.{core_start}
+use Rattle.interleave_core.specs.MeaningOfEvents.{Stands}
 use Rattle.interleave_core.proofs.Follows.{run_stands}
+use Rattle.interleave_core.proofs.Ruled.{run_keeps}
 use Rattle.interleave_core.proofs.Starts.{IsCore-first, parts_are}
 use Rattle.interleave_core.proofs.interleaving.start.Goals as goal
 
@@ -18,7 +20,12 @@ returns-clause-parts c =
 pub returns-clause-stands : goal.returns-clause-stands
 returns-clause-stands c =
     let w : World = record { job = c.args.job.now; places = c.args.tables.now.places } in
-    run_stands w (core_start w) [] c.fits.ensures.world refl
+    subst (Stands w []) (sym (returns-clause-parts c)) (run_stands w (core_start w) [] c.fits.ensures.world refl)
+
+pub returns-clause-rule : goal.returns-clause-rule
+returns-clause-rule c =
+    let w : World = record { job = c.args.job.now; places = c.args.tables.now.places } in
+    run_keeps w (core_start w) [] c.fits.ensures.world refl
 
 pub invariant_of-core : goal.invariant_of-core
 invariant_of-core c =

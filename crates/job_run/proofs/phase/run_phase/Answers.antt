@@ -3,7 +3,7 @@ use Rattle.cov_base.specs.Meaning.{Visit}
 use Rattle.cov_base.specs.declared.numbers.TaskNo.{TaskNo}
 use Rattle.module_area.specs.Notes.{Notes, calls}
 use Rattle.module_area.specs.Meaning.{PlanView}
-use Rattle.module_area.specs.MeaningOfRule.{IsPlan, has_task}
+use Rattle.module_area.specs.Rule.{IsPlan, has_task}
 use Rattle.planter.specs.Planted.{planted_notes}
 use Rattle.task_run.specs.Meaning.{Walk}
 use Rattle.job_run.specs.Areas.{GrowsBy}

@@ -2,7 +2,7 @@ use Rattle.std.proofs.Common.{◌≡◌, List, ℕ, [], sym, ◌∙◌, subst}
 use Rattle.atomic_table.specs.Table.{opening}
 use Rattle.module_area.specs.Meaning.{PlanView}
 use Rattle.module_area.specs.declared.parties.Role.TheVariants.{Root}
-use Rattle.module_area.specs.MeaningOfRule.{blank}
+use Rattle.module_area.specs.Rule.{blank}
 use Rattle.shared_area.specs.Begin.{starting}
 use Rattle.shared_area.specs.Rule.{IsArea}
 use Rattle.shared_area.proofs.BeginLemmas.{begins_area}

@@ -1,5 +1,5 @@
 use Rattle.std.proofs.Common.{◌≡◌, ◌+◌, ◌-◌, true, length, drop}
-use Rattle.module_area.specs.MeaningOfRule.{has_task}
+use Rattle.module_area.specs.Rule.{has_task}
 use Rattle.shared_area.specs.Words.{position}
 use Rattle.shared_area.proofs.words.index_of.Given as goal
 

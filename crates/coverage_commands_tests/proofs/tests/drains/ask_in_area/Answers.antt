@@ -1,7 +1,7 @@
 use Rattle.std.proofs.Common.{◌≡◌, ℕ, ◌∙◌, ap}
 use Rattle.module_area.specs.Meaning.{ControlView, first_control, PlanView}
 use Rattle.module_area.specs.Notes.{Notes, after_split, split_notes}
-use Rattle.module_area.specs.MeaningOfRule.{IsPlan}
+use Rattle.module_area.specs.Rule.{IsPlan}
 use Rattle.module_area.specs.Tied.{IsTied}
 use Rattle.module_area.proofs.TiedLemmas.{first_tied}
 use Rattle.coverage_commands_tests.proofs.tests.drains.ask_in_area.Goals as goal

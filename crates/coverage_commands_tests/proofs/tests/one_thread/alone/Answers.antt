@@ -1,7 +1,7 @@
 use Rattle.std.proofs.Common.{◌≡◌, ℕ, true, false, [], refl, sym, ◌∙◌}
 use Rattle.module_area.specs.Meaning.{ControlView, first_control, PlanView}
 use Rattle.module_area.specs.Notes.{Notes, split_notes}
-use Rattle.module_area.specs.MeaningOfRule.{IsPlan, is_controller}
+use Rattle.module_area.specs.Rule.{IsPlan, is_controller}
 use Rattle.module_area.specs.Tied.{IsTied}
 use Rattle.module_area.proofs.TiedLemmas.{first_tied}
 use Rattle.coverage_commands_tests.proofs.tests.one_thread.alone.Goals as goal

@@ -1,5 +1,5 @@
 use Rattle.std.proofs.Common.{◌≡◌, ◌<◌, sym, ◌∙◌, refl, subst}
-use Rattle.module_area.specs.MeaningOfRule.{IsPlan}
+use Rattle.module_area.specs.Rule.{IsPlan}
 use Rattle.interleave_core.specs.Meaning.{World, plan_in, most_events}
 use Rattle.interleave_core.proofs.GoingLemmas.{left, gone_by, next_less, go_next}
 use Rattle.interleave_core.proofs.interleaving.Core.go_on.Goals as goal

@@ -2,7 +2,7 @@ use Rattle.std.proofs.Common.{ℕ, [], List, refl, sym, ◌∙◌, ap, subst}
 use Rattle.cov_base.specs.declared.numbers.TaskNo.{TaskNo}
 use Rattle.module_area.specs.Notes.{Notes, split_notes}
 use Rattle.module_area.specs.Meaning.{PlanView}
-use Rattle.module_area.specs.MeaningOfRule.{has_task}
+use Rattle.module_area.specs.Rule.{has_task}
 use Rattle.job_run.specs.Crews.{PhaseView, phase_at, tasks_before}
 use Rattle.job_run.specs.Passes.{HasJoined}
 use Rattle.job_run.proofs.BeforeLemmas.{before_one, is_among, not_before}

@@ -2,7 +2,7 @@ use Rattle.std.proofs.Common.{sym, subst}
 use Rattle.atomic_table.specs.Table.{Joins}
 use Rattle.module_area.specs.declared.parties.Role.TheVariants.{Spent}
 use Rattle.module_area.specs.Meaning.{PlanView}
-use Rattle.module_area.specs.MeaningOfRule.{blank}
+use Rattle.module_area.specs.Rule.{blank}
 use Rattle.module_area.specs.Parties.{joining, role_task}
 use Rattle.shared_area.specs.Rule.{IsArea}
 use Rattle.shared_area.proofs.CallLemmas.{some_word}

@@ -1,5 +1,5 @@
 use Rattle.std.proofs.Common.{◌≡◌, ◌+◌, ◌<◌, Bool, true, false, ℕ, if◌then◌else◌, ap, ◌∙◌, subst, arith}
-use Rattle.module_area.specs.MeaningOfRule.{last_tag}
+use Rattle.module_area.specs.Rule.{last_tag}
 use Rattle.module_area.specs.Parties.{role_task, bounding}
 use Rattle.shared_area.specs.Passes.{HasWord}
 use Rattle.shared_area.specs.Told.{notes_in}

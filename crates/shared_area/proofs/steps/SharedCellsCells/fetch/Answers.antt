@@ -1,5 +1,5 @@
 use Rattle.std.proofs.Common.{◌+◌, refl, ap, ◌∙◌}
-use Rattle.module_area.specs.MeaningOfRule.{fetching}
+use Rattle.module_area.specs.Rule.{fetching}
 use Rattle.shared_area.specs.Told.{notes_in}
 use Rattle.shared_area.proofs.CallLemmas.{working_task, fetch_live}
 use Rattle.shared_area.proofs.NoteLemmas.{fetch_notes}

@@ -1,6 +1,6 @@
 use Rattle.std.proofs.Common.{◌≡◌, ◌+◌, Bool, true, false, nat_eq, refl, ap, ◌∙◌, arith}
 use mir.Val.{bool_byte}
-use Rattle.module_area.specs.MeaningOfRule.{lifting}
+use Rattle.module_area.specs.Rule.{lifting}
 use Rattle.shared_area.specs.Told.{notes_in}
 use Rattle.shared_area.specs.Words.{word_of}
 use Rattle.shared_area.proofs.CallLemmas.{one_of, cell_there, lift_at, lifted_is, lift_live}

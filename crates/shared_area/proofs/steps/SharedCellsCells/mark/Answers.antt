@@ -1,5 +1,5 @@
 use Rattle.std.proofs.Common.{◌+◌, refl, ap, ◌∙◌}
-use Rattle.module_area.specs.MeaningOfRule.{marking}
+use Rattle.module_area.specs.Rule.{marking}
 use Rattle.shared_area.specs.Told.{notes_in}
 use Rattle.shared_area.proofs.CallLemmas.{mark_live}
 use Rattle.shared_area.proofs.NoteLemmas.{mark_notes}

@@ -1,5 +1,5 @@
 use Rattle.std.proofs.Common.{◌+◌, refl, ap, ◌∙◌, arith}
-use Rattle.module_area.specs.MeaningOfRule.{planting, window_tag}
+use Rattle.module_area.specs.Rule.{planting, window_tag}
 use Rattle.shared_area.specs.Told.{notes_in}
 use Rattle.shared_area.proofs.AnswerLemmas.{keeps_there}
 use Rattle.shared_area.proofs.CallLemmas.{cell_there, plant_at, planted_is, tag_live}

@@ -1,4 +1,4 @@
--- What the claim of the program says by this crate's rule: what holds of an area at every moment.
+-- The rule of an area: what holds of its cells, its sets and all parties' notes at every moment.
 use Rattle.std.specs.Prelude.{◌≡◌, ◌≢◌, ℕ, ◌<◌, ◌≤◌, Bool, true, ◌&&◌, nat_eq, List, [], length, AllPairs, All, Contains, ◌⊎◌, ◌+◌, ◌-◌, ◌*◌, ◌%◌, false, not, if◌then◌else◌, Some, None, ◌∷◌, ◌++◌}
 use Rattle.std.specs.List.{list_any}
 use Rattle.cov_base.specs.Meaning.{breakpoint, kind_of, FactSet, with_fact, is_full, has_fact}
@@ -13,7 +13,7 @@ use Rattle.module_area.specs.declared.parties.Role.TheVariants.{Task, Root, Spen
 use Rattle.module_area.specs.declared.parties.View.{View}
 use mathlib.Core.Option.{some}
 use lib.ListN.{get_elem?}
-use Rattle.cov_base.specs.MeaningOfFacts.{is_of_kind}
+use Rattle.cov_base.specs.FactKind.{is_of_kind}
 
 -- A phase's plan: the places, what observes each of them, and the tasks.
 

@@ -1,4 +1,4 @@
--- What the claim of the program says of the facts of each kind.
+-- The facts of each kind.
 use Rattle.std.specs.Prelude.{Bool, true, false}
 use Rattle.cov_base.specs.declared.facts.Fact.{Fact}
 use Rattle.cov_base.specs.declared.facts.Fact.TheVariants.{Ran}
