@@ -1,19 +1,15 @@
 -- What the claim of the program says by this crate's clauses.
-use Rattle.std.specs.Prelude.{ℕ, ◌+◌, if◌then◌else◌, ◌==◌, Option, Some, None, slice_set}
-use Rattle.cov_base.specs.Meaning.{Memory, half_at, wrap, CpuView, Machine, State}
+use Rattle.std.specs.Prelude.{ℕ, if◌then◌else◌, ◌==◌, Option, Some, None, slice_set}
+use Rattle.cov_base.specs.Meaning.{Memory, CpuView, Machine, State}
 use Rattle.s370_state.specs.declared.endings.Ending.{Ending}
 use Rattle.s370_state.specs.declared.endings.Ending.TheVariants.{Abend, BadSvc}
 use Rattle.s370_state.specs.declared.endings.Next.{Next}
 use Rattle.s370_state.specs.declared.endings.Next.TheVariants.{On, Ended}
-use Rattle.s370_exec.specs.Meaning.{call_address, is_execute, run_ended}
-use Rattle.observed_step.specs.Meaning.{After, Behind, Tour, calls_of, course_on, visits_of}
-use Rattle.task_run.specs.Meaning.{Course}
+use Rattle.s370_exec.specs.Meaning.{call_address}
+use Rattle.observed_step.specs.Meaning.{After, Behind, Tour, behind_call, course_on}
+use Rattle.task_run.specs.Meaning.{Course, toured}
 
 -- A task with an exit for its program interruptions, which SVC 6 names.
-
--- the address behind the call that the state's instruction is, or executes: that of EX, which has 4 bytes, or of SVC
-abbrev pub behind_call : Memory → Machine → ℕ
-behind_call m s = wrap (s.cpu.ia + (if is_execute (half_at m s.bytes s.cpu.ia) then 4 else 2))
 
 -- the exit that an address names: zero names none
 abbrev pub exit_named : ℕ → Option ℕ
@@ -57,9 +53,5 @@ by_next exit m s (Ended e) = by_ending exit m s e
 abbrev pub exit_tour : Memory → ℕ → State → Tour
 exit_tour m budget s = course_on by_next m budget None s
 
--- its run and its calls, whatever the plan
 abbrev pub with_exits : Course
-with_exits = record {
-  run = λ plan m budget s. let t = exit_tour m budget s in run_ended t.ending t.state (visits_of t.turns);
-  calls = λ plan m budget s. calls_of (exit_tour m budget s).turns;
-}
+with_exits = toured exit_tour

@@ -2,13 +2,13 @@
 ghost use Rattle.std.specs.Prelude.{◌≡◌, None, []};
 ghost use Rattle.s370_state.specs.Meaning.{machine_of};
 ghost use Rattle.s370_exec.specs.Meaning.{call_address, first_tests};
-ghost use Rattle.check_exits.specs.Meaning.{at_exit, behind_call, exit_named};
+ghost use Rattle.observed_step.specs.Meaning.{behind_call};
+ghost use Rattle.check_exits.specs.Meaning.{at_exit, exit_named};
 ghost use Rattle.check_exits.specs.ExitWay.{exit_way};
 
 use brk_table::Tables;
 use cov_base::Addr;
-use observed_step::{Bench, Hook, Observer};
-use s370_exec::is_execute;
+use observed_step::{Bench, Hook, Observer, behind_call};
 use s370_state::{Cpu, Ending, Next, Space};
 
 /// Where a task goes on at its next program interruption, which ends it where there is none.
@@ -30,13 +30,8 @@ fn pass_call<P: Space>(cpu: &mut Cpu, space: &P)
     requires { first_tests (P.memory space.now) cpu.old.ia ≡ None }
     ensures { cpu.new ≡ record cpu.old { ia = behind_call (P.memory space.now) (machine_of cpu.old (P.bytes space.now)) } }
 {
-    let at = cpu.at();
-    // There is a halfword: it was read as the call or as the EX.
-    let size = match space.first(at) {
-        Ok(half) if is_execute(half) => 4,
-        _ => 2,
-    };
-    cpu.go(at.plus(size));
+    let behind = behind_call(cpu, space);
+    cpu.go(behind);
 }
 
 /// Goes on at the exit, with the code in register 0 and in register 1 the address at which the task has ended.

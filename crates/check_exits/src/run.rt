@@ -5,7 +5,7 @@ ghost use Rattle.module_area.specs.Notes.{calls, is_working};
 ghost use Rattle.module_area.specs.Tied.{IsTied};
 ghost use Rattle.observed_step.specs.Steps.{memory_at};
 ghost use Rattle.svc_monitor.specs.First.{IsOver};
-ghost use Rattle.task_run.specs.Ran.{RanAs};
+ghost use Rattle.task_run.specs.Ran.{RanOver};
 ghost use Rattle.check_exits.specs.Meaning.{with_exits};
 
 use crate::exits::Exit;
@@ -35,7 +35,7 @@ pub fn run_under<C: Cells>(
     requires first { (task.old.bench.control.next ≡ 0) × (task.old.bench.control.opened ≡ None) }
     requires no_exit { exit.old.at ≡ None }
     ensures area { C.is_pass cells.now pass.new }
-    ensures ran { RanAs with_exits (C.plan cells.now) (C.notes pass.old) (C.notes pass.new) task.old task.new result }
+    ensures ran { RanOver C.Cells with_exits cells.now pass.old pass.new task.old task.new result }
 {
     // Read for what every plan keeps.
     let _ = plan.places_len();

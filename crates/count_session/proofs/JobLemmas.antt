@@ -5,7 +5,7 @@ use Rattle.std.proofs.lemmas.List.{length-map}
 use Rattle.cov_base.specs.declared.facts.Fact.{Fact}
 use Rattle.module_area.specs.Meaning.{place_of, window_at}
 use Rattle.module_area.specs.declared.places.Place.{Place}
-use Rattle.task_run.specs.Meaning.{solo}
+use Rattle.task_services.specs.Meaning.{course_of}
 use Rattle.session_book.specs.Meaning.{JobView, session_of, no_session, observes, traces_from, plan_view}
 use Rattle.session_book.specs.JobView.{IsJob}
 use Rattle.session_book.specs.Sessions.{AreWhole}
@@ -31,21 +31,21 @@ is_count j places counts job whole a s p f some most l = by_module (list_any (na
         let phase : ℕ = (session_of j s).phase in
         let seen : observes phase (place_of places p).«module» (session_of j s) ≡ b = ap (λ (q : Bool). q && list_any (nat_eq (place_of places p).«module») (session_of j s).modules) (eq-eqb phase phase refl) ∙ e in
         ap (λ (q : Bool). if q then count_in (get_or counts phase []) p f else 0) e
-        ∙ (same_if b (count_in (get_or counts phase []) p f) (count_of_all (place_of places p) f (traces_from 0 j.tasks phase (trace_by solo j places)))
+        ∙ (same_if b (count_in (get_or counts phase []) p f) (count_of_all (place_of places p) f (traces_from 0 j.tasks phase (trace_by (course_of j.services) j places)))
         (λ yes_b. let w : window_at (plan_view j places phase) p ≡ s = window_at-session j places s p job (whole (s - 1) no_session (omega (arith, some, most))) some most l (seen ∙ yes_b) in
         (a.1 phase [] (phase_in j s job some most)).each p f l (omega (arith, w, some)))
-        ∙ sym (ap (λ (q : Bool). if q then count_of_all (place_of places p) f (traces_from 0 j.tasks phase (trace_by solo j places)) else 0) seen))
+        ∙ sym (ap (λ (q : Bool). if q then count_of_all (place_of places p) f (traces_from 0 j.tasks phase (trace_by (course_of j.services) j places)) else 0) seen))
       where
         same_if : (b : Bool) (x y : ℕ) → (b ≡ true → x ≡ y) → (if b then x else 0) ≡ (if b then y else 0)
         same_if true x y h = h refl
         same_if false x y h = refl
 
-pub counted_job : (j : JobView) (places : List Place) (slots : List CountSlot) (tasks : List Done) (counts : List (List PlaceCount)) → IsJob j → AreWhole j → AreCounted j places (length j.phases) counts → AreRun solo j places (length j.phases) slots → tasks ≡ dones slots →
+pub counted_job : (j : JobView) (places : List Place) (slots : List CountSlot) (tasks : List Done) (counts : List (List PlaceCount)) → IsJob j → AreWhole j → AreCounted j places (length j.phases) counts → AreRun (course_of j.services) j places (length j.phases) slots → tasks ≡ dones slots →
     IsCountedJob j places tasks (record { job = j; places = places; phases = counts })
 counted_job j places slots tasks counts job whole a ended moved = subst (λ (ds : List Done). IsCountedJob j places ds (record { job = j; places = places; phases = counts })) (sym moved) record {
   count = length-map slots (λ (s : CountSlot). s.done) ∙ ended.count;
-  are_results = λ t l. (all_ended solo j places slots t job ended l).0;
-  filled = λ t l. (all_ended solo j places slots t job ended l).1;
+  are_results = λ t l. (all_ended (course_of j.services) j places slots t job ended l).0;
+  filled = λ t l. (all_ended (course_of j.services) j places slots t job ended l).1;
   job = refl;
   size = refl;
   are_counts = λ s p f some most l. is_count j places counts job whole a s p f some most l;

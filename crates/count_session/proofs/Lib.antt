@@ -5,7 +5,6 @@ pub mod JobLemmas
 pub mod NoteLemmas
 pub mod PassLemmas
 pub mod PlantLemmas
-pub mod RunLemmas
 pub mod StepLemmas
 pub mod ViewLemmas
 pub mod WordLemmas

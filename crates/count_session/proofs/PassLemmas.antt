@@ -12,7 +12,7 @@ use Rattle.cov_base.specs.declared.shortage.NoMemory.{NoMemory}
 use Rattle.module_area.specs.Meaning.{PlanView, place_of, window_at}
 use Rattle.module_area.specs.declared.places.Place.{Place}
 use Rattle.observed_step.specs.Steps.{memory_at}
-use Rattle.task_run.specs.Meaning.{solo}
+use Rattle.task_services.specs.Meaning.{course_of}
 use Rattle.session_book.specs.Meaning.{JobView, task_of, traces_from, plan_view}
 use Rattle.job_run.specs.Crews.{all_tasks, phase_at}
 use Rattle.job_run.specs.Meaning.{result_of_run, trace_by}
@@ -32,10 +32,10 @@ use Rattle.count_session.specs.declared.counts.PlaceCount.{PlaceCount}
 use Rattle.count_session.specs.declared.pass.CountPass.{CountPass}
 
 -- what a task has come to
-pub has_ended : (plan : PlanView) (j : JobView) (places : List Place) (t : ℕ) (d e : Done) → plan ≡ plan_view j places (task_of j t).phase → HasNotRun j places t d → done_result e ≡ result_of_run (own_run solo plan d) →
-    length e.task.bench.space.bytes ≡ (memory_at d.task.bench).private → IsEnded solo j places t e
+pub has_ended : (plan : PlanView) (j : JobView) (places : List Place) (t : ℕ) (d e : Done) → plan ≡ plan_view j places (task_of j t).phase → HasNotRun j places t d → done_result e ≡ result_of_run (own_run (course_of j.services) plan d) →
+    length e.task.bench.space.bytes ≡ (memory_at d.task.bench).private → IsEnded (course_of j.services) j places t e
 has_ended plan j places t d e of b result filled = record {
-  result = result ∙ ap result_of_run (begun_run solo plan j places t d of b);
+  result = result ∙ ap result_of_run (begun_run (course_of j.services) plan j places t d of b);
   filled = filled ∙ (ap (λ (m : Memory). m.private) b.begun.memory ∙ private_of (task_of j t).private j.images places);
 }
 
@@ -56,7 +56,7 @@ counted_there cells visits old new fresh area a = record {
 
 -- the counts of one task more
 pub count_more : (j : JobView) (places : List Place) (place : Place) (f : Fact) (ts : List TaskNo) (t : ℕ) →
-    count_of_all place f (traces_of j places (ts ++ record { 0 = t } ∷ [])) ≡ count_of_all place f (traces_of j places ts) + count_at place f (trace_by solo j places t)
+    count_of_all place f (traces_of j places (ts ++ record { 0 = t } ∷ [])) ≡ count_of_all place f (traces_of j places ts) + count_at place f (trace_by (course_of j.services) j places t)
 count_more j places place f [] t = omega arith
 count_more j places place f (u ∷ ts) t = let rest = count_more j places place f ts t in omega (arith, rest)
 
@@ -83,7 +83,7 @@ is_counted j places phase cells root counts of joined has =
           let some : 0 < window_at (plan_in cells) p = subst (λ (q : PlanView). 0 < window_at q p) (sym of) w in
           has.added p f there ∙ (joined.added p f there some
           ∙ (ap (λ (ps : List Place). count_of_all (place_of ps p) f (traces_of j places (all_tasks (phase_at j phase)))) same
-          ∙ ap (λ (ts : List (List Visit)). count_of_all (place_of places p) f ts) (traces-map 0 j.tasks phase (trace_by solo j places))));
+          ∙ ap (λ (ts : List (List Visit)). count_of_all (place_of places p) f ts) (traces-map 0 j.tasks phase (trace_by (course_of j.services) j places))));
     }
 
 -- ---- a job from its first phase to its counts

@@ -9,8 +9,14 @@ use Rattle.count_session.specs.Passes.{IsPassOf, notes_of, plan_in}
 use Rattle.count_session.specs.declared.cells.CountCells.{CountCells}
 use Rattle.count_session.specs.declared.pass.CountPass.{CountPass}
 use Rattle.count_session.specs.Meaning.{count_at}
-use Rattle.task_run.specs.Meaning.{solo}
-use Rattle.job_run.specs.Tasks.{own_run}
+use Rattle.observed_step.specs.Steps.{memory_at, stands}
+use Rattle.s370_state.specs.declared.endings.Ending.{Ending}
+use Rattle.session_book.specs.declared.services.Service.{Service}
+use Rattle.task_run.specs.Ran.{run_from}
+use Rattle.task_run.specs.declared.tasks.Task.{Task}
+use Rattle.task_services.specs.Meaning.{course_of}
+use Rattle.job_run.specs.Meaning.{result_of_run}
+use Rattle.job_run.specs.Tasks.{done_result, own_run}
 use Rattle.job_run.specs.declared.outcome.Done.{Done}
 
 -- where the place is planted
@@ -40,6 +46,17 @@ HasAdded cells tables old visits new = Adds (plan_in cells) (notes_of cells old)
 abbrev pub IsLeft : CountCells → CountPass → ControlView → Option ℕ → CountPass → ControlView → Type 0
 IsLeft cells old control call new after = (new ≡ old) × (after ≡ control)
 
--- from the old to the new notes it has added what the task's run alone gives
-abbrev pub AddsRun : CountCells → Done → CountPass → CountPass → Type 0
-AddsRun cells done old new = Adds (plan_in cells) (notes_of cells old) (notes_of cells new) (own_run solo (plan_in cells) done).trace
+-- The task has run to this end with these services, and the pass has added what its run gives.
+pub record RanCounted (services : Option (List Service)) (cells : CountCells) (p q : CountPass) (old new : Task) (result : Ending) : Type 0 where
+  pub memory : memory_at new.bench ≡ memory_at old.bench
+  pub budget : new.budget ≡ old.budget
+  pub done : new.done ≤ old.budget
+  pub ending : result ≡ (run_from (course_of services) (plan_in cells) old).ending
+  pub state : stands new.bench new.done ≡ (run_from (course_of services) (plan_in cells) old).state
+  pub adds : Adds (plan_in cells) (notes_of cells p) (notes_of cells q) (run_from (course_of services) (plan_in cells) old).trace
+
+-- so a task of a job with these services, whose storage is still there
+pub record HasRunCounted (services : Option (List Service)) (cells : CountCells) (p q : CountPass) (old new : Done) : Type 0 where
+  pub result : done_result new ≡ result_of_run (own_run (course_of services) (plan_in cells) old)
+  pub filled : length new.task.bench.space.bytes ≡ (memory_at old.task.bench).private
+  pub adds : Adds (plan_in cells) (notes_of cells p) (notes_of cells q) (own_run (course_of services) (plan_in cells) old).trace

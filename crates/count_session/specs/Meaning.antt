@@ -4,7 +4,7 @@ use Rattle.cov_base.specs.Meaning.{same_fact, fact_of, Visit}
 use Rattle.cov_base.specs.declared.facts.Fact.{Fact}
 use Rattle.module_area.specs.declared.places.Place.{Place}
 use Rattle.module_area.specs.Meaning.{executes, place_of}
-use Rattle.task_run.specs.Meaning.{solo}
+use Rattle.task_services.specs.Meaning.{course_of}
 use Rattle.session_book.specs.Meaning.{JobView, session_of, observes, traces_from}
 use Rattle.job_run.specs.Meaning.{trace_by}
 
@@ -32,4 +32,4 @@ count_of_all place f (trace ∷ traces) = count_at place f trace + count_of_all 
 abbrev pub session_count : JobView → List Place → ℕ → ℕ → Fact → ℕ
 session_count j places s p f =
     if observes (session_of j s).phase (place_of places p).module (session_of j s)
-    then count_of_all (place_of places p) f (traces_from 0 j.tasks (session_of j s).phase (trace_by solo j places)) else 0
+    then count_of_all (place_of places p) f (traces_from 0 j.tasks (session_of j s).phase (trace_by (course_of j.services) j places)) else 0

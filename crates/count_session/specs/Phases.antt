@@ -5,11 +5,13 @@ use Rattle.cov_base.specs.declared.facts.Fact.{Fact}
 use Rattle.cov_base.specs.declared.numbers.TaskNo.{TaskNo}
 use Rattle.module_area.specs.Meaning.{place_of, window_at}
 use Rattle.module_area.specs.declared.places.Place.{Place}
-use Rattle.task_run.specs.Meaning.{solo}
+use Rattle.task_services.specs.Meaning.{course_of}
 use Rattle.session_book.specs.Meaning.{JobView, plan_view, traces_from}
 use Rattle.job_run.specs.Meaning.{trace_by}
+use Rattle.job_run.specs.Tasks.{AreRun}
 use Rattle.count_session.specs.Meaning.{count_at, count_of_all}
 use Rattle.count_session.specs.Passes.{IsPassOf, notes_of, plan_in}
+use Rattle.count_session.specs.Slots.{CountSlot}
 use Rattle.count_session.specs.Tallied.{count_in}
 use Rattle.count_session.specs.declared.cells.CountCells.{CountCells}
 use Rattle.count_session.specs.declared.counts.PlaceCount.{PlaceCount}
@@ -17,7 +19,7 @@ use Rattle.count_session.specs.declared.pass.CountPass.{CountPass}
 
 -- the traces of these tasks
 abbrev pub traces_of : JobView → List Place → List TaskNo → List (List Visit)
-traces_of j places tasks = map (λ (t : TaskNo). trace_by solo j places t.0) tasks
+traces_of j places tasks = map (λ (t : TaskNo). trace_by (course_of j.services) j places t.0) tasks
 
 -- the pass was split off from a root that has planted every place with a window, and has counted nothing
 pub record IsFresh (cells : CountCells) (p : CountPass) : Type 0 where
@@ -48,7 +50,11 @@ pub record HasJoined (cells : CountCells) (j : JobView) (places : List Place) (r
 -- a phase's counts at the places of its sessions are those of the traces of its tasks
 pub record IsCounted (j : JobView) (places : List Place) (phase : ℕ) (counts : List PlaceCount) : Type 0 where
   pub size : length counts ≡ length places
-  pub each : (p : ℕ) (f : Fact) → p < length places → 0 < window_at (plan_view j places phase) p → count_in counts p f ≡ count_of_all (place_of places p) f (traces_from 0 j.tasks phase (trace_by solo j places))
+  pub each : (p : ℕ) (f : Fact) → p < length places → 0 < window_at (plan_view j places phase) p → count_in counts p f ≡ count_of_all (place_of places p) f (traces_from 0 j.tasks phase (trace_by (course_of j.services) j places))
 
 abbrev pub AreCounted : JobView → List Place → ℕ → List (List PlaceCount) → Type 0
 AreCounted j places phases counts = (length counts ≡ phases) × ((k : ℕ) (d : List PlaceCount) → k < phases → IsCounted j places k (get_or counts k d))
+
+-- the tasks of the earlier phases have run, with the job's services, and the others are as they begin
+abbrev pub HaveRun : JobView → List Place → ℕ → List CountSlot → Type 0
+HaveRun j places phase slots = AreRun (course_of j.services) j places phase slots

@@ -4,11 +4,9 @@ ghost use Rattle.std.specs.List.{list_any};
 ghost use Rattle.brk_table.specs.Kept.{AreCodes};
 ghost use Rattle.session_book.specs.JobView.{IsJob};
 ghost use Rattle.session_book.specs.Sessions.{AreWhole};
-ghost use Rattle.task_run.specs.Meaning.{solo};
 ghost use Rattle.job_run.specs.Slots.{AreEmpty};
-ghost use Rattle.job_run.specs.Tasks.{AreRun};
 ghost use Rattle.count_session.specs.Job.{CountsView, IsCountedJob, count_of};
-ghost use Rattle.count_session.specs.Phases.{AreCounted};
+ghost use Rattle.count_session.specs.Phases.{AreCounted, HaveRun};
 
 use crate::counts::Counts;
 use crate::pass::CountSlot;
@@ -137,11 +135,11 @@ fn count_phases<'a, T: Threads + Sync, G: Gate + Sync>(
     slots: &mut [CountSlot<'a>],
 ) -> Result<Vec<Counts>, NoMemory>
     requires codes { AreCodes job.now.images tables.now }
-    requires tasks { AreRun solo job.now tables.now.places 0 slots.old }
+    requires tasks { HaveRun job.now tables.now.places 0 slots.old }
     requires empty { AreEmpty slots.old }
     ensures job { IsJob job.now }
     ensures counts { IfOk result (λ v. AreCounted job.now tables.now.places (length job.now.phases) v.items) }
-    ensures tasks { IfOk result (λ _. AreRun solo job.now tables.now.places (length job.now.phases) slots.new) }
+    ensures tasks { IfOk result (λ _. HaveRun job.now tables.now.places (length job.now.phases) slots.new) }
 {
     let count = job.phase_count();
     let mut phases = Vec::with_capacity(alloc, count as usize)?;
@@ -153,8 +151,8 @@ fn count_phases<'a, T: Threads + Sync, G: Gate + Sync>(
 }
 
 /// Runs the job with breakpoints that stay, phase after phase, the tasks of a phase at once, each once it has passed the
-/// gate: each task ends as it does alone, and the counts of each session at its modules' places are those of its executions. No session of the job has a
-/// controller; the tables are those of the job's listings, with the instructions of their modules. All tasks take their
+/// gate: each task ends as it does with the job's services, alone where it has none, and the counts of each session at its
+/// modules' places are those of its executions. No session of the job has a controller; the tables are those of the job's listings, with the instructions of their modules. All tasks take their
 /// memory before the first phase runs, and a phase takes all but its area's end before it plants.
 pub fn count_job<'a, T: Threads + Wait + Sync, G: Gate + Sync>(
     rt: &T,

@@ -4,14 +4,11 @@ ghost use Rattle.brk_table.specs.Kept.{AreCodes};
 ghost use Rattle.session_book.specs.JobView.{IsJob};
 ghost use Rattle.observed_step.specs.Steps.{memory_at};
 ghost use Rattle.svc_monitor.specs.First.{IsOver};
-ghost use Rattle.task_run.specs.Meaning.{solo};
-ghost use Rattle.job_run.specs.Meaning.{result_of_run};
 ghost use Rattle.job_run.specs.Slots.{AreEmpty};
-ghost use Rattle.job_run.specs.Tasks.{AreRun, done_result, own_run};
-ghost use Rattle.count_session.specs.Counting.{AddsRun};
+ghost use Rattle.count_session.specs.Counting.{HasRunCounted};
 ghost use Rattle.count_session.specs.Notes.{root_notes, OnlyPlants, PlantsAt, HasPlanted};
 ghost use Rattle.count_session.specs.Passes.{IsPassOf, notes_of, plan_in};
-ghost use Rattle.count_session.specs.Phases.{IsCounted};
+ghost use Rattle.count_session.specs.Phases.{HaveRun, IsCounted};
 
 use crate::cells::CountCells;
 use crate::counts::Counts;
@@ -59,18 +56,22 @@ fn plant_all(cells: &CountCells, root: &mut CountPass, plan: &Plan)
     }
 }
 
-/// Runs the task, with its pass.
-fn run_one<'a>(cells: &CountCells, pass: &mut CountPass, tables: &Tables, done: &mut Done<'a>)
+/// Runs the task of the job, with its pass.
+fn run_one<'a>(
+    cells: &CountCells,
+    pass: &mut CountPass,
+    job: &Job,
+    tables: &Tables,
+    done: &mut Done<'a>,
+)
     requires area { IsPassOf cells.now pass.old }
     requires over { IsOver (plan_in cells.now) (memory_at done.old.task.bench) tables.now }
     requires task { (notes_of cells.now pass.old).root ≡ false }
     requires nothing { (notes_of cells.now pass.old).adds ≡ 0 }
     ensures area { IsPassOf cells.now pass.new }
-    ensures result { done_result done.new ≡ result_of_run (own_run solo (plan_in cells.now) done.old) }
-    ensures filled { length done.new.task.bench.space.bytes ≡ (memory_at done.old.task.bench).private }
-    ensures adds { AddsRun cells.now done.old pass.old pass.new }
+    ensures ran { HasRunCounted job.now.services cells.now pass.old pass.new done.old done.new }
 {
-    let ending = run_counted(cells, pass, tables, &mut done.task);
+    let ending = run_counted(cells, pass, tables, job.services(), &mut done.task);
     done.ending = Some(ending);
 }
 
@@ -85,7 +86,7 @@ pub(crate) struct CountCrew<'a> {
 
 impl<'a> Crew for CountCrew<'a> {
     ghost use Rattle.session_book.specs.Meaning.{plan_view};
-    ghost use Rattle.task_run.specs.Meaning.{solo};
+    ghost use Rattle.task_services.specs.Meaning.{course_of};
     ghost use Rattle.job_run.specs.Crews.{phase_at};
     ghost use Rattle.job_run.specs.Passes.{IsOfPhase};
     ghost use Rattle.job_run.specs.Meaning.{trace_by};
@@ -107,9 +108,9 @@ impl<'a> Crew for CountCrew<'a> {
 
     ghost CanRun = { λ c t d extra. HasNotRun c.job.now c.tables.now.places t d };
 
-    ghost HasRun = { λ c t. HasCounted c.cells.now (trace_by solo c.job.now c.tables.now.places t) };
+    ghost HasRun = { λ c t. HasCounted c.cells.now (trace_by (course_of c.job.now.services) c.job.now c.tables.now.places t) };
 
-    ghost Ends = { λ c t old new extra pass. IsEnded solo c.job.now c.tables.now.places t new };
+    ghost Ends = { λ c t old new extra pass. IsEnded (course_of c.job.now.services) c.job.now c.tables.now.places t new };
 
     ghost Knows = { λ c root pass. Unit {0} };
 
@@ -118,7 +119,7 @@ impl<'a> Crew for CountCrew<'a> {
     }
 
     fn run(&self, task: TaskNo, pass: &mut CountPass, extra: &mut Option<()>, done: &mut Done<'_>) {
-        run_one(self.cells, pass, self.tables, done);
+        run_one(self.cells, pass, self.job, self.tables, done);
     }
 
     fn join(&self, root: &mut CountPass, task: TaskNo, pass: CountPass) {
@@ -139,10 +140,10 @@ pub(crate) fn count_phase<'a, T: Threads + Sync, G: Gate + Sync>(
     requires job { IsJob job.now }
     requires phase { phase < length job.now.phases }
     requires codes { AreCodes job.now.images tables.now }
-    requires tasks { AreRun solo job.now tables.now.places phase slots.old }
+    requires tasks { HaveRun job.now tables.now.places phase slots.old }
     requires empty { AreEmpty slots.old }
     ensures counts { IfOk result (IsCounted job.now tables.now.places phase) }
-    ensures tasks { IfOk result (λ _. AreRun solo job.now tables.now.places (phase + 1) slots.new) }
+    ensures tasks { IfOk result (λ _. HaveRun job.now tables.now.places (phase + 1) slots.new) }
     ensures empty { IfOk result (λ _. AreEmpty slots.new) }
 {
     let plan = plan_of(alloc, job, tables, phase)?;

@@ -4,7 +4,7 @@ ghost use Rattle.std.specs.List.{list_any};
 ghost use Rattle.module_area.specs.Notes.{is_working, own_number};
 ghost use Rattle.module_area.specs.Rule.{IsPlan};
 ghost use Rattle.task_run.specs.Meaning.{solo, is_opened};
-ghost use Rattle.task_run.specs.Ran.{RanAs};
+ghost use Rattle.task_run.specs.Ran.{RanOver};
 ghost use Rattle.early_report.specs.DrainView.{DrainView};
 ghost use Rattle.early_report.specs.Drains.{IsDrainOf, IsLooking};
 ghost use Rattle.early_report.specs.Followed.{IsReady, IsAsked, Went, HaveGone, first_drains, is_begun, closed_since};
@@ -207,7 +207,7 @@ fn run_steps<C: Drains>(
     requires start { IsAtStart (C.plan cells.now) plan.now (C.notes pass.old) tables.now task.old drains.old.items }
     ensures area { C.is_pass cells.now pass.new }
     ensures is_plan { IsPlan plan.now }
-    ensures ran { RanAs solo (C.plan cells.now) (C.notes pass.old) (C.notes pass.new) task.old task.new result }
+    ensures ran { RanOver C.Cells solo cells.now pass.old pass.new task.old task.new result }
     ensures working { is_working (C.notes pass.new) ≡ true }
     ensures number { own_number (C.notes pass.new) < 2 ^ 62 }
     ensures sessions { sessions_in drains.new.items ≡ sessions_in drains.old.items }
@@ -248,7 +248,7 @@ fn run_early<C: Drains>(
     requires plan { C.plan cells.now ≡ plan.now }
     requires start { IsAtStart (C.plan cells.now) plan.now (C.notes pass.old) tables.now task.old drains.old.items }
     ensures area { C.is_pass cells.now pass.new }
-    ensures ran { RanAs solo (C.plan cells.now) (C.notes pass.old) (C.notes pass.new) task.old task.new result }
+    ensures ran { RanOver C.Cells solo cells.now pass.old pass.new task.old task.new result }
     ensures told { HasToldSettled (C.plan cells.now) (C.notes pass.new) plan.now task.old task.new drains.new.items }
     ensures ended { is_working (C.notes pass.new) ≡ false }
 {

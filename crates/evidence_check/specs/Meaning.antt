@@ -8,7 +8,7 @@ use Rattle.s370_exec.specs.Meaning.{solo_run}
 use Rattle.module_area.specs.Meaning.{executes, place_of, fact_count}
 use Rattle.module_area.specs.declared.places.Place.{Place}
 use Rattle.brk_table.specs.Meaning.{TablesView, first_place, place_count}
-use Rattle.session_book.specs.Meaning.{JobView, TaskView, task_of, session_of, first_state, session_set}
+use Rattle.session_book.specs.Meaning.{JobView, TaskView, task_memory, task_of, session_of, first_state, session_set}
 use Rattle.evidence_check.specs.declared.firsts.First.{First}
 use Rattle.byteorder.specs.Endian.{big_bytes, big_number}
 use Rattle.cov_base.specs.declared.facts.Fact.TheVariants.{Ran, Went, Stayed}
@@ -17,7 +17,6 @@ use Rattle.marks_file.specs.Meaning.{MarkedView, Field, field}
 use Rattle.marks_file.specs.declared.marks.MarkedPlace.{MarkedPlace}
 use Rattle.cov_base.specs.declared.limits.TheConstants.{BUDGET_LIMIT}
 use Rattle.session_marks.specs.Meaning.{session_marks}
-use Rattle.task_alone.specs.Meaning.{task_memory}
 
 -- The first visit that shows a fact at a place.
 

@@ -10,8 +10,7 @@ use Rattle.svc_monitor.specs.Meaning.{at_places, facts_under}
 use Rattle.task_run.specs.Meaning.{tag_by, Walk, Course, solo, walk, IsBetween, least_set, most_set, opened_places, closed_places}
 use Rattle.s370_exec.specs.Meaning.{Run}
 use Rattle.module_area.specs.declared.places.Place.{Place}
-use Rattle.brk_table.specs.Meaning.{memory_of}
-use Rattle.session_book.specs.Meaning.{JobView, ResultView, task_of, session_of, first_state, session_set, traces_from, plan_view}
+use Rattle.session_book.specs.Meaning.{JobView, ResultView, of_task, session_of, session_set, traces_from, plan_view}
 
 -- What one area is left with after its phase's tasks have run over its plan.
 
@@ -72,13 +71,12 @@ pub record EndsArea (plan : PlanView) (walks : ℕ → Walk) (trace : List Visit
 
 -- The run of each task, by the course that tasks take, and what the areas of a job's run are left with.
 
--- a task's run, over its phase's plan and modules that were never planted
 abbrev pub run_by : Course → JobView → List Place → ℕ → Run
-run_by course j places t = course.run (plan_view j places (task_of j t).phase) (memory_of (task_of j t).private j.images places) (task_of j t).budget (first_state (task_of j t))
+run_by course j places t = of_task course.run j places t
 
 -- its visits, and the supervisor calls of its instructions
 abbrev pub walk_by : Course → JobView → List Place → ℕ → Walk
-walk_by course j places t = walk course (plan_view j places (task_of j t).phase) (memory_of (task_of j t).private j.images places) (task_of j t).budget (first_state (task_of j t))
+walk_by course j places t = of_task (walk course) j places t
 
 abbrev pub trace_by : Course → JobView → List Place → ℕ → List Visit
 trace_by course j places t = (run_by course j places t).trace

@@ -9,6 +9,7 @@ use Rattle.job_run.specs.Meaning.{result_by, set_by, least_by, most_by, no_final
 use Rattle.job_run.specs.Sets.{SetsView, set_in}
 use Rattle.job_run.specs.Tasks.{Ends, IsEquipped, results_of}
 use Rattle.job_run.specs.declared.outcome.Done.{Done}
+use Rattle.job_run.specs.declared.outcome.Outcome.{Outcome}
 
 -- Each task's result is that of its run. At each place that a session observes its set is that of its executions where
 -- the session is whole, and lies between its bounds where a task controls it.
@@ -23,6 +24,9 @@ pub record IsOutcomeBy (course : Course) (j : JobView) (places : List Place) (ta
   pub are_bounded : (s p by : ℕ) → 0 < s → s ≤ length j.sessions → p < length places →
       (session_of j s).by ≡ Some by → observes (session_of j s).phase (place_of places p).module (session_of j s) ≡ true → IsBetween (least_by course j places by s p) (most_by course j places by s p) (set_in sets s p)
   pub within : (s p : ℕ) → 0 < s → s ≤ length j.sessions → is_within (place_of places p).kind (set_in sets s p) ≡ true
+
+abbrev pub ComesTo : Course → JobView → List Place → Outcome → Type 0
+ComesTo course j places outcome = IsOutcomeBy course j places outcome.tasks.items outcome.sets
 
 -- where each task runs as it does alone
 abbrev pub IsOutcome : JobView → List Place → List Done → SetsView → Type 0

@@ -1,6 +1,7 @@
 -- The run of each task, by the course that tasks take, and what the areas of a job's run are left with.
 use Rattle.std.specs.Prelude.{◌≡◌, ℕ, List}
 use Rattle.module_area.specs.Meaning.{FinalsView}
+use Rattle.module_area.specs.declared.areas.Areas as areas
 use Rattle.module_area.specs.declared.places.Place.{Place}
 use Rattle.module_area.specs.declared.tallies.Tally.{Tally}
 use Rattle.brk_table.specs.Meaning.{TablesView}
@@ -8,6 +9,7 @@ use Rattle.session_book.specs.Meaning.{JobView, plan_view}
 use Rattle.task_run.specs.Meaning.{Course, solo}
 use Rattle.job_run.specs.Areas.{GrowsBy}
 use Rattle.job_run.specs.Meaning.{walk_by, phase_trace, Account, HasRunBy}
+use Rattle.job_run.specs.declared.outcome.Outcome.{Outcome}
 
 -- and these are the entries that `finals` has gained, one for each phase
 pub record HasLeftBy (course : Course) (j : JobView) (places : List Place) (before after : Account) (sets : List FinalsView) : Type 0 where
@@ -15,14 +17,18 @@ pub record HasLeftBy (course : Course) (j : JobView) (places : List Place) (befo
   pub are : sets ≡ ran.sets
 
 -- so a phase, from the one state of what keeps these lists to the other
-abbrev pub Grows : {S : Type 0} → Course → JobView → TablesView → ℕ → (S → List Tally) → (S → List FinalsView) → S → S → FinalsView → Type 0
-Grows course j tables phase ledger finals old new f =
-    GrowsBy (plan_view j tables.places phase) (walk_by course j tables.places) (phase_trace course j tables.places phase) (ledger old) (ledger new) (finals old) (finals new) f
+abbrev pub Grows : {A C P : Type 0} → areas.Ghosts A C P → Course → JobView → TablesView → ℕ → A → A → FinalsView → Type 0
+Grows by course j tables phase old new f =
+    GrowsBy (plan_view j tables.places phase) (walk_by course j tables.places) (phase_trace course j tables.places phase) (by.ledger old) (by.ledger new) (by.finals old) (by.finals new) f
 
 -- and so all phases, where it has made so many areas
-abbrev pub GrowsTo : {S : Type 0} → Course → JobView → TablesView → (S → List Tally) → (S → List FinalsView) → (S → ℕ) → S → S → List FinalsView → Type 0
-GrowsTo course j tables ledger finals made old new sets = HasLeftBy course j tables.places
-    (record { ledger = ledger old; finals = finals old; made = made old }) (record { ledger = ledger new; finals = finals new; made = made new }) sets
+abbrev pub GrowsTo : {A C P : Type 0} → areas.Ghosts A C P → Course → JobView → TablesView → A → A → List FinalsView → Type 0
+GrowsTo by course j tables old new sets = HasLeftBy course j tables.places
+    (record { ledger = by.ledger old; finals = by.finals old; made = by.made old }) (record { ledger = by.ledger new; finals = by.finals new; made = by.made new }) sets
+
+-- to the sets of this outcome
+abbrev pub HasGrown : {A C P : Type 0} → areas.Ghosts A C P → Course → JobView → TablesView → A → A → Outcome → Type 0
+HasGrown by course j tables old new outcome = GrowsTo by course j tables old new outcome.sets.finals
 
 abbrev pub HasLeft : JobView → List Place → Account → Account → List FinalsView → Type 0
 HasLeft j places before after sets = HasLeftBy solo j places before after sets

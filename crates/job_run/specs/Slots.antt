@@ -37,6 +37,10 @@ pub record HaveExtras {P E : Type 0} (ends : Ends E) (j : JobView) (places : Lis
 pub record HaveAllExtras {P E : Type 0} (ends : Ends E) (j : JobView) (places : List Place) (next : ℕ) (finals : List FinalsView) (slots : List (Slot P E)) : Type 0 where
   pub each : (phase : ℕ) → phase < next → HaveExtras ends j places phase (set_at (get_or finals phase no_finals)) slots
 
+-- and those of the tasks of all phases
+abbrev pub HaveJobExtras : {P E : Type 0} → Ends E → JobView → List Place → List FinalsView → List (Slot P E) → Type 0
+HaveJobExtras ends j places finals slots = HaveAllExtras ends j places (length j.phases) finals slots
+
 -- the tasks of other phases, and their extras, are as before
 pub record KeepsOthers {P E : Type 0} (j : JobView) (phase : ℕ) (old new : List (Slot P E)) : Type 0 where
   pub count : length new ≡ length old

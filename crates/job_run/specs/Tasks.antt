@@ -80,3 +80,7 @@ pub record AreRun {P E : Type 0} (course : Course) (j : JobView) (places : List 
   pub count : length slots ≡ length j.tasks
   pub ended : (t : ℕ) (d : Slot P E) → t < length slots → has_run j phase t ≡ true → IsEnded course j places t (get_or slots t d).done
   pub begun : (t : ℕ) (d : Slot P E) → t < length slots → has_run j phase t ≡ false → HasNotRun j places t (get_or slots t d).done
+
+-- the tasks of all phases have run
+abbrev pub AllRun : {P E : Type 0} → Course → JobView → List Place → List (Slot P E) → Type 0
+AllRun course j places slots = AreRun course j places (length j.phases) slots

@@ -4,10 +4,10 @@ ghost use Rattle.brk_table.specs.Kept.{AreCodes};
 ghost use Rattle.module_area.specs.Meaning.{set_at};
 ghost use Rattle.session_book.specs.JobView.{IsJob};
 ghost use Rattle.task_run.specs.Meaning.{solo};
-ghost use Rattle.job_run.specs.Outcomes.{AreExtras, IsOutcome, IsOutcomeBy};
-ghost use Rattle.job_run.specs.Runs.{Grows, GrowsTo};
-ghost use Rattle.job_run.specs.Slots.{AreEmpty, HaveAllExtras, HaveExtras, KeepsOthers};
-ghost use Rattle.job_run.specs.Tasks.{AreRun};
+ghost use Rattle.job_run.specs.Outcomes.{AreExtras, ComesTo};
+ghost use Rattle.job_run.specs.Runs.{Grows, GrowsTo, HasGrown};
+ghost use Rattle.job_run.specs.Slots.{AreEmpty, HaveExtras, HaveJobExtras, KeepsOthers};
+ghost use Rattle.job_run.specs.Tasks.{AllRun, AreRun};
 
 use crate::area::{AreaCrew, equip_all};
 use crate::crew::run_crew;
@@ -44,7 +44,7 @@ fn run_phase<'a, T: Threads + Sync, A: Areas, G: Gate + Sync, R: Runner<A::C> + 
     requires codes { AreCodes job.now.images tables.now }
     requires empty { AreEmpty slots.old }
     ensures made { IfOk result (λ _. A.made areas.new ≡ A.made areas.old + 1) }
-    ensures grown { IfOk result (λ f. Grows (R.course runner.now) job.now tables.now phase A.ledger A.finals areas.old areas.new f) }
+    ensures grown { IfOk result (λ f. Grows A.Areas (R.course runner.now) job.now tables.now phase areas.old areas.new f) }
     ensures tasks { IfOk result (λ _. AreRun (R.course runner.now) job.now tables.now.places (phase + 1) slots.new) }
     ensures extras { IfOk result (λ f. HaveExtras R.ends job.now tables.now.places phase (set_at f) slots.new) }
     ensures others { IfOk result (λ _. KeepsOthers job.now phase slots.old slots.new) }
@@ -86,9 +86,9 @@ fn run_phases<'a, T: Threads + Sync, A: Areas, G: Gate + Sync, R: Runner<A::C> +
     requires codes { AreCodes job.now.images tables.now }
     requires empty { AreEmpty slots.old }
     ensures job { IsJob job.now }
-    ensures left { IfOk result (λ v. GrowsTo (R.course runner.now) job.now tables.now A.ledger A.finals A.made areas.old areas.new v.items) }
-    ensures tasks { IfOk result (λ _. AreRun (R.course runner.now) job.now tables.now.places (length job.now.phases) slots.new) }
-    ensures extras { IfOk result (λ v. HaveAllExtras R.ends job.now tables.now.places (length job.now.phases) v.items slots.new) }
+    ensures left { IfOk result (λ v. GrowsTo A.Areas (R.course runner.now) job.now tables.now areas.old areas.new v.items) }
+    ensures tasks { IfOk result (λ _. AllRun (R.course runner.now) job.now tables.now.places slots.new) }
+    ensures extras { IfOk result (λ v. HaveJobExtras R.ends job.now tables.now.places v.items slots.new) }
 {
     let count = job.phase_count();
     let mut finals = Vec::with_capacity(alloc, count as usize)?;
@@ -117,8 +117,8 @@ pub fn run_job_with<'a, T: Threads + Wait + Sync, A: Areas, G: Gate + Sync, R: R
 ) -> Result<(Outcome<'a>, Vec<R::Extra>), NoMemory>
     requires tables { AreCodes job.now.images tables.now }
     requires room { A.made areas.old < 2 ^ 61 }
-    ensures left { IfOk result (λ r. GrowsTo (R.course runner.now) job.now tables.now A.ledger A.finals A.made areas.old areas.new r.0.sets.finals) }
-    ensures outcome { IfOk result (λ r. IsOutcomeBy (R.course runner.now) job.now tables.now.places r.0.tasks.items r.0.sets) }
+    ensures left { IfOk result (λ r. HasGrown A.Areas (R.course runner.now) job.now tables.now areas.old areas.new r.0) }
+    ensures outcome { IfOk result (λ r. ComesTo (R.course runner.now) job.now tables.now.places r.0) }
     ensures extras { IfOk result (λ r. AreExtras R.ends job.now tables.now.places r.0.tasks.items r.0.sets r.1.items) }
 {
     let tasks = Vec::with_capacity(alloc, job.task_count())?;
@@ -141,8 +141,8 @@ pub fn run_job<'a, T: Threads + Wait + Sync, A: Areas, G: Gate + Sync>(
 ) -> Result<Outcome<'a>, NoMemory>
     requires tables { AreCodes job.now.images tables.now }
     requires room { A.made areas.old < 2 ^ 61 }
-    ensures left { IfOk result (λ o. GrowsTo solo job.now tables.now A.ledger A.finals A.made areas.old areas.new o.sets.finals) }
-    ensures outcome { IfOk result (λ o. IsOutcome job.now tables.now.places o.tasks.items o.sets) }
+    ensures left { IfOk result (λ o. HasGrown A.Areas solo job.now tables.now areas.old areas.new o) }
+    ensures outcome { IfOk result (λ o. ComesTo solo job.now tables.now.places o) }
 {
     let runner = PlainRunner;
     let (outcome, _) = run_job_with(rt, alloc, areas, gate, &runner, job, tables)?;

@@ -7,3 +7,4 @@ pub mod KeptCode
 pub mod PlaceLemmas
 pub mod RunLemmas
 pub mod SoloLemmas
+pub mod SvcLemmas

@@ -4,12 +4,14 @@
 #![tactic(auto)]
 
 mod bench;
+mod calls;
 mod hook;
 mod instruction;
 mod observer;
 mod task;
 
 pub use bench::Bench;
+pub use calls::behind_call;
 pub use hook::{Hook, NoHook};
 pub use instruction::step;
 pub use observer::{Observer, Sight};

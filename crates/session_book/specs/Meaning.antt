@@ -1,6 +1,6 @@
 -- What the claim of the program says by this crate's clauses.
 use Rattle.std.specs.Prelude.{ℕ, Option, option_map, position, List, replicate, slice_set, ◌+◌, ◌-◌, Bool, ◌&&◌, nat_eq, if◌then◌else◌, Some, None, is_some, not, [], ◌∷◌, length, get_or, map}
-use Rattle.cov_base.specs.Meaning.{ImageView, CpuView, State, Visit, FactSet}
+use Rattle.cov_base.specs.Meaning.{ImageView, CpuView, Memory, State, Visit, FactSet}
 use Rattle.cov_base.specs.declared.constants.TheConstants.{RETURN_ADDRESS}
 use Rattle.module_area.specs.Meaning.{DataView, first_bytes, facts_of_all, PlanView, ControlledView}
 use Rattle.s370_state.specs.declared.endings.Ending.{Ending}
@@ -10,6 +10,7 @@ use Rattle.cov_base.specs.declared.numbers.TaskNo.{TaskNo}
 use Rattle.cov_base.specs.declared.numbers.PlaceNo.{PlaceNo}
 use Rattle.module_area.specs.declared.places.Place.{Place}
 use Rattle.s370_state.specs.Meaning.{fresh_io}
+use Rattle.brk_table.specs.Meaning.{memory_of}
 use Rattle.session_book.specs.declared.services.Service.{Service}
 
 -- A job as lists, wherever memory holds it, and the rules that its values keep.
@@ -129,6 +130,14 @@ first_state t = record {
   io = fresh_io t.input t.room;
   done = 0;
 }
+
+-- what task t sees: modules that were never planted
+abbrev pub task_memory : JobView → List Place → ℕ → Memory
+task_memory j places t = memory_of (task_of j t).private j.images places
+
+-- what this is of task t as it begins: over its phase's plan, in its memory, with its budget, from its first state
+abbrev pub of_task : {A : Type 0} → (PlanView → Memory → ℕ → State → A) → JobView → List Place → ℕ → A
+of_task f j places t = f (plan_view j places (task_of j t).phase) (task_memory j places t) (task_of j t).budget (first_state (task_of j t))
 
 -- the traces of the phase's tasks, of each task's trace by its index, counted on from n
 abbrev pub traces_from : ℕ → List TaskView → ℕ → (ℕ → List Visit) → List (List Visit)

@@ -1,41 +1,35 @@
--- The address at which a task alone ends is that of its course, on which nothing is done behind the instructions.
-use Rattle.std.proofs.Common.{◌≡◌, ℕ, zero, suc, Bool, true, false, refl, sym, ap, ◌∙◌}
-use Rattle.cov_base.specs.Meaning.{Memory, State}
-use Rattle.observed_step.proofs.CourseLemmas.{course-returned, course-none, course-more, course-ended}
-use Rattle.observed_step.specs.Meaning.{Tour, course_on, step_behind}
-use Rattle.observed_step.specs.Courses.{nothing}
-use Rattle.s370_exec.specs.Meaning.{solo_step, has_returned}
-use Rattle.s370_state.specs.declared.endings.Next.{Next}
-use Rattle.s370_state.specs.declared.endings.Next.TheVariants.{On, Ended}
-use Rattle.task_alone.specs.Meaning.{end_address}
+-- A task that began as its card says, and has run to its end.
+use Rattle.std.proofs.Common.{◌≡◌, ℕ, Option, List, sym, ◌∙◌, ap, subst}
+use Rattle.cov_base.specs.Meaning.{State, Visit}
+use Rattle.module_area.specs.Meaning.{PlanView}
+use Rattle.module_area.specs.declared.places.Place.{Place}
+use Rattle.s370_exec.specs.Meaning.{Run}
+use Rattle.observed_step.specs.Steps.{memory_at, stands}
+use Rattle.observed_step.specs.declared.bench.Bench.{Bench}
+use Rattle.observed_step.specs.declared.task.TaskEnd.{TaskEnd}
+use Rattle.session_book.specs.Meaning.{JobView, first_state, of_task, plan_view, task_memory, task_of}
+use Rattle.session_book.specs.declared.services.Service.{Service}
+use Rattle.task_run.specs.Meaning.{Course}
+use Rattle.task_services.specs.Meaning.{course_of}
+use Rattle.task_alone.specs.Ends.{RanAlong}
 
-address-none : (m : Memory) (s : State) → end_address m 0 s ≡ s.machine.cpu.ia
-unfolding end_address
-address-none m s = refl
+-- the end is that of task t's run along the course, and the pass has made its visits
+pub record RanOf {P : Type 0} (course : Course) (makes : P → List Visit → P → Type 0) (j : JobView) (places : List Place) (t : ℕ) (p : P) (end : TaskEnd) (q : P) : Type 0 where
+  pub ending : (of_task course.run j places t).ending ≡ end.ending
+  pub done : (of_task course.run j places t).state.done ≡ end.done
+  pub address : of_task course.at j places t ≡ end.at
+  pub made : makes p (of_task course.run j places t).trace q
 
-address-returned : (m : Memory) (n : ℕ) (s : State) → has_returned s ≡ true → end_address m (suc n) s ≡ s.machine.cpu.ia
-unfolding end_address
-address-returned m n s here = rw here refl
-
-address-more : (m : Memory) (n : ℕ) (s : State) → has_returned s ≡ false → (solo_step m s).next ≡ On → end_address m (suc n) s ≡ end_address m n (solo_step m s).state
-unfolding end_address
-address-more m n s here next = rw (here, next) refl
-
-address-ended : (m : Memory) (n : ℕ) (s : State) (e : _) → has_returned s ≡ false → (solo_step m s).next ≡ Ended e → end_address m (suc n) s ≡ s.machine.cpu.ia
-unfolding end_address
-address-ended m n s e here next = rw (here, next) refl
-
-abbrev IsAddressOf : {K : Type 0} → Memory → ℕ → K → State → Type 0
-IsAddressOf m n k s = end_address m n s ≡ (course_on nothing m n k s).at
-
-address_next : {K : Type 0} (m : Memory) (n : ℕ) (k : K) (s : State) (next : Next) → IsAddressOf m n k (solo_step m s).state → has_returned s ≡ false → (solo_step m s).next ≡ next → IsAddressOf m (suc n) k s
-address_next m n k s On rest here is = address-more m n s here is ∙ (rest ∙ sym (ap (λ (t : Tour). t.at) (course-more nothing m n k s (step_behind nothing m k s) here refl is)))
-address_next m n k s (Ended e) rest here is = address-ended m n s e here is ∙ sym (ap (λ (t : Tour). t.at) (course-ended nothing m n k s (step_behind nothing m k s) e here refl is))
-
-address_from : {K : Type 0} (m : Memory) (n : ℕ) (k : K) (s : State) (b : Bool) → IsAddressOf m n k (solo_step m s).state → has_returned s ≡ b → IsAddressOf m (suc n) k s
-address_from m n k s true rest here = address-returned m n s here ∙ sym (ap (λ (t : Tour). t.at) (course-returned nothing m (suc n) k s here))
-address_from m n k s false rest here = address_next m n k s (solo_step m s).next rest here refl
-
-pub address_by : {K : Type 0} (m : Memory) (n : ℕ) (k : K) (s : State) → IsAddressOf m n k s
-address_by m zero k s = address-none m s ∙ sym (ap (λ (t : Tour). t.at) (course-none nothing m k s))
-address_by m (suc n) k s = address_from m n k s (has_returned s) (address_by m n k (solo_step m s).state) refl
+pub ran_of : {P : Type 0} {makes : P → List Visit → P → Type 0} {p : P} {budget : ℕ} {old : Bench} {end : TaskEnd} {new : Bench} {q : P} {given_to : Option (List Service)} (services : Option (List Service)) (j : JobView) (places : List Place) (t : ℕ) →
+    RanAlong (course_of given_to) makes p budget old end new q → given_to ≡ services → memory_at old ≡ task_memory j places t → stands old 0 ≡ first_state (task_of j t) → budget ≡ (task_of j t).budget →
+    RanOf (course_of services) makes j places t p end q
+ran_of {P} {makes} {p} {budget} {old} {end} {new} {q} {given_to} services j places t ran same memory first most =
+    let plan : PlanView = plan_view j places (task_of j t).phase in
+    let its : (course_of given_to).run plan (memory_at old) budget (stands old 0) ≡ of_task (course_of services).run j places t = λ i. (course_of (same i)).run plan (memory i) (most i) (first i) in
+    let there : (course_of given_to).at plan (memory_at old) budget (stands old 0) ≡ of_task (course_of services).at j places t = λ i. (course_of (same i)).at plan (memory i) (most i) (first i) in
+    record {
+      ending = sym (ap (λ (r : Run). r.ending) its) ∙ ran.ending plan;
+      done = sym (ap (λ (r : Run). r.state.done) its) ∙ ap (λ (s : State). s.done) (ran.state plan);
+      address = sym there ∙ ran.address plan;
+      made = subst (λ (r : Run). makes p r.trace q) its (ran.made plan);
+    }

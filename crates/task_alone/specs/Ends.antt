@@ -1,16 +1,23 @@
--- Where a task ends that runs alone.
-use Rattle.std.specs.Prelude.{◌≡◌, ℕ, List}
+-- A task that has run to its end, with a pass that has made the run's visits.
+use Rattle.std.specs.Borrow.{Bor}
+use Rattle.std.specs.Prelude.{◌≡◌, ℕ, Option, List, option_copied}
 use Rattle.cov_base.specs.Meaning.{Visit}
-use Rattle.s370_exec.specs.Meaning.{solo_run}
+use Rattle.module_area.specs.Meaning.{PlanView}
 use Rattle.observed_step.specs.Steps.{memory_at, stands}
 use Rattle.observed_step.specs.declared.bench.Bench.{Bench}
 use Rattle.observed_step.specs.declared.task.TaskEnd.{TaskEnd}
-use Rattle.task_alone.specs.Meaning.{end_address}
+use Rattle.session_book.specs.declared.services.Service.{Service}
+use Rattle.task_run.specs.Meaning.{Course}
+use Rattle.task_services.specs.Meaning.{course_of}
 
--- The run alone from where the task stands, with nothing done yet, has this end and last state, and the pass has made its
--- trace, and nothing else.
-pub record RanAlone {P : Type 0} (makes : P → List Visit → P → Type 0) (p : P) (budget : ℕ) (old : Bench) (end : TaskEnd) (new : Bench) (q : P) : Type 0 where
-  pub ending : (solo_run (memory_at old) budget (stands old 0)).ending ≡ end.ending
-  pub state : (solo_run (memory_at old) budget (stands old 0)).state ≡ stands new end.done
-  pub address : end_address (memory_at old) budget (stands old 0) ≡ end.at
-  pub made : makes p (solo_run (memory_at old) budget (stands old 0)).trace q
+-- The run along the course from where the task stands, with nothing done yet, whatever the plan, has this end and last state, and
+-- the pass has made its trace, and nothing else.
+pub record RanAlong {P : Type 0} (course : Course) (makes : P → List Visit → P → Type 0) (p : P) (budget : ℕ) (old : Bench) (end : TaskEnd) (new : Bench) (q : P) : Type 0 where
+  pub ending : (plan : PlanView) → (course.run plan (memory_at old) budget (stands old 0)).ending ≡ end.ending
+  pub state : (plan : PlanView) → (course.run plan (memory_at old) budget (stands old 0)).state ≡ stands new end.done
+  pub address : (plan : PlanView) → course.at plan (memory_at old) budget (stands old 0) ≡ end.at
+  pub made : (plan : PlanView) → makes p (course.run plan (memory_at old) budget (stands old 0)).trace q
+
+-- that of a job with these services
+abbrev pub Ran : {P : Type 0} → Option (Bor (List Service)) → (P → List Visit → P → Type 0) → P → ℕ → Bench → TaskEnd → Bench → P → Type 0
+Ran services makes p budget old end new q = RanAlong (course_of (option_copied services)) makes p budget old end new q

@@ -1,10 +1,9 @@
 //! A task of a job that runs alone, before its first instruction.
 ghost use Rattle.std.specs.Prelude.{◌≡◌, ◌<◌, length, IfOk};
 ghost use Rattle.brk_table.specs.Kept.{AreCodes};
-ghost use Rattle.session_book.specs.Meaning.{task_of, first_state};
+ghost use Rattle.session_book.specs.Meaning.{first_state, task_memory, task_of};
 ghost use Rattle.observed_step.specs.Steps.{IsShown, memory_at, stands};
 ghost use Rattle.task_alone.specs.Alone.{no_sessions};
-ghost use Rattle.task_alone.specs.Meaning.{task_memory};
 
 use brk_table::Tables;
 use cov_base::NoMemory;

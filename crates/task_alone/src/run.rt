@@ -1,28 +1,40 @@
-//! The whole run of a task alone.
+//! The whole run of a task without sessions.
 ghost use Rattle.std.specs.Prelude.{◌≡◌, ◌≤◌};
-ghost use Rattle.observed_step.specs.Steps.{CanStep, memory_at, stands};
+ghost use Rattle.observed_step.specs.Steps.{CanStep, memory_at};
 ghost use Rattle.task_alone.specs.Alone.{IgnoresCalls};
-ghost use Rattle.task_alone.specs.Ends.{RanAlone};
+ghost use Rattle.task_alone.specs.Ends.{Ran};
 
 use brk_table::Tables;
 use observed_step::{Bench, NoHook, Observer, TaskEnd, run};
+use session_book::Service;
+use task_services::Services;
 
-/// Runs a task until it ends: before each instruction it ends Returned at X'FFFFFE', else Spent where it has done as
-/// many instructions as its budget. The observer, which ignores supervisor calls, is shown what each instruction visits.
-/// Takes no memory but the observer's.
+/// Runs a task until it ends, with its job's services, if it has any: before each instruction it ends Returned at X'FFFFFE',
+/// else Spent where it has done as many instructions as its budget. The observer, which ignores supervisor calls, is shown
+/// what each instruction visits. Takes no memory but the observer's.
 pub fn run_alone<O: Observer>(
     observer: &O,
     pass: &mut O::Pass,
     tables: &Tables,
+    services: Option<&[Service]>,
     bench: &mut Bench<'_>,
     budget: u32,
 ) -> TaskEnd
     requires can { CanStep O.IsReady O.IsTied observer.now tables.now pass.old bench.old 0 0 }
     requires calls { IgnoresCalls O.Answers observer.now }
     ensures memory { memory_at bench.new ≡ memory_at bench.old }
-    ensures ran { RanAlone (O.Makes observer.now tables.now) pass.old budget bench.old result bench.new pass.new }
+    ensures ran { Ran services.entry (O.Makes observer.now tables.now) pass.old budget bench.old result bench.new pass.new }
     ensures most { result.done ≤ budget }
     ensures can { CanStep O.IsReady O.IsTied observer.now tables.now pass.new bench.new result.done 0 }
 {
-    run(observer, pass, tables, &mut NoHook, bench, budget)
+    match services {
+        None => run(observer, pass, tables, &mut NoHook, bench, budget),
+        Some(services) => {
+            let mut hook = Services {
+                services,
+                caller: None,
+            };
+            run(observer, pass, tables, &mut hook, bench, budget)
+        }
+    }
 }

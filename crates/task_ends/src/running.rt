@@ -1,4 +1,4 @@
-//! The run of each task of a job, alone over modules that were never planted.
+//! The run of each task of a job, over modules that were never planted.
 ghost use Rattle.std.specs.Prelude.{◌≡◌, ◌+◌, ◌<◌, ◌++◌, ◌∷◌, [], length, IfOk, OnOk};
 ghost use Rattle.brk_table.specs.Kept.{AreCodes};
 ghost use Rattle.task_ends.specs.Meaning.{end_of, unlisted_of};
@@ -58,6 +58,7 @@ fn add_task(
         &unlisted,
         counts,
         tables,
+        job.services(),
         &mut bench,
         card.budget,
     );
@@ -65,7 +66,7 @@ fn add_task(
     Ok(())
 }
 
-/// Runs each task of the job once, whatever its phase. The tables are those of the job's listings. Memory is linear in the
+/// Runs each task of the job once, whatever its phase, with the job's services, if it has any. The tables are those of the job's listings. Memory is linear in the
 /// tasks and modules, beside one task's storage at a time.
 pub fn find_ends(alloc: Global, job: &Job, tables: &Tables) -> Result<Ends, NoMemory>
     requires tables { AreCodes job.now.images tables.now }

@@ -6,6 +6,7 @@ use Rattle.s370_state.specs.declared.endings.Ending.{Ending}
 use Rattle.module_area.specs.Notes.{Notes, calls}
 use Rattle.module_area.specs.Meaning.{PlanView}
 use Rattle.module_area.specs.Tied.{IsTied}
+use Rattle.module_area.specs.declared.traits.Cells as cells
 use Rattle.observed_step.specs.Steps.{memory_at, stands}
 use Rattle.task_run.specs.Called.{Follows, HasPlanted, HasWindows}
 use Rattle.task_run.specs.Meaning.{Course, Walk, walk}
@@ -31,3 +32,7 @@ pub record RanAs (course : Course) (plan : PlanView) (before after : Notes) (old
   pub planted : HasPlanted plan before after new.bench.control
   pub tied : IsTied plan after new.bench.control
   pub few : calls after ≤ calls before + (6 + PLACE_LIMIT) * old.budget
+
+-- by a pass of these cells, from the one state to the other
+abbrev pub RanOver : {C P : Type 0} → cells.Ghosts C P → Course → C → P → P → Task → Task → Ending → Type 0
+RanOver by course area p q old new result = RanAs course (by.plan area) (by.notes p) (by.notes q) old new result

@@ -6,7 +6,7 @@ ghost use Rattle.module_area.specs.Tied.{IsTied};
 ghost use Rattle.observed_step.specs.Steps.{memory_at};
 ghost use Rattle.svc_monitor.specs.First.{IsOver};
 ghost use Rattle.task_run.specs.Meaning.{solo};
-ghost use Rattle.task_run.specs.Ran.{RanAs};
+ghost use Rattle.task_run.specs.Ran.{RanOver};
 
 use crate::tasks::Task;
 use brk_table::Tables;
@@ -35,7 +35,7 @@ pub fn run_task<C: Cells>(
     requires tied { IsTied (C.plan cells.now) (C.notes pass.old) task.old.bench.control }
     requires first { (task.old.bench.control.next ≡ 0) × (task.old.bench.control.opened ≡ None) }
     ensures area { C.is_pass cells.now pass.new }
-    ensures ran { RanAs solo (C.plan cells.now) (C.notes pass.old) (C.notes pass.new) task.old task.new result }
+    ensures ran { RanOver C.Cells solo cells.now pass.old pass.new task.old task.new result }
 {
     // Read for what every plan keeps.
     let _ = plan.places_len();

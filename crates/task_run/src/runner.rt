@@ -8,7 +8,7 @@ ghost use Rattle.module_area.specs.Tied.{IsTied};
 ghost use Rattle.observed_step.specs.Steps.{memory_at};
 ghost use Rattle.svc_monitor.specs.First.{IsOver};
 ghost use Rattle.task_run.specs.Meaning.{Course, solo};
-ghost use Rattle.task_run.specs.Ran.{RanAs};
+ghost use Rattle.task_run.specs.Ran.{RanOver};
 ghost use Rattle.task_run.specs.Settled.{OnceSettled};
 ghost use Rattle.task_run.specs.declared.tasks.Task.{Task as TaskView};
 
@@ -60,7 +60,7 @@ pub trait Runner<C: Cells> {
         requires first { (task.old.bench.control.next ≡ 0) × (task.old.bench.control.opened ≡ None) }
         requires begins { begins plan.now (bearer (C.notes pass.old)) extra.old (C.notes pass.old) }
         ensures area { C.is_pass cells.now pass.new }
-        ensures ran { RanAs (course self.now) (C.plan cells.now) (C.notes pass.old) (C.notes pass.new) task.old task.new result }
+        ensures ran { RanOver C.Cells (course self.now) cells.now pass.old pass.new task.old task.new result }
         ensures ends { OnceSettled (C.plan cells.now) (C.notes pass.new) (ends plan.now task.old task.new extra.new) };
 }
 

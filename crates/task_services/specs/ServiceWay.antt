@@ -1,11 +1,13 @@
 -- What services are behind the instructions of their task.
 use Rattle.std.specs.Prelude.{◌≡◌, ℕ}
-use Rattle.cov_base.specs.Meaning.{Memory, CpuView, Machine}
+use Rattle.cov_base.specs.Meaning.{CpuView}
+use Rattle.s370_state.specs.Meaning.{machine_of}
+use Rattle.s370_state.specs.declared.space.Space as space
 use Rattle.s370_state.specs.declared.endings.Next.{Next}
 use Rattle.s370_state.specs.declared.endings.Next.TheVariants.{On}
 use Rattle.observed_step.specs.Hooks.{Way}
 use Rattle.observed_step.specs.Meaning.{Behind}
-use Rattle.task_services.specs.Courses.{Served, by_next, called, gone_back}
+use Rattle.task_services.specs.Meaning.{Served, by_next, called, gone_back}
 use Rattle.task_services.specs.declared.services.Services.{Services}
 
 abbrev pub served : Services → Served
@@ -15,8 +17,8 @@ abbrev pub as_left : CpuView → Next → Services → Behind Served
 as_left cpu next h = record { cpu = cpu; next = next; key = served h }
 
 -- at a call of this number the machine stood so, and this is what has become of it
-abbrev pub HasCalled : Memory → Machine → ℕ → Services → Services → CpuView → Next → Type 0
-HasCalled m s number old new cpu next = as_left cpu next new ≡ called old.services.now m s number old.caller
+abbrev pub HasCalled : {P : Type 0} → space.Ghosts P → P → ℕ → Services → CpuView → Services → CpuView → Next → Type 0
+HasCalled by s number old cpu new cpu' next = as_left cpu' next new ≡ called old.services.now (by.memory s) (machine_of cpu (by.bytes s)) number old.caller
 
 abbrev pub HasGoneBack : Services → Services → CpuView → CpuView → Type 0
 HasGoneBack old new cpu cpu' = as_left cpu' On new ≡ gone_back old.services.now cpu old.caller

@@ -6,5 +6,5 @@ mod runner;
 mod services;
 
 pub use run::run_under;
-pub use runner::ServiceRunner;
-pub use services::{SERVICE_RETURN, Service, Services};
+pub use runner::JobRunner;
+pub use services::{SERVICE_RETURN, Services};

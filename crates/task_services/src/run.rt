@@ -5,14 +5,15 @@ ghost use Rattle.module_area.specs.Notes.{calls, is_working};
 ghost use Rattle.module_area.specs.Tied.{IsTied};
 ghost use Rattle.observed_step.specs.Steps.{memory_at};
 ghost use Rattle.svc_monitor.specs.First.{IsOver};
-ghost use Rattle.task_run.specs.Ran.{RanAs};
-ghost use Rattle.task_services.specs.Courses.{with_services};
+ghost use Rattle.task_run.specs.Ran.{RanOver};
+ghost use Rattle.task_services.specs.Meaning.{with_services};
 
-use crate::services::{Service, Services};
+use crate::services::Services;
 use brk_table::Tables;
 use module_area::{Cells, Plan};
 use observed_step::run;
 use s370_state::Ending;
+use session_book::Service;
 use svc_monitor::Planted;
 use task_run::Task;
 
@@ -35,7 +36,7 @@ pub fn run_under<C: Cells>(
     requires tied { IsTied (C.plan cells.now) (C.notes pass.old) task.old.bench.control }
     requires first { (task.old.bench.control.next ≡ 0) × (task.old.bench.control.opened ≡ None) }
     ensures area { C.is_pass cells.now pass.new }
-    ensures ran { RanAs (with_services services.now) (C.plan cells.now) (C.notes pass.old) (C.notes pass.new) task.old task.new result }
+    ensures ran { RanOver C.Cells (with_services services.now) cells.now pass.old pass.new task.old task.new result }
 {
     // Read for what every plan keeps.
     let _ = plan.places_len();

@@ -1,25 +1,26 @@
-//! The runner of tasks with services.
-ghost use Rattle.task_services.specs.Courses.{with_services};
+//! The runner of a job's tasks.
+ghost use Rattle.std.specs.Prelude.{option_copied};
+ghost use Rattle.task_services.specs.Meaning.{course_of};
 
 use crate::run::run_under;
-use crate::services::Service;
 use brk_table::Tables;
 use cov_base::{NoMemory, TaskNo};
 use module_area::{Cells, Plan};
 use s370_state::Ending;
+use session_book::Service;
 use std::alloc::Global;
-use task_run::{NoExtra, Runner, Task};
+use task_run::{NoExtra, Runner, Task, run_task};
 
-/// Runs each task with the same services.
+/// Runs each task with the job's services, alone where it was read without SERVICE cards.
 #[derive(Drop)]
-pub struct ServiceRunner<'a> {
-    pub services: &'a [Service],
+pub struct JobRunner<'a> {
+    pub services: Option<&'a [Service]>,
 }
 
-impl<'a, C: Cells> Runner<C> for ServiceRunner<'a> {
+impl<'a, C: Cells> Runner<C> for JobRunner<'a> {
     type Extra = NoExtra;
 
-    ghost course = { λ r. with_services r.services.now };
+    ghost course = { λ r. course_of (option_copied r.services) };
 
     ghost begins = { λ plan t extra notes. Unit {0} };
 
@@ -38,6 +39,9 @@ impl<'a, C: Cells> Runner<C> for ServiceRunner<'a> {
         extra: &mut NoExtra,
         task: &mut Task<'_>,
     ) -> Ending {
-        run_under(cells, pass, tables, plan, self.services, task)
+        match self.services {
+            None => run_task(cells, pass, tables, plan, task),
+            Some(services) => run_under(cells, pass, tables, plan, services, task),
+        }
     }
 }

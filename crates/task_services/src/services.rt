@@ -2,25 +2,17 @@
 ghost use Rattle.std.specs.Prelude.{◌≡◌, None, []};
 ghost use Rattle.s370_state.specs.Meaning.{machine_of};
 ghost use Rattle.s370_exec.specs.Meaning.{first_tests};
-ghost use Rattle.task_services.specs.Courses.{at_entry, caller_at, resumed, service_for};
+ghost use Rattle.task_services.specs.Meaning.{at_entry, caller_at, resumed, service_for};
 ghost use Rattle.task_services.specs.ServiceWay.{HasCalled, HasGoneBack, service_way};
 
 use brk_table::Tables;
 use cov_base::Addr;
-use observed_step::{Bench, Hook, Observer};
-use s370_exec::is_execute;
+use observed_step::{Bench, Hook, Observer, behind_call};
 use s370_state::{Cpu, Ending, Next, Space};
+use session_book::Service;
 
 /// The instruction address at which a routine returns to its caller, which register 14 holds as it begins.
 pub const SERVICE_RETURN: u32 = 0xFF_FFFC;
-
-/// A routine of the job, which answers the supervisor call of this number.
-#[derive(Clone, Copy)]
-pub struct Service {
-    pub number: u8,
-    /// Where it begins: any address.
-    pub entry: Addr,
-}
 
 /// A task's services, and its caller while a routine runs: the processor as it stood behind the call.
 #[derive(Drop)]
@@ -44,15 +36,9 @@ fn caller_at<P: Space>(cpu: &Cpu, space: &P) -> Cpu
     requires { first_tests (P.memory space.now) cpu.now.ia ≡ None }
     ensures { result ≡ caller_at (P.memory space.now) (machine_of cpu.now (P.bytes space.now)) }
 {
-    let at = cpu.at();
-    // There is a halfword: it was read as the call or as the EX.
-    let size = match space.first(at) {
-        Ok(half) if is_execute(half) => 4,
-        _ => 2,
-    };
     Cpu {
         regs: cpu.regs,
-        ia: at.plus(size),
+        ia: behind_call(cpu, space),
         cc: cpu.condition(),
         mask: cpu.mask(),
     }
@@ -85,7 +71,7 @@ impl Services<'_> {
     /// Begins the routine of the service of this number, or ends the task where there is none or a routine runs.
     fn call<P: Space>(&mut self, cpu: &mut Cpu, space: &P, number: u8) -> Next
         requires { first_tests (P.memory space.now) cpu.old.ia ≡ None }
-        ensures { HasCalled (P.memory space.now) (machine_of cpu.old (P.bytes space.now)) number self.old self.new cpu.new result }
+        ensures { HasCalled P.Space space.now number self.old cpu.old self.new cpu.new result }
     {
         if self.caller.is_some() {
             return Next::Ended(Ending::BadSvc(number));

@@ -1,7 +1,7 @@
 use Rattle.std.proofs.Common.{◌≡◌, ◌++◌, List, length, take, drop, sym, ◌∙◌, ap}
 use Rattle.brk_table.proofs.CodeLemmas.{are_in}
 use Rattle.job_run.proofs.PhaseLemmas.{written}
-use Rattle.task_run.specs.Meaning.{solo}
+use Rattle.task_services.specs.Meaning.{course_of}
 use Rattle.job_run.specs.Slots.{dones}
 use Rattle.job_run.proofs.TaskLemmas.{AreRun-start}
 use Rattle.count_session.specs.Slots.{CountSlot}
@@ -12,7 +12,7 @@ pub make_slots-requires : goal.make_slots-requires
 make_slots-requires g c = are_in c.args.job.now.images c.args.tables.now c.requires.tables
 
 pub count_phases-requires-clause-tasks : goal.count_phases-requires-clause-tasks
-count_phases-requires-clause-tasks g c κs within = rw c.deref_mut.ensures.value (AreRun-start solo c.args.job.now c.args.tables.now.places _ c.in_ok-slots.ensures.tasks)
+count_phases-requires-clause-tasks g c κs within = rw c.deref_mut.ensures.value (AreRun-start (course_of c.args.job.now.services) c.args.job.now c.args.tables.now.places _ c.in_ok-slots.ensures.tasks)
 
 pub returns : goal.returns
 returns g c =

@@ -1,6 +1,6 @@
 use Rattle.std.proofs.Common.{◌≡◌, ℕ, ◌+◌, List, length, subst, sym, arith}
 use Rattle.count_session.specs.Phases.{AreCounted}
-use Rattle.task_run.specs.Meaning.{solo}
+use Rattle.task_services.specs.Meaning.{course_of}
 use Rattle.job_run.specs.Tasks.{AreRun}
 use Rattle.count_session.specs.declared.counts.PlaceCount.{PlaceCount}
 use Rattle.count_session.proofs.PassLemmas.{AreCounted-start, AreCounted-more}
@@ -31,4 +31,4 @@ returns-clause-counts g c =
 pub returns-clause-tasks : goal.returns-clause-tasks
 returns-clause-tasks g c =
     let all : c.loop-phase.phase ≡ length c.args.job.now.phases = omega (arith, c.loop-phase-test.false, c.loop-phase.auto.phase-end, c.phase_count-count.ensures.value) in
-    subst (λ (n : ℕ). AreRun solo c.args.job.now c.args.tables.now.places n c.loop-phase.slots) all c.loop-phase.invariant.tasks
+    subst (λ (n : ℕ). AreRun (course_of c.args.job.now.services) c.args.job.now c.args.tables.now.places n c.loop-phase.slots) all c.loop-phase.invariant.tasks

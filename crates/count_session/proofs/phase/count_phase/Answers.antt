@@ -2,7 +2,7 @@ use Rattle.std.proofs.Common.{◌≡◌, ℕ, ◌<◌, [], refl, ap, subst, sym,
 use Rattle.module_area.specs.Meaning.{PlanView}
 use Rattle.job_run.proofs.BackLemmas.{are_empty, have_run, whatever}
 use Rattle.job_run.proofs.EquipLemmas.{begun_in}
-use Rattle.task_run.specs.Meaning.{solo}
+use Rattle.task_services.specs.Meaning.{course_of}
 use Rattle.count_session.specs.Notes.{CountNotes}
 use Rattle.count_session.specs.Passes.{notes_of, plan_in}
 use Rattle.count_session.proofs.PassLemmas.{counted_if, joins_start}
@@ -19,7 +19,7 @@ pub run_crew-requires-clause-ready : goal.run_crew-requires-clause-ready
 run_crew-requires-clause-ready g c κs within = record {
   count = c.requires.tasks.count;
   empty = c.requires.empty;
-  can = λ t d its. begun_in solo c.args.job.now c.args.tables.now.places c.args.phase t c.args.slots.now d c.requires.tasks (subst (λ (n : ℕ). t < n) (sym c.requires.tasks.count) its.exists) its.its;
+  can = λ t d its. begun_in (course_of c.args.job.now.services) c.args.job.now c.args.tables.now.places c.args.phase t c.args.slots.now d c.requires.tasks (subst (λ (n : ℕ). t < n) (sym c.requires.tasks.count) its.exists) its.its;
 }
 
 pub finish-requires-clause-joined : goal.finish-requires-clause-joined
@@ -31,7 +31,7 @@ returns-clause-counts g c =
 
 pub returns-clause-tasks : goal.returns-clause-tasks
 returns-clause-tasks g c =
-    whatever c.finish.result (have_run _ _ c.args.job.now c.args.phase c.args.slots.now c.run_crew.new.slots c.run_crew.ensures.back solo c.args.tables.now.places (λ t d e x p ends. ends) c.requires.tasks)
+    whatever c.finish.result (have_run _ _ c.args.job.now c.args.phase c.args.slots.now c.run_crew.new.slots c.run_crew.ensures.back (course_of c.args.job.now.services) c.args.tables.now.places (λ t d e x p ends. ends) c.requires.tasks)
 
 pub returns-clause-empty : goal.returns-clause-empty
 returns-clause-empty g c = whatever c.finish.result (are_empty _ _ c.args.job.now c.args.phase c.args.slots.now c.run_crew.new.slots c.run_crew.ensures.back c.requires.empty)

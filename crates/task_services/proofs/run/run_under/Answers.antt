@@ -6,7 +6,7 @@ use Rattle.task_run.specs.Aside.{IsAside}
 use Rattle.task_run.proofs.AsideLemmas.{aside_none}
 use Rattle.task_run.proofs.GoneLemmas.{made_all}
 use Rattle.task_run.proofs.RanLemmas.{ran_tour}
-use Rattle.task_services.specs.Courses.{service_tour, with_services}
+use Rattle.task_services.specs.Meaning.{service_tour, with_services}
 use Rattle.task_services.proofs.run.run_under.Goals as goal
 
 pub returns-clause-ran : goal.returns-clause-ran

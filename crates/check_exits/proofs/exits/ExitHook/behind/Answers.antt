@@ -1,11 +1,7 @@
-use Rattle.std.proofs.Common.{◌+◌, ◌∙◌, ap}
+use Rattle.std.proofs.Common.{◌∙◌, ap}
 use Rattle.s370_state.specs.declared.endings.Next.TheVariants.{Ended}
-use Rattle.observed_step.specs.Steps.{memory_at, stands}
-use Rattle.check_exits.proofs.SvcLemmas.{bad_svc-left}
+use Rattle.observed_step.proofs.SvcLemmas.{bad_svc-behind}
 use Rattle.check_exits.proofs.exits.ExitHook.behind.Goals as goal
 
 pub pass_call-requires : goal.pass_call-requires
-pass_call-requires g c =
-    let h = c.requires.behind in
-    rw h.steps.memory (bad_svc-left (memory_at h.bench) (stands h.bench h.before) (stands c.args.bench.now (h.before + 1)) _ c.in-BadSvc-eq6.field-0
-    h.steps.does.state h.steps.does.next (c.in-Ended.is ∙ ap Ended c.in-BadSvc-eq6.is))
+pass_call-requires g c = bad_svc-behind _ c.requires.behind (c.in-Ended.is ∙ ap Ended c.in-BadSvc-eq6.is)

@@ -1,7 +1,7 @@
 use Rattle.std.proofs.Common.{◌≡◌, ℕ, ◌+◌, true, if◌then◌else◌, ◌∙◌, ap, subst, arith}
 use Rattle.s370_exec.specs.Meaning.{Run}
 use Rattle.module_area.specs.Meaning.{PlanView, place_of}
-use Rattle.task_run.specs.Meaning.{solo}
+use Rattle.task_services.specs.Meaning.{course_of}
 use Rattle.job_run.specs.Tasks.{own_run}
 use Rattle.job_run.proofs.SlotLemmas.{is_over_begun, plan_here}
 use Rattle.job_run.proofs.TaskLemmas.{begun_run}
@@ -24,11 +24,11 @@ returns-clause-run c =
     let plan : PlanView = plan_in me.cells.now in
     let t : ℕ = c.args.task.0 in
     let of = plan_here plan me.job.now me.tables.now.places me.phase t c.requires.fit.plan c.requires.task.its in
-    let adds = subst (λ (r : Run). Adds plan (notes_of me.cells.now c.args.pass.now) (notes_of me.cells.now c.run_one.new.pass) r.trace) (begun_run solo plan me.job.now me.tables.now.places t c.args.done.now of c.requires.can) c.run_one.ensures.adds in
+    let adds = subst (λ (r : Run). Adds plan (notes_of me.cells.now c.args.pass.now) (notes_of me.cells.now c.run_one.new.pass) r.trace) (begun_run (course_of me.job.now.services) plan me.job.now me.tables.now.places t c.args.done.now of c.requires.can) c.run_one.ensures.ran.adds in
     counted_there me.cells.now _ c.args.pass.now c.run_one.new.pass c.requires.fresh c.run_one.ensures.area adds
 
 pub returns-clause-ends : goal.returns-clause-ends
 returns-clause-ends c =
     let me = c.args.self.now in
     has_ended (plan_in me.cells.now) me.job.now me.tables.now.places c.args.task.0 c.args.done.now c.run_one.new.done
-    (plan_here (plan_in me.cells.now) me.job.now me.tables.now.places me.phase c.args.task.0 c.requires.fit.plan c.requires.task.its) c.requires.can c.run_one.ensures.result c.run_one.ensures.filled
+    (plan_here (plan_in me.cells.now) me.job.now me.tables.now.places me.phase c.args.task.0 c.requires.fit.plan c.requires.task.its) c.requires.can c.run_one.ensures.ran.result c.run_one.ensures.ran.filled

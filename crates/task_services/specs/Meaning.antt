@@ -1,4 +1,4 @@
--- The course of a task with services.
+-- What the claim of the program says by this crate's clauses.
 use Rattle.std.specs.Prelude.{ℕ, if◌then◌else◌, ◌==◌, Option, Some, None, List, slice_index, slice_set}
 use Rattle.std.specs.List.{find}
 use Rattle.cov_base.specs.Meaning.{Memory, CpuView, Machine, State}
@@ -6,11 +6,9 @@ use Rattle.s370_state.specs.declared.endings.Ending.{Ending}
 use Rattle.s370_state.specs.declared.endings.Ending.TheVariants.{BadSvc}
 use Rattle.s370_state.specs.declared.endings.Next.{Next}
 use Rattle.s370_state.specs.declared.endings.Next.TheVariants.{On, Ended}
-use Rattle.s370_exec.specs.Meaning.{run_ended}
-use Rattle.observed_step.specs.Meaning.{After, Behind, Tour, calls_of, course_on, visits_of}
-use Rattle.task_run.specs.Meaning.{Course}
-use Rattle.check_exits.specs.Meaning.{behind_call}
-use Rattle.task_services.specs.declared.services.Service.{Service}
+use Rattle.observed_step.specs.Meaning.{After, Behind, Tour, behind_call, course_on}
+use Rattle.session_book.specs.declared.services.Service.{Service}
+use Rattle.task_run.specs.Meaning.{Course, solo, toured}
 use Rattle.task_services.specs.declared.services.TheConstants.{SERVICE_RETURN}
 
 -- A task whose supervisor calls are answered by routines of the job: its services.
@@ -83,9 +81,10 @@ by_next k m s next = let b = by_call k m s next in by_return b b.next
 abbrev pub service_tour : List Service → Memory → ℕ → State → Tour
 service_tour services m budget s = course_on by_next m budget (record { services = services; caller = None }) s
 
--- its run and its calls, whatever the plan
 abbrev pub with_services : List Service → Course
-with_services services = record {
-  run = λ plan m budget s. let t = service_tour services m budget s in run_ended t.ending t.state (visits_of t.turns);
-  calls = λ plan m budget s. calls_of (service_tour services m budget s).turns;
-}
+with_services services = toured (service_tour services)
+
+-- The course of a job's tasks, by its services: alone where the job was read without SERVICE cards.
+abbrev pub course_of : Option (List Service) → Course
+course_of None = solo
+course_of (Some services) = with_services services

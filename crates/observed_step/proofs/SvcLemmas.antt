@@ -1,5 +1,5 @@
 -- A step that ends a task BadSvc has read its first halfword, and leaves all but the count.
-use Rattle.std.proofs.Common.{◌≡◌, ℕ, ◌%◌, Bool, true, false, if◌then◌else◌, ◌==◌, nat_le, Option, Some, None, List, [], ◌∷◌, ◌++◌, refl, sym, ap, subst}
+use Rattle.std.proofs.Common.{◌≡◌, ℕ, ◌%◌, Bool, true, false, if◌then◌else◌, ◌==◌, nat_le, Option, Some, None, List, [], ◌∷◌, ◌++◌, refl, sym, ◌∙◌, ap, subst}
 use Rattle.std.proofs.lemmas.Bool.{cond_both, both_ways}
 use Rattle.cov_base.specs.Meaning.{length_of, Memory, can_reach, half_at, IoView, Machine, State}
 use Rattle.s370_state.specs.Meaning.{Outcome, Completes, Overflows, Program, Row, Use, after_tests, all_reached, all_stored, finish, is_enabled, next_after, operate, perform, reg, stores, reads, tests, touch_ending, touched, use_tests, bytes_free}
@@ -12,6 +12,11 @@ use Rattle.s370_decode.specs.declared.code.Code.{Code}
 use Rattle.s370_decode.specs.declared.op.Op.{Op}
 use Rattle.s370_exec.specs.Meaning.{Effect, at_address, call, call_address, effect, ended_by, get_call, get_size, get_tested, is_completed, link_code, onward, onward_by, operand, put_call, put_tested, unchanged, updated, code_at, first_tests, is_execute, merged, rest_tests, subject_tests, Step, begun_step, behind, fetched, from_first, solo_step, stepped, subject_fetched, subject_step, visit}
 use Rattle.s370_exec.proofs.Groups.{of_effect}
+use Rattle.brk_table.specs.Meaning.{TablesView}
+use Rattle.observed_step.specs.Hooks.{IsBehind, Way}
+use Rattle.observed_step.specs.Steps.{memory_at, stands}
+use Rattle.observed_step.specs.declared.bench.Bench.{Bench}
+use Rattle.observed_step.specs.declared.observer.Observer as observer
 
 abbrev is_bad : Ending → Bool
 is_bad (BadSvc number) = true
@@ -174,6 +179,10 @@ bad_svc-read m s number e =
     let same : s.machine.cpu.ia ≡ (solo_step m s).state.machine.cpu.ia = sym (ap (λ (x : Machine). x.cpu.ia) (step_left m s bad)) in
     subst (λ (a : ℕ). first_tests m a ≡ None) same (step_read m s bad)
 
--- so by what the step leaves
-pub bad_svc-left : (m : Memory) (s t : State) (next : Next) (number : ℕ) → (solo_step m s).state ≡ t → (solo_step m s).next ≡ next → next ≡ Ended (BadSvc number) → first_tests m t.machine.cpu.ia ≡ None
-bad_svc-left m s t next number state ends bad = rw (sym state) (bad_svc-read m s number (rw ends bad))
+-- so where a hook is asked behind it
+pub bad_svc-behind : {H O P : Type 0} {way : Way H O P} {by : observer.Ghosts O P} {h : H} {o : O} {t : TablesView} {q : P} {new : Bench} {done : ℕ} {next : Next} (number : ℕ) →
+    IsBehind way by h o t q new done next → next ≡ Ended (BadSvc number) → first_tests (memory_at new) new.cpu.ia ≡ None
+bad_svc-behind number b bad =
+    let m = memory_at b.bench in
+    let s = stands b.bench b.before in
+    rw (b.steps.memory, sym (ap (λ (t : State). t.machine.cpu.ia) b.steps.does.state)) (bad_svc-read m s number (b.steps.does.next ∙ bad))
