@@ -1,38 +1,39 @@
 //! The words of the command line.
 ghost use Rattle.std.specs.Prelude.{◌≡◌, map, string_bytes};
 ghost use Rattle.cov_base.specs.Meaning.{name_at};
-ghost use Rattle.command_words.specs.Meaning.{number_at, command_alone, command_named, command_numbered, command_of};
+ghost use Rattle.command_words.specs.Meaning.{number_at, plain_only, command_alone, command_named, command_numbered, command_in, command_of};
 ghost use Rattle.command_words.specs.Words.{HasFewTasks};
 
 use annotator::text::add_number;
 use arrayvec::ArrayVec;
 use cov_base::Name;
+use job_text::Grammar;
 
-/// What the words ask for.
+/// What the words ask for. A command with a grammar reads its job by that, and runs the job's tasks with the job's services.
 #[derive(Clone, Copy)]
 pub enum Command {
     /// `run`: the report of a job.
-    Run,
+    Run(Grammar),
     /// `exits`: the report of a job whose tasks may name exits.
     Exits,
     /// `early`: the report of a job, with when the sets of its controlled sessions were taken.
     Early,
     /// `count`: how often each fact of a job's sessions was met.
-    Count,
+    Count(Grammar),
     /// `marks NAME`: the marks file of a session of a job that is run.
-    Marks(Name),
+    Marks { name: Name, grammar: Grammar },
     /// `trial NUMBER TASKS`: the summary of a generated job that is run.
     Trial { number: u32, tasks: u32 },
     /// `table`: the places of its modules.
-    Table,
+    Table(Grammar),
     /// `ends`: where each of its tasks ends, and how much ran where no place begins.
-    Ends,
+    Ends(Grammar),
     /// `replay`: a schedule of its tasks' events, played on a core.
     Replay,
     /// `combine`: the union of marks files.
     Combine,
     /// `show NAME`: the listings of a session of a job, marked by a marks file.
-    Show(Name),
+    Show { name: Name, grammar: Grammar },
     /// `prove NAME`: the evidence of the facts of a session of a job.
     Prove(Name),
     /// `verify NAME`: whether a marks file and evidence of a session of a job are true.
@@ -41,46 +42,56 @@ pub enum Command {
     Unknown,
 }
 
+/// The command, where `services` doesn't stand before its words.
+fn plain_only(grammar: Grammar, command: Command) -> Command
+    ensures { result ≡ plain_only grammar command }
+{
+    match grammar {
+        Grammar::Plain => command,
+        Grammar::Services => Command::Unknown,
+    }
+}
+
 /// The command of one word.
-fn command_alone(word: &str) -> Command
-    ensures { result ≡ command_alone word.now }
+fn command_alone(grammar: Grammar, word: &str) -> Command
+    ensures { result ≡ command_alone grammar word.now }
 {
     if word == "run" {
-        Command::Run
+        Command::Run(grammar)
     } else if word == "table" {
-        Command::Table
-    } else if word == "replay" {
-        Command::Replay
-    } else if word == "combine" {
-        Command::Combine
-    } else if word == "exits" {
-        Command::Exits
+        Command::Table(grammar)
     } else if word == "count" {
-        Command::Count
-    } else if word == "early" {
-        Command::Early
+        Command::Count(grammar)
     } else if word == "ends" {
-        Command::Ends
+        Command::Ends(grammar)
+    } else if word == "replay" {
+        plain_only(grammar, Command::Replay)
+    } else if word == "combine" {
+        plain_only(grammar, Command::Combine)
+    } else if word == "exits" {
+        plain_only(grammar, Command::Exits)
+    } else if word == "early" {
+        plain_only(grammar, Command::Early)
     } else {
         Command::Unknown
     }
 }
 
 /// The command of a word and a session's name.
-fn command_named(word: &str, name: &str) -> Command
-    ensures { result ≡ command_named word.now (name_at name.now) }
+fn command_named(grammar: Grammar, word: &str, name: &str) -> Command
+    ensures { result ≡ command_named grammar word.now (name_at name.now) }
 {
     let Some(name) = Name::read(name.as_bytes()) else {
         return Command::Unknown;
     };
     if word == "marks" {
-        Command::Marks(name)
+        Command::Marks { name, grammar }
     } else if word == "show" {
-        Command::Show(name)
+        Command::Show { name, grammar }
     } else if word == "prove" {
-        Command::Prove(name)
+        plain_only(grammar, Command::Prove(name))
     } else if word == "verify" {
-        Command::Verify(name)
+        plain_only(grammar, Command::Verify(name))
     } else {
         Command::Unknown
     }
@@ -117,15 +128,29 @@ fn command_numbered(word: &str, number: &str, tasks: &str) -> Command
     }
 }
 
-/// The command that the words are.
+/// The command of the words, those behind `services` where the job's grammar has SERVICE cards.
+fn command_in(grammar: Grammar, words: &[String]) -> Command
+    ensures value { result ≡ command_in grammar (map string_bytes words.now) }
+    ensures few { HasFewTasks result }
+{
+    match words {
+        [word] => command_alone(grammar, word),
+        [word, name] => command_named(grammar, word, name),
+        [word, number, tasks] => plain_only(grammar, command_numbered(word, number, tasks)),
+        _ => Command::Unknown,
+    }
+}
+
+/// The command that the words are. Behind `services` stand those of `run`, `marks NAME`, `show NAME`, `table`, `count` or `ends`.
 pub fn command_of(words: &[String]) -> Command
     ensures value { result ≡ command_of (map string_bytes words.now) }
     ensures few { HasFewTasks result }
 {
     match words {
-        [word] => command_alone(word),
-        [word, name] => command_named(word, name),
-        [word, number, tasks] => command_numbered(word, number, tasks),
-        _ => Command::Unknown,
+        [first, behind @ ..] if first.as_str() == "services" => command_in(
+            Grammar::Services,
+            behind,
+        ),
+        _ => command_in(Grammar::Plain, words),
     }
 }

@@ -1,5 +1,5 @@
 -- What the program answers with, cause by cause.
-use Rattle.std.proofs.Common.{inl, inr, OnOk, OnErr, ◌≡◌, ◌⊎◌, ℕ, Bool, true, false, not, is_some, if◌then◌else◌, Some, None, Option, Result, Ok, Err, List, [], length, refl, sym, ◌∙◌, ap, subst}
+use Rattle.std.proofs.Common.{inl, inr, OnOk, OnErr, ◌≡◌, ℕ, Bool, true, false, not, is_some, if◌then◌else◌, Some, None, Option, Result, Ok, Err, List, length, refl, sym, ◌∙◌, ap, subst}
 use Rattle.cov_outside.specs.Writes.{Writes}
 use Rattle.cov_outside.specs.declared.whole.ReadFault.{ReadFault}
 use Rattle.cov_outside.specs.declared.whole.ReadFault.TheVariants as read
@@ -7,39 +7,43 @@ use Rattle.module_area.specs.declared.places.Place.{Place}
 use Rattle.brk_table.specs.Meaning.{TablesView}
 use Rattle.cov_base.specs.Meaning.{FactSet}
 use Rattle.session_book.specs.Meaning.{ResultView, JobView, session_of}
-use Rattle.job_input.specs.Meaning.{SourceChange, CameWhole, IsReadFault}
-use Rattle.job_input.specs.Inputs.{IsInputFault, CameJob, CameJobless, CameWith, to_end, to_go_on}
+use Rattle.job_input.specs.Meaning.{SourceChange, IsReadFault}
+use Rattle.job_input.specs.Inputs.{IsInput, IsInputFault, CameJobless}
+use Rattle.job_input.specs.declared.form.Form.{Form}
 use Rattle.job_input.specs.declared.faults.InputFault.{InputFault}
 use Rattle.job_input.specs.declared.faults.InputFault.TheVariants.{Source, Job}
-use Rattle.job_tables.specs.Meaning.{job_fault, Match}
+use Rattle.job_tables.specs.Meaning.{job_fault}
 use Rattle.job_tables.specs.Faults.{IsFaultOf}
 use Rattle.job_tables.specs.declared.faults.TablesFault.{TablesFault}
-use Rattle.interleave_core.specs.Meaning.{Parts}
 use Rattle.job_text.specs.declared.jobs.JobFault.{JobFault}
 use Rattle.job_text.specs.declared.jobs.JobFault.TheVariants as fault
 use Rattle.report_text.specs.Conditions.{AreResultsOf, AreSetsOf}
-use Rattle.report_text.specs.Meaning.{report_of, table_text}
-use Rattle.task_ends.specs.Meaning.{end_of, unlisted_of, ends_text}
-use Rattle.coverage_commands.specs.Meaning.{ReadyView, HoldsBesides, IsReady, IsRefused, Jobless, BadListing, Controlled, if_controlled, with_session, IsAnswer, Refused, OfJob, IsAnswerOf, IsPlayed, IsRunText, IsCause, Unread, Came, Finished, NoMemoryToRun, Read, IsWritten, Answers, SinkChange, AreasChange, sink_change, HasAsked, Reports, Asked, AnyJob, WithSession, Wanted, session_number, way_of}
-use Rattle.refusals.specs.Meaning.{controlled_line, refusal, no_memory_line, bad_schedule_line, RefusalView, read_refusal, jobless_refusal, tables_refusal}
-use Rattle.coverage_commands.specs.Answers.{IsStopped, NotWhole, NoJob, StopsJob, reports_of}
+use Rattle.coverage_commands.specs.Meaning.{HoldsBesides, IsReady, Jobless, BadListing, Controlled, if_controlled, controlled_asked, Refused, OfJob, IsAnswerOf, IsPlayed, IsRunText, IsCause, Unread, Came, Finished, NoMemoryToRun, Read, IsWritten, Answers, SinkChange, AreasChange, sink_change, HasAsked, Reports, session_number, way_of}
+use Rattle.coverage_commands.specs.declared.asked.Wanted.{Wanted}
+use Rattle.coverage_commands.specs.declared.asked.Asked.{Asked}
+use Rattle.coverage_commands.specs.declared.asked.Asked.TheVariants.{AnyJob, WithSession, AllWhole}
+use Rattle.coverage_commands.specs.declared.ready.Ready.{Ready}
+use Rattle.coverage_commands.specs.Asked.{HasSession}
+use Rattle.coverage_commands.specs.Ready.{IsReadyFor, view_of}
+use Rattle.coverage_commands.specs.Calls.{AtLine, IsChecked, IsReplayed, IsText, IsTold, ToEnd, Told, Wanting}
+use Rattle.refusals.specs.Meaning.{controlled_line, refusal, no_memory_line, RefusalView, read_refusal, jobless_refusal, tables_refusal}
+use Rattle.coverage_commands.specs.Answers.{IsStopped, NotWhole, NoJob, StopsJob}
 use Rattle.coverage_commands.specs.Changes.{no_change}
-use Rattle.schedule_play.specs.declared.playing.Played.{Played}
 use Rattle.job_run.specs.declared.outcome.Done.{Done}
 use Rattle.command_words.specs.declared.words.Command.{Command}
 use Rattle.command_words.specs.declared.words.Command.TheVariants.{Run, Exits, Early, Count, Marks, Trial, Table, Ends, Replay, Combine, Show, Prove, Verify, Unknown}
 use Rattle.job_run.specs.Outcomes.{IsOutcomeBy}
 use Rattle.refusals.specs.Refusals.{input_refusal}
+use Rattle.schedule_play.specs.Meaning.{Play}
+use Rattle.session_book.specs.declared.services.Service.{Service}
 use Rattle.task_run.specs.Meaning.{Course}
+use Rattle.task_services.specs.Meaning.{course_of}
 use Rattle.job_run.specs.Meaning.{Account}
 use Rattle.job_run.specs.Runs.{HasLeftBy}
 use Rattle.job_run.specs.Sets.{SetsView, set_in}
 use Rattle.job_run.proofs.SessionLemmas.{set_is_left}
 use Rattle.job_run.specs.Tasks.{results_of}
-use Rattle.schedule_play.specs.Meaning.{IsRun, Play, Whole, Bad, replay_text}
-use Rattle.schedule_play.specs.Play.{play_behind}
-use Rattle.coverage_commands.proofs.ReadyLemmas.{not_both, unnamed, refused_told}
-use Rattle.coverage_commands.proofs.WordLemmas.{any_job, by_report}
+use Rattle.coverage_commands.proofs.ReadyLemmas.{refused_told}
 use Rattle.coverage_commands.specs.Words.{runs_threads, without_threads}
 
 pub are_sets : (course : Course) (j : JobView) (tables : TablesView) (tasks : List Done) (sets : SetsView) → IsOutcomeBy course j tables.places tasks sets →
@@ -72,83 +76,6 @@ pub written_as : {K T E : Type 0} {written : K → Option (List ℕ)} {faults : 
 written_as text (Ok v) answer w good bad = inl (good, w.whole, w.cause.later)
 written_as text (Err e) answer w good bad = inr (bad, w.some, w.cause.failed)
 
--- ---- a job that came
-
--- alone
-pub ready_alone : (c : Command) (s : SourceChange) (j : JobView) (tables : TablesView) (number : ℕ) (came : CameJob (way_of c).more s j) → (way_of c).reads_job ≡ true → (way_of c).more ≡ false → HasAsked (way_of c).asked j →
-    ((wanted : Wanted) → (way_of c).asked ≡ WithSession wanted → session_number j wanted.name ≡ Some number) → Match j tables → IsReady c came.bytes (record { job = j; tables = tables; number = number; lines = came.has.count; rest = [] })
-ready_alone c s j tables number came reads single asks named match' = record {
-  reads = reads;
-  has = came.has;
-  asked = asks;
-  named = named;
-  match = match';
-  lines = refl;
-  behind = λ m. absurd (not_both (way_of c).more m single);
-}
-
--- with what stands behind it
-pub ready_with : (c : Command) (s : SourceChange) (j : JobView) (tables : TablesView) (number count : ℕ) (rest : List ℕ) (came : CameWith (way_of c).more s j count rest) → (way_of c).reads_job ≡ true → HasAsked (way_of c).asked j →
-    ((wanted : Wanted) → (way_of c).asked ≡ WithSession wanted → session_number j wanted.name ≡ Some number) → Match j tables → IsReady c came.bytes (record { job = j; tables = tables; number = number; lines = count; rest = rest })
-ready_with c s j tables number count rest came reads asks named match' = record {
-  reads = reads;
-  has = came.has;
-  asked = asks;
-  named = named;
-  match = match';
-  lines = sym came.counts;
-  behind = came.behind;
-}
-
--- its answer
-pub answered : (c : Command) (s : SourceChange) (a : Account) (k : SinkChange) (answer : ℕ) (status : ℕ) (text bytes : List ℕ) (r : ReadyView) → (status ≡ 0 → HoldsBesides c bytes) → CameWhole s bytes → IsReady c bytes r → IsAnswerOf c r status text → IsWritten status text k answer →
-    Answers c s (no_change a) k answer
-answered c s a k answer status text bytes r besides came ready is told = record {
-  status = status;
-  text = text;
-  cause = Came bytes came (OfJob r ready is) besides refl;
-  told = told;
-}
-
--- the run of one
-pub ran : (c : Command) (s : SourceChange) (a : AreasChange) (k : SinkChange) (answer : ℕ) (text bytes : List ℕ) (r : ReadyView) → CameWhole s bytes → IsReady c bytes r → IsRunText c r a text → IsWritten 0 text k answer → Answers c s a k answer
-ran c s a k answer text bytes r came ready is told = record { status = 0; text = text; cause = Finished r (Read bytes came ready) refl is; told = told }
-
-pub reported : (c : Command) (course : Course) (s : SourceChange) (j : JobView) (tables : TablesView) (a : AreasChange) (k : SinkChange) (answer : ℕ) (text : List ℕ) → reports_of c ≡ Some course →
-    CameJob to_end s j → Match j tables → Reports course j tables a (report_of j tables) text → IsWritten 0 text k answer → Answers c s a k answer
-reported c course s j tables a k answer text reporting came match' reps told =
-    by_report (λ d x. Reports x j tables a (report_of j tables) text → Answers d s a k answer) c course reporting
-    (λ is. ran Run s a k answer text came.bytes _ came.came (ready_alone Run s j tables 0 came refl refl (any_job j) (unnamed j 0) match') is told)
-    (λ is. ran Exits s a k answer text came.bytes _ came.came (ready_alone Exits s j tables 0 came refl refl (any_job j) (unnamed j 0) match') is told) reps
-
-pub listed_places : (s : SourceChange) (j : JobView) (tables : TablesView) (a : Account) (k : SinkChange) (answer : ℕ) →
-    CameJob to_end s j → Match j tables → IsWritten 0 (table_text j tables) k answer →
-    Answers Table s (no_change a) k answer
-listed_places s j tables a k answer came match' told =
-    answered Table s a k answer 0 (table_text j tables) came.bytes _ (λ z. tt) came.came (ready_alone Table s j tables 0 came refl refl (any_job j) (unnamed j 0) match') (refl, refl) told
-
-pub told_ends : (s : SourceChange) (j : JobView) (tables : TablesView) (a : Account) (k : SinkChange) (answer : ℕ) →
-    CameJob to_end s j → Match j tables → IsWritten 0 (ends_text j (end_of j tables.places) (unlisted_of j tables.places)) k answer →
-    Answers Ends s (no_change a) k answer
-told_ends s j tables a k answer came match' told =
-    answered Ends s a k answer 0 (ends_text j (end_of j tables.places) (unlisted_of j tables.places)) came.bytes _ (λ z. tt) came.came (ready_alone Ends s j tables 0 came refl refl (any_job j) (unnamed j 0) match') (refl, refl) told
-
--- ---- no job
-
-no_job : (c : Command) (s : SourceChange) (a : Account) (r : RefusalView) → (way_of c).reads_input ≡ true → (way_of c).reads_job ≡ true → IsStopped (way_of c).more (way_of c).asked s r → IsCause c s (no_change a) r.status r.line
-no_job c s a r input job (NotWhole e h is) = Unread e input h is refl
-no_job c s a r input job (NoJob bytes came is) = Came bytes came (Refused job is) (λ z. absurd (refused_told (way_of c).more (way_of c).asked bytes r is z)) refl
-
-pub stopped : (c : Command) (s : SourceChange) (a : Account) (k : SinkChange) (answer : ℕ) (r : RefusalView) →
-    (way_of c).reads_input ≡ true → (way_of c).reads_job ≡ true → IsStopped (way_of c).more (way_of c).asked s r → IsWritten r.status r.line k answer → Answers c s (no_change a) k answer
-stopped c s a k answer r input job stop told = record { status = r.status; text = r.line; cause = no_job c s a r input job stop; told = told }
-
--- of a command that reports on a run
-pub stopped_run : (c : Command) (course : Course) (s : SourceChange) (a : Account) (k : SinkChange) (answer : ℕ) (r : RefusalView) →
-    reports_of c ≡ Some course → IsStopped to_end AnyJob s r → IsWritten r.status r.line k answer → Answers c s (no_change a) k answer
-stopped_run c course s a k answer r reporting stop told =
-    by_report (λ d _. Answers d s (no_change a) k answer) c course reporting (stopped Run s a k answer r refl refl stop told) (stopped Exits s a k answer r refl refl stop told)
-
 -- an input that wasn't read whole
 pub unread : (c : Command) (s : SourceChange) (a : Account) (k : SinkChange) (answer : ℕ) (e : ReadFault) → (way_of c).reads_input ≡ true → IsReadFault s e → IsWritten (read_refusal e).status (read_refusal e).line k answer → Answers c s (no_change a) k answer
 unread c s a k answer e reads h told = record { status = (read_refusal e).status; text = (read_refusal e).line; cause = Unread e reads h refl refl; told = told }
@@ -157,68 +84,136 @@ unread c s a k answer e reads h told = record { status = (read_refusal e).status
 pub wanting_told : (c : Command) (s : SourceChange) (a : Account) (k : SinkChange) (answer : ℕ) → (way_of c).reads_input ≡ true → IsWritten 7 no_memory_line k answer → Answers c s (no_change a) k answer
 wanting_told c s a k answer reads told = unread c s a k answer read.NoMemory reads tt told
 
--- or in a run
-pub wanting_run : (c : Command) (s : SourceChange) (a : AreasChange) (k : SinkChange) (answer : ℕ) (bytes : List ℕ) (r : ReadyView) → CameWhole s bytes → IsReady c bytes r → (way_of c).makes_areas ≡ true → IsWritten 7 no_memory_line k answer → Answers c s a k answer
-wanting_run c s a k answer bytes r came ready makes told = record { status = 7; text = no_memory_line; cause = NoMemoryToRun r (Read bytes came ready) makes refl refl; told = told }
+-- a job is read from the input
+pub job_read : (c : Command) → (way_of c).reads_job ≡ true → (way_of c).reads_input ≡ true
+job_read (Run g) h = refl
+job_read Exits h = refl
+job_read Early h = refl
+job_read (Count g) h = refl
+job_read (Marks name g) h = refl
+job_read (Trial number tasks) h = absurd cc
+job_read (Table g) h = refl
+job_read (Ends g) h = refl
+job_read Replay h = refl
+job_read Combine h = refl
+job_read (Show name g) h = refl
+job_read (Prove name) h = refl
+job_read (Verify name) h = refl
+job_read Unknown h = absurd cc
 
--- of a command that reports on it
-pub wanting_report : (c : Command) (course : Course) (s : SourceChange) (j : JobView) (tables : TablesView) (a : AreasChange) (k : SinkChange) (answer : ℕ) → reports_of c ≡ Some course → CameJob to_end s j → Match j tables → IsWritten 7 no_memory_line k answer → Answers c s a k answer
-wanting_report c course s j tables a k answer reporting came match' told =
-    by_report (λ d _. Answers d s a k answer) c course reporting (wanting_run Run s a k answer came.bytes _ came.came (ready_alone Run s j tables 0 came refl refl (any_job j) (unnamed j 0) match') refl told)
-    (wanting_run Exits s a k answer came.bytes _ came.came (ready_alone Exits s j tables 0 came refl refl (any_job j) (unnamed j 0) match') refl told)
+-- ---- a job that is ready
+
+-- a session that was named has that number
+has_number : (asked : Asked) (j : JobView) (s : ℕ) (wanted : Wanted) → HasSession asked j s → asked ≡ WithSession wanted → session_number j wanted.name ≡ Some s
+has_number AnyJob j s wanted h e = absurd cc
+has_number (WithSession own) j s wanted h e = let same : own ≡ wanted = cc in subst (λ (w : Wanted). session_number j w.name ≡ Some s) same h.number
+has_number AllWhole j s wanted h e = absurd cc
+
+pub ready_is : (c : Command) (s : SourceChange) (r : Ready) → (way_of c).reads_job ≡ true → (i : IsInput (way_of c).form s r.input) → IsReadyFor (way_of c).asked r → IsReady c i.came.bytes (view_of r)
+ready_is c s r reads i is = record {
+  reads = reads;
+  has = i.came.has;
+  asked = is.has;
+  named = λ wanted e. has_number (way_of c).asked r.input.job r.session.0 wanted is.session e;
+  match = is.job.matching;
+  lines = sym i.came.counts;
+  behind = i.came.behind;
+}
+
+-- a run of its tasks
+pub ran : (c : Command) (s : SourceChange) (a : AreasChange) (k : SinkChange) (answer : ℕ) (r : Ready) (is : ℕ → List ℕ → Type 0) → (way_of c).reads_job ≡ true → (way_of c).makes_areas ≡ true → IsReadyFor (way_of c).asked r → IsInput (way_of c).form s r.input →
+    ((status : ℕ) (text : List ℕ) → is status text → (status ≡ 0) × IsRunText c (view_of r) a text) → IsTold is k answer → Answers c s a k answer
+ran c s a k answer r is reads makes ready i run (Told status text h told) = record {
+  status = status;
+  text = text;
+  cause = Finished (view_of r) (Read i.came.bytes i.came.came (ready_is c s r reads i ready)) (run status text h).0 (run status text h).1;
+  told = told;
+}
+ran c s a k answer r is reads makes ready i run (Wanting told) = record {
+  status = 7;
+  text = no_memory_line;
+  cause = NoMemoryToRun (view_of r) (Read i.came.bytes i.came.came (ready_is c s r reads i ready)) makes refl refl;
+  told = told;
+}
+
+-- an answer that no areas are made for
+pub answered : (c : Command) (s : SourceChange) (a : Account) (k : SinkChange) (answer : ℕ) (r : Ready) (is : ℕ → List ℕ → Type 0) → (way_of c).reads_job ≡ true → IsReadyFor (way_of c).asked r → (i : IsInput (way_of c).form s r.input) →
+    ((status : ℕ) (text : List ℕ) → is status text → IsAnswerOf c (view_of r) status text) → ((status : ℕ) (text : List ℕ) → is status text → status ≡ 0 → HoldsBesides c i.came.bytes) → IsTold is k answer → Answers c s (no_change a) k answer
+answered c s a k answer r is reads ready i of besides (Told status text h told) = record {
+  status = status;
+  text = text;
+  cause = Came i.came.bytes i.came.came (OfJob (view_of r) (ready_is c s r reads i ready) (of status text h)) (besides status text h) refl;
+  told = told;
+}
+answered c s a k answer r is reads ready i of besides (Wanting told) = wanting_told c s a k answer (job_read c reads) told
+
+-- one text, whole
+pub told_text : {K T E : Type 0} {written : K → Option (List ℕ)} {faults : K → ℕ} {old new : K} (text : List ℕ) (r : Result T E) (answer : ℕ) → Writes written faults old new r text →
+    OnOk r (answer ≡ 0) → OnErr r (answer ≡ 6) → IsTold (IsText text) (sink_change written faults old new) answer
+told_text text r answer w good bad = Told 0 text (refl, refl) (written_as text r answer w good bad)
+
+-- a run with services that are the job's
+pub with_own : (j : JobView) (tables : TablesView) {a : AreasChange} {form : (ℕ → ResultView) → (ℕ → ℕ → FactSet) → List ℕ} {k : SinkChange} {answer : ℕ} (o : Option (List Service)) → o ≡ j.services →
+    IsTold (λ status text. (status ≡ 0) × Reports (course_of o) j tables a form text) k answer → IsTold (λ status text. (status ≡ 0) × Reports (course_of j.services) j tables a form text) k answer
+with_own j tables {a} {form} {k} {answer} o is told = subst (λ (p : Option (List Service)). IsTold (λ status text. (status ≡ 0) × Reports (course_of p) j tables a form text) k answer) is told
+
+-- a schedule behind it
+pub played : (r : Ready) (status : ℕ) (text : List ℕ) → IsReplayed r.input.job r.tables r.input.lines r.input.rest.items status text → IsAnswerOf Replay (view_of r) status text
+played r status text (ToEnd core items plays run is) = subst (λ (p : Play). IsPlayed (view_of r) p status text) (sym plays) is
+played r status text (AtLine line bad status_is text_is) = subst (λ (p : Play). IsPlayed (view_of r) p status text) (sym bad) (status_is, text_is)
+
+pub replayed_besides : (r : Ready) (s : SourceChange) (i : IsInput (way_of Replay).form s r.input) → IsReadyFor (way_of Replay).asked r → (status : ℕ) (text : List ℕ) → IsReplayed r.input.job r.tables r.input.lines r.input.rest.items status text → status ≡ 0 → HoldsBesides Replay i.came.bytes
+replayed_besides r s i ready status text (ToEnd core items plays run is) z = record { ready = view_of r; is = ready_is Replay s r refl i ready; core = core; played = items; plays = plays; run = run }
+replayed_besides r s i ready status text (AtLine line bad status_is text_is) z = let clash : 9 ≡ 0 = sym status_is ∙ z in absurd cc
+
+-- marks and evidence behind it
+pub checked_besides : (name : List ℕ) (r : Ready) (s : SourceChange) (i : IsInput (way_of (Verify name)).form s r.input) → IsReadyFor (way_of (Verify name)).asked r → (status : ℕ) (text : List ℕ) → IsChecked name r.input.job r.tables r.session.0 r.input.rest.items status text → status ≡ 0 → HoldsBesides (Verify name) i.came.bytes
+checked_besides name r s i ready status text h z = record { ready = view_of r; few = i.came.came.within; is = ready_is (Verify name) s r refl i ready; has = h.verified z }
+
+-- ---- no job
+
+no_job : (c : Command) (s : SourceChange) (a : Account) (r : RefusalView) → (way_of c).reads_job ≡ true → IsStopped (way_of c).form (way_of c).asked s r → IsCause c s (no_change a) r.status r.line
+no_job c s a r job (NotWhole e h is) = Unread e (job_read c job) h is refl
+no_job c s a r job (NoJob bytes came is) = Came bytes came (Refused job is) (λ z. absurd (refused_told (way_of c).form (way_of c).asked bytes r is z)) refl
+
+pub stopped : (c : Command) (s : SourceChange) (a : Account) (k : SinkChange) (answer : ℕ) (r : RefusalView) →
+    (way_of c).reads_job ≡ true → IsStopped (way_of c).form (way_of c).asked s r → IsWritten r.status r.line k answer → Answers c s (no_change a) k answer
+stopped c s a k answer r job stop told = record { status = r.status; text = r.line; cause = no_job c s a r job stop; told = told }
 
 -- a source that gave no job, and listings that have no tables
-no_lines : (more : Bool) (asked : Asked) (s : SourceChange) (e : JobFault) → CameJobless more s e → IsStopped more asked s (jobless_refusal e)
-no_lines more asked s (fault.BadJob n) h = NoJob h.bytes h.came (Jobless (fault.BadJob n) h.is (λ e. absurd cc) refl)
-no_lines more asked s (fault.TooLarge what n) h = NoJob h.bytes h.came (Jobless (fault.TooLarge what n) h.is (λ e. absurd cc) refl)
-no_lines more asked s fault.NoMemory h = NotWhole read.NoMemory tt refl
+no_lines : (form : Form) (asked : Asked) (s : SourceChange) (e : JobFault) → CameJobless form s e → IsStopped form asked s (jobless_refusal e)
+no_lines form asked s (fault.BadJob n) h = NoJob h.bytes h.came (Jobless (fault.BadJob n) h.is (λ e. absurd cc) refl)
+no_lines form asked s (fault.TooLarge what n) h = NoJob h.bytes h.came (Jobless (fault.TooLarge what n) h.is (λ e. absurd cc) refl)
+no_lines form asked s fault.NoMemory h = NotWhole read.NoMemory tt refl
 
-pub not_come : (more : Bool) (asked : Asked) (s : SourceChange) (e : InputFault) → IsInputFault more s e → IsStopped more asked s (input_refusal e)
-not_come more asked s (Source e) h = NotWhole e h refl
-not_come more asked s (Job e) h = no_lines more asked s e h
+pub not_come : (form : Form) (asked : Asked) (s : SourceChange) (e : InputFault) → IsInputFault form s e → IsStopped form asked s (input_refusal e)
+not_come form asked s (Source e) h = NotWhole e h refl
+not_come form asked s (Job e) h = no_lines form asked s e h
 
 pub no_tables : (asked : Asked) (j : JobView) (e : TablesFault) → HasAsked asked j → IsFaultOf (job_fault j) e → StopsJob asked j (tables_refusal e)
-no_tables asked j e has (inl wanting) = λ more s came. NotWhole read.NoMemory tt (ap tables_refusal wanting)
-no_tables asked j e has (inr first) = λ more s came. NoJob came.bytes came.came (BadListing j e came.has has first refl)
+no_tables asked j e has (inl wanting) = λ form s came. NotWhole read.NoMemory tt (ap tables_refusal wanting)
+no_tables asked j e has (inr first) = λ form s came. NoJob came.bytes came.came (BadListing j e came.has has first refl)
 
 -- a session that must have no controller and has one
-pub is_controlled : (name : List ℕ) (whole : Bool) (j : JobView) (number : ℕ) (r : RefusalView) → whole ≡ true → session_number j name ≡ Some number → is_some (session_of j number).by ≡ true → r ≡ refusal 14 (controlled_line (session_of j number).name) →
-    StopsJob (with_session name whole) j r
-is_controlled name false j number r must is by told = absurd cc
-is_controlled name true j number r must is by told = λ more s came.
-    NoJob came.bytes came.came (Controlled j number came.has (ap (if_controlled j) is ∙ ap (λ (b : Bool). if not b then None else Some number) by) told)
-
--- ---- a schedule behind a job
-
--- one that was played, and one that wasn't
-pub replayed : (s : SourceChange) (j : JobView) (tables : TablesView) (count : ℕ) (rest : List ℕ) (core : Parts) (played : List Played) (a : Account) (k : SinkChange) (answer : ℕ) →
-    CameWith to_go_on s j count rest → Match j tables → play_behind j tables count rest ≡ Whole core played → IsRun (record { job = j; places = tables.places }) core → IsWritten 0 (replay_text j tables core played) k answer → Answers Replay s (no_change a) k answer
-replayed s j tables count rest core played a k answer came match' is run told =
-    let r : ReadyView = record { job = j; tables = tables; number = 0; lines = count; rest = rest } in
-    let ready : IsReady Replay came.bytes r = ready_with Replay s j tables 0 count rest came refl (any_job j) (unnamed j 0) match' in
-    answered Replay s a k answer 0 (replay_text j tables core played) came.bytes r (λ z. record { ready = r; is = ready; core = core; played = played; plays = is; run = run }) came.came
-    ready (subst (λ (p : Play). IsPlayed r p 0 (replay_text j tables core played)) (sym is) (refl, refl)) told
-
-pub bad_schedule : (s : SourceChange) (j : JobView) (tables : TablesView) (count : ℕ) (rest : List ℕ) (line : ℕ) (a : Account) (k : SinkChange) (answer : ℕ) →
-    CameWith to_go_on s j count rest → Match j tables → play_behind j tables count rest ≡ Bad line → IsWritten 9 (bad_schedule_line line) k answer → Answers Replay s (no_change a) k answer
-bad_schedule s j tables count rest line a k answer came match' is told =
-    let r : ReadyView = record { job = j; tables = tables; number = 0; lines = count; rest = rest } in
-    answered Replay s a k answer 9 (bad_schedule_line line) came.bytes r (λ z. absurd cc) came.came
-    (ready_with Replay s j tables 0 count rest came refl (any_job j) (unnamed j 0) match') (subst (λ (p : Play). IsPlayed r p 9 (bad_schedule_line line)) (sym is) (refl, refl)) told
+pub is_controlled : (wanted : Wanted) (j : JobView) (number : ℕ) (r : RefusalView) → wanted.whole ≡ true → session_number j wanted.name ≡ Some number → is_some (session_of j number).by ≡ true → r ≡ refusal 14 (controlled_line (session_of j number).name) →
+    StopsJob (WithSession wanted) j r
+is_controlled wanted j number r must is by told = λ form s came.
+    let found : controlled_asked (WithSession wanted) j ≡ Some number = ap (λ (b : Bool). if b then if_controlled j (session_number j wanted.name) else None) must ∙ (ap (if_controlled j) is ∙ ap (λ (b : Bool). if not b then None else Some number) by) in
+    NoJob came.bytes came.came (Controlled j number came.has found told)
 
 -- the words that need no threads are answered alike
 pub alike : (c : Command) → runs_threads c ≡ false → without_threads c ≡ c
-alike Run h = absurd cc
+alike (Run g) h = absurd cc
 alike Exits h = absurd cc
 alike Early h = absurd cc
-alike Count h = absurd cc
-alike (Marks name) h = absurd cc
+alike (Count g) h = absurd cc
+alike (Marks name g) h = absurd cc
 alike (Trial number tasks) h = absurd cc
-alike Table h = refl
-alike Ends h = refl
+alike (Table g) h = refl
+alike (Ends g) h = refl
 alike Replay h = refl
 alike Combine h = refl
-alike (Show name) h = refl
+alike (Show name g) h = refl
 alike (Prove name) h = refl
 alike (Verify name) h = refl
 alike Unknown h = refl

@@ -2,34 +2,21 @@
 use Rattle.std.proofs.Common.{◌≡◌, ◌≢◌, ℕ, suc, true, Option, Some, None, List, length, drop, refl, sym, ◌∙◌, ap, subst}
 use Rattle.cov_base.specs.declared.facts.Fact.{Fact}
 use Rattle.brk_table.specs.Meaning.{TablesView}
-use Rattle.evidence_check.specs.Meaning.{facts_of_modules, evidence_claims, first_refuted, evidence, evidence_fields, IsVerified}
+use Rattle.evidence_check.specs.Meaning.{facts_of_modules, evidence_claims, first_refuted, evidence_fields, IsVerified}
 use Rattle.evidence_check.specs.Verified.{Passes, IsVerifyFault}
 use Rattle.evidence_check.specs.declared.verifying.VerifyFault.{VerifyFault}
 use Rattle.evidence_check.specs.declared.verifying.VerifyFault.TheVariants as fault
-use Rattle.job_run.specs.Meaning.{Account}
 use Rattle.marks_file.specs.Meaning.{MarkedView, MarksView, keeps_rules, HasFile, rows, first_bad}
-use Rattle.session_book.specs.Meaning.{JobView, session_of}
+use Rattle.session_book.specs.Meaning.{JobView}
 use Rattle.session_marks.specs.FromFile.{IsOwn}
 use Rattle.session_marks.specs.Meaning.{session_rows}
 use Rattle.session_marks.proofs.SessionLemmas.{own_same}
 use Rattle.table_combine.specs.Meaning.{Difference, first_difference}
-use Rattle.coverage_commands.specs.Meaning.{ReadyView, IsReady, Came, OfJob, IsWritten, Answers, SinkChange, judged, judged_by, IsVerdict, NoStart, OfFile, HasVerified, session_number}
+use Rattle.coverage_commands.specs.Meaning.{IsWritten, SinkChange, judged, judged_by, NoStart, OfFile, HasVerified}
+use Rattle.coverage_commands.specs.Calls.{IsChecked, IsTold, Told}
+use Rattle.coverage_commands.specs.Calls as without
 use Rattle.refusals.specs.Meaning.{RefusalView, refusal, bad_marks_line, other_table_line, bad_evidence_line, refuted_line, verified_line}
-use Rattle.coverage_commands.proofs.AnswerLemmas.{answered, ready_alone, ready_with, wanting_told}
-use Rattle.coverage_commands.proofs.ReadyLemmas.{whole_named, of_name}
-use Rattle.job_input.specs.Meaning.{SourceChange}
-use Rattle.job_input.specs.Inputs.{CameJob, CameWith, to_end, to_go_on}
-use Rattle.job_tables.specs.Meaning.{Match}
-use Rattle.coverage_commands.specs.Changes.{no_change}
-use Rattle.coverage_commands.specs.Checked.{verify_refusal, IsStartRefusal, BadStart, NoRoom, IsCheckRefusal, Unverified, Wanting}
-use Rattle.command_words.specs.declared.words.Command.TheVariants.{Prove, Verify}
-
--- evidence that was written
-pub proved : (name : List ℕ) (s : SourceChange) (j : JobView) (tables : TablesView) (number : ℕ) (a : Account) (k : SinkChange) (answer : ℕ) →
-    CameJob to_end s j → Match j tables → session_number j name ≡ Some number → (session_of j number).by ≡ None → IsWritten 0 (evidence j tables number) k answer → Answers (Prove name) s (no_change a) k answer
-proved name s j tables number a k answer came match' is free told =
-    answered (Prove name) s a k answer 0 (evidence j tables number) came.bytes _ (λ z. tt) came.came
-    (ready_alone (Prove name) s j tables number came refl refl (whole_named j name number is free) (λ wanted e. of_name j number (record { name = name; whole = true }) wanted is e) match') (refl, refl) told
+use Rattle.coverage_commands.specs.Checked.{verify_refusal, IsStartRefusal, BadStart, NoRoom, IsCheckRefusal, IsPassed, Unverified, Wanting}
 
 -- ---- the verdict on a file and evidence
 
@@ -81,26 +68,11 @@ not_verified j tables s rest r marks end (fault.Refuted row f) rules file own ba
     Unverified (not_zero r 15 (refuted_line row f) is) (λ name. OfFile marks.modules end (record { marks = marks; rules = rules; file = file; are = refl }) (is ∙ judged_refuted name j tables s marks.modules (drop end rest) row f own bad))
 not_verified j tables s rest r marks end fault.NoMemory rules file own bad is = Wanting is
 
--- as it is answered
-judged_is : (name : List ℕ) (s : SourceChange) (j : JobView) (tables : TablesView) (number count : ℕ) (rest : List ℕ) (status : ℕ) (text : List ℕ) (a : Account) (k : SinkChange) (answer : ℕ) → (came : CameWith to_go_on s j count rest) → Match j tables → session_number j name ≡ Some number → (session_of j number).by ≡ None →
-    IsVerdict name j tables number rest (refusal status text) → (status ≡ 0 → HasVerified j tables number rest) → IsWritten status text k answer → Answers (Verify name) s (no_change a) k answer
-judged_is name s j tables number count rest status text a k answer came match' named free is sure told =
-    let r : ReadyView = record { job = j; tables = tables; number = number; lines = count; rest = rest } in
-    let ready : IsReady (Verify name) came.bytes r = ready_with (Verify name) s j tables number count rest came refl (whole_named j name number named free) (λ wanted e. of_name j number (record { name = name; whole = true }) wanted named e) match' in
-    record {
-      status = status;
-      text = text;
-      cause = Came came.bytes came.came (OfJob r ready is)
-          (λ z. record { ready = r; few = came.came.within; is = ready; has = sure z }) refl;
-      told = told;
-    }
+-- as it is told
+pub checked : (name : List ℕ) (j : JobView) (tables : TablesView) (s : ℕ) (rest : List ℕ) (facts : ℕ) (k : SinkChange) (answer : ℕ) → IsPassed j tables s rest facts → HasVerified j tables s rest → IsWritten 0 (verified_line name facts) k answer →
+    IsTold (IsChecked name j tables s rest) k answer
+checked name j tables s rest facts k answer passed has told = Told 0 (verified_line name facts) (record { verdict = passed name; verified = λ z. has }) told
 
-pub checked : (name : List ℕ) (s : SourceChange) (j : JobView) (tables : TablesView) (number count : ℕ) (rest : List ℕ) (facts : ℕ) (a : Account) (k : SinkChange) (answer : ℕ) → (came : CameWith to_go_on s j count rest) → Match j tables → session_number j name ≡ Some number → (session_of j number).by ≡ None →
-    IsVerdict name j tables number rest (refusal 0 (verified_line name facts)) → HasVerified j tables number rest → IsWritten 0 (verified_line name facts) k answer → Answers (Verify name) s (no_change a) k answer
-checked name s j tables number count rest facts a k answer came match' named free is has told = judged_is name s j tables number count rest 0 (verified_line name facts) a k answer came match' named free is (λ z. has) told
-
-pub unchecked : (name : List ℕ) (s : SourceChange) (j : JobView) (tables : TablesView) (number count : ℕ) (rest : List ℕ) (r : RefusalView) (a : Account) (k : SinkChange) (answer : ℕ) → (came : CameWith to_go_on s j count rest) → Match j tables → session_number j name ≡ Some number → (session_of j number).by ≡ None →
-    IsCheckRefusal j tables number rest r → IsWritten r.status r.line k answer → Answers (Verify name) s (no_change a) k answer
-unchecked name s j tables number count rest r a k answer came match' named free (Unverified never is) told = judged_is name s j tables number count rest r.status r.line a k answer came match' named free (is name) (λ z. absurd (never z)) told
-unchecked name s j tables number count rest r a k answer came match' named free (Wanting is) told =
-    wanting_told (Verify name) s a k answer refl (subst (λ (v : RefusalView). IsWritten v.status v.line k answer) is told)
+pub unchecked : (name : List ℕ) (j : JobView) (tables : TablesView) (s : ℕ) (rest : List ℕ) (r : RefusalView) (k : SinkChange) (answer : ℕ) → IsCheckRefusal j tables s rest r → IsWritten r.status r.line k answer → IsTold (IsChecked name j tables s rest) k answer
+unchecked name j tables s rest r k answer (Unverified never is) told = Told r.status r.line (record { verdict = is name; verified = λ z. absurd (never z) }) told
+unchecked name j tables s rest r k answer (Wanting is) told = without.Wanting (subst (λ (v : RefusalView). IsWritten v.status v.line k answer) is told)

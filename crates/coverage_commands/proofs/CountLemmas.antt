@@ -3,20 +3,13 @@ use Rattle.std.proofs.Common.{◌≡◌, ℕ, Bool, true, false, if◌then◌els
 use Rattle.std.proofs.lemmas.List.Elements.{All-cons, All-nil}
 use Rattle.brk_table.specs.Meaning.{TablesView}
 use Rattle.count_session.specs.Job.{CountsView, IsCountedJob, count_of}
-use Rattle.job_run.specs.Meaning.{Account}
 use Rattle.job_run.specs.Tasks.{results_of}
 use Rattle.job_run.specs.declared.outcome.Done.{Done}
 use Rattle.report_text.specs.Meaning.{count_text}
 use Rattle.session_book.specs.Meaning.{JobView, SessionView, is_whole}
 use Rattle.session_book.specs.Sessions.{AreWhole}
-use Rattle.coverage_commands.proofs.AnswerLemmas.{answered, ready_alone}
-use Rattle.coverage_commands.proofs.ReadyLemmas.{all_whole, nameless}
-use Rattle.coverage_commands.specs.Meaning.{IsWritten, Answers, SinkChange, controlled_from, first_controlled}
-use Rattle.job_input.specs.Meaning.{SourceChange}
-use Rattle.job_input.specs.Inputs.{CameJob, to_end}
-use Rattle.job_tables.specs.Meaning.{Match}
-use Rattle.coverage_commands.specs.Changes.{no_change}
-use Rattle.command_words.specs.declared.words.Command.TheVariants.{Count}
+use Rattle.coverage_commands.specs.Meaning.{IsWritten, SinkChange, controlled_from, first_controlled}
+use Rattle.coverage_commands.specs.Calls.{IsCount, IsTold, Told}
 
 -- no session has a controller where none is found
 free_from : (n : ℕ) (ss : List SessionView) → controlled_from n ss ≡ None → All (λ s. is_whole s ≡ true) ss
@@ -30,9 +23,8 @@ free_from n (s ∷ ss) free = by_whole (is_whole s) refl free (free_from (n + 1)
 pub are_whole : (j : JobView) → first_controlled j ≡ None → AreWhole j
 are_whole j free = free_from 1 j.sessions free
 
-pub counted : (s : SourceChange) (j : JobView) (tables : TablesView) (a : Account) (tasks : List Done) (counts : CountsView) (k : SinkChange) (answer : ℕ) → CameJob to_end s j → first_controlled j ≡ None → Match j tables →
-    IsCountedJob j tables.places tasks counts → IsWritten 0 (count_text j tables (λ t. results_of tasks t) (λ s p f. count_of counts s p f)) k answer → Answers Count s (no_change a) k answer
-counted s j tables a tasks counts k answer came free match' is told =
-    answered Count s a k answer 0 (count_text j tables (λ t. results_of tasks t) (λ s p f. count_of counts s p f)) came.bytes _ (λ z. tt) came.came
-    (ready_alone Count s j tables 0 came refl refl (all_whole j free) (nameless j 0) match')
+pub counted : (j : JobView) (tables : TablesView) (tasks : List Done) (counts : CountsView) (k : SinkChange) (answer : ℕ) → IsCountedJob j tables.places tasks counts →
+    IsWritten 0 (count_text j tables (λ t. results_of tasks t) (λ s p f. count_of counts s p f)) k answer → IsTold (IsCount j tables) k answer
+counted j tables tasks counts k answer is told =
+    Told 0 (count_text j tables (λ t. results_of tasks t) (λ s p f. count_of counts s p f))
     (refl, record { results = λ t. results_of tasks t; counts = λ s p f. count_of counts s p f; are_results = is.are_results; are_counts = is.are_counts; is_text = refl }) told

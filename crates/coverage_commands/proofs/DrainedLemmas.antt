@@ -27,17 +27,7 @@ use Rattle.early_report.specs.Text.{drained_in, drained_of, taken_at}
 use Rattle.early_report.specs.Told.{IsTold, HasTold}
 use Rattle.early_report.specs.declared.drains.Stage.{Stage}
 use Rattle.brk_table.specs.Meaning.{TablesView}
-use Rattle.job_text.specs.Meaning.{lines_of}
-use Rattle.job_text.proofs.WholeJob.{job_keeps}
-use Rattle.refusals.specs.Meaning.{no_memory_line}
-use Rattle.coverage_commands.proofs.AnswerLemmas.{ran, ready_alone, wanting_run}
-use Rattle.coverage_commands.proofs.ReadyLemmas.{unnamed}
-use Rattle.coverage_commands.proofs.WordLemmas.{any_job}
-use Rattle.coverage_commands.specs.Meaning.{IsWritten, Answers, SinkChange, AreasChange, AreDrained, IsDrained, closing_of, other_tasks, Reports}
-use Rattle.job_input.specs.Meaning.{SourceChange}
-use Rattle.job_input.specs.Inputs.{CameJob, to_end}
-use Rattle.job_tables.specs.Meaning.{Match}
-use Rattle.command_words.specs.declared.words.Command.TheVariants.{Early}
+use Rattle.coverage_commands.specs.Meaning.{AreDrained, IsDrained, closing_of, other_tasks}
 
 -- ---- a session and its drain
 
@@ -212,18 +202,3 @@ drained_each {E = E} items j places tasks sets lists job outcome extras s by som
 pub are_drained : {E : Type 0} (items : E → List DrainView) (j : JobView) (places : List Place) (tasks : List Done) (sets : SetsView) (lists : List E) → IsJob j → IsOutcomeBy solo j places tasks sets →
     AreExtras (λ plan old new extra finals. HasTold plan old new (items extra) finals) j places tasks sets lists → AreDrained j places (drained_of j (map items lists))
 are_drained items j places tasks sets lists job outcome extras = record { each = drained_each items j places tasks sets lists job outcome extras }
-
--- ---- the answer
-
-pub reported_early : (s : SourceChange) (j : JobView) (tables : TablesView) (a : AreasChange) (k : SinkChange) (answer : ℕ) (drained : ℕ → Option ℕ) (text : List ℕ) → CameJob to_end s j → Match j tables →
-    AreDrained j tables.places drained → Reports solo j tables a (λ results sets. early_of j tables results sets drained) text → IsWritten 0 text k answer → Answers Early s a k answer
-reported_early s j tables a k answer drained text came match' are reps told =
-    ran Early s a k answer text came.bytes _ came.came (ready_alone Early s j tables 0 came refl refl (any_job j) (unnamed j 0) match') (record { drained = drained; are_drained = are; reports = reps }) told
-
-pub wanting_early : (s : SourceChange) (j : JobView) (tables : TablesView) (a : AreasChange) (k : SinkChange) (answer : ℕ) → CameJob to_end s j → Match j tables → IsWritten 7 no_memory_line k answer → Answers Early s a k answer
-wanting_early s j tables a k answer came match' told =
-    wanting_run Early s a k answer came.bytes _ came.came (ready_alone Early s j tables 0 came refl refl (any_job j) (unnamed j 0) match') refl told
-
--- the values of a job that came keep its rules
-pub job_came : (s : SourceChange) (j : JobView) → CameJob to_end s j → IsJob j
-job_came s j came = job_keeps (take came.has.count (lines_of came.bytes)) j came.has.spells came.has.within

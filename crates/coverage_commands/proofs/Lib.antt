@@ -8,4 +8,3 @@ pub mod ReadyLemmas
 pub mod ServedLemmas
 pub mod TrialLemmas
 pub mod NamedLemmas
-pub mod WordLemmas

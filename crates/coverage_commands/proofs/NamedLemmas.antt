@@ -14,11 +14,11 @@ module _ (name : List ℕ) where
 
   counted : (ss : List SessionView) (n : ℕ) → number_from n ss name ≡ (if nat_lt (position_or_len is_it ss) (length ss) then Some (n + position_or_len is_it ss) else None)
   counted [] n = refl
-  counted (s ∷ ss) n = by (is_it s) refl
+  counted (s ∷ ss) n = by (is_it s) refl (counted ss (n + 1))
     where
-      by : (b : Bool) → is_it s ≡ b → number_from n (s ∷ ss) name ≡ (if nat_lt (position_or_len is_it (s ∷ ss)) (length (s ∷ ss)) then Some (n + position_or_len is_it (s ∷ ss)) else None)
-      by true e = rw e (grind (arith, nat_tests))
-      by false e = rw e (counted ss (n + 1) ∙ grind (arith, nat_tests))
+      by : (b : Bool) → is_it s ≡ b → number_from (n + 1) ss name ≡ (if nat_lt (position_or_len is_it ss) (length ss) then Some (n + 1 + position_or_len is_it ss) else None) → number_from n (s ∷ ss) name ≡ (if nat_lt (position_or_len is_it (s ∷ ss)) (length (s ∷ ss)) then Some (n + position_or_len is_it (s ∷ ss)) else None)
+      by true e rest = rw e (grind (arith, nat_tests))
+      by false e rest = rw e (rest ∙ grind (arith, nat_tests))
 
   numbers : (b : Bool) (i : ℕ) → option_map (λ (s : SessNo). s.0) (option_map session_at (cond b (Some i) None)) ≡ (if b then Some (1 + i) else None)
   numbers true i = ap Some (omega arith)

@@ -16,7 +16,8 @@ use Rattle.session_marks.specs.Meaning.{session_marks, session_rows}
 use Rattle.session_marks.proofs.SessionLemmas.{own_same}
 use Rattle.table_combine.specs.Meaning.{Difference, first_difference}
 use Rattle.table_combine.proofs.AnswerLemmas.{one_answer}
-use Rattle.coverage_commands.specs.Meaning.{ReadyView, IsReady, BeginsWith, IsNoFile, BadField, Past, IsUnited, United, BadFile, OtherFile, IsShown, Shown, Fileless, OtherShown, judged, judged_by, IsVerdict, NoStart, OfFile, IsPlayed, IsAnswerOf, IsAnswer, Refused, OfFiles, OfJob, way_of, with_session, Wanted}
+use Rattle.coverage_commands.specs.Meaning.{ReadyView, IsReady, BeginsWith, IsNoFile, BadField, Past, IsUnited, United, BadFile, OtherFile, IsShown, Shown, Fileless, OtherShown, judged, judged_by, IsVerdict, NoStart, OfFile, IsPlayed, IsAnswerOf, IsAnswer, Refused, OfFiles, OfJob, way_of, with_session}
+use Rattle.coverage_commands.specs.declared.asked.Wanted.{Wanted}
 use Rattle.refusals.specs.Meaning.{RefusalView, refusal, bad_marks_line}
 use Rattle.coverage_commands.proofs.ReadyLemmas.{not_both, ready_or_refused, one_refusal, IsSame, one_ready, one_rest, one_number, one_marks}
 use Rattle.command_words.specs.declared.words.Command.{Command}
@@ -160,21 +161,21 @@ abbrev asked_name : List ℕ → Bool → Wanted
 asked_name name whole = record { name = name; whole = whole }
 
 one_of : (c : Command) (b : List ℕ) (r o : ReadyView) (m n : ℕ) (t u : List ℕ) → IsReady c b r → IsReady c b o → IsAnswerOf c r m t → IsAnswerOf c o n u → m ≡ n
-one_of Run b r o m n t u h g p q = absurd p
+one_of (Run w) b r o m n t u h g p q = absurd p
 one_of Exits b r o m n t u h g p q = absurd p
 one_of Early b r o m n t u h g p q = absurd p
-one_of Count b r o m n t u h g p q = p.0 ∙ sym q.0
-one_of (Marks name) b r o m n t u h g p q = absurd p
+one_of (Count w) b r o m n t u h g p q = p.0 ∙ sym q.0
+one_of (Marks name w) b r o m n t u h g p q = absurd p
 one_of (Trial number tasks) b r o m n t u h g p q = absurd p
-one_of Table b r o m n t u h g p q = p.0 ∙ sym q.0
-one_of Ends b r o m n t u h g p q = p.0 ∙ sym q.0
+one_of (Table w) b r o m n t u h g p q = p.0 ∙ sym q.0
+one_of (Ends w) b r o m n t u h g p q = p.0 ∙ sym q.0
 one_of Replay b r o m n t u h g p q =
     played_status r _ m t p ∙ (ap status_of (sym (same_play r o (one_ready Replay b r o h g) (one_rest Replay b r o refl h g))) ∙ sym (played_status o _ n u q))
 one_of Combine b r o m n t u h g p q = absurd p
-one_of (Show name) b r o m n t u h g p q =
-    let same = one_ready (Show name) b r o h g in
-    let numbers = one_number (Show name) b r o (asked_name name false) refl h g in
-    one_showing r m n (own_showing r m t p) (showing r o n u (one_rest (Show name) b r o refl h g) (λ sets. one_marks r o sets same numbers h.match) q)
+one_of (Show name w) b r o m n t u h g p q =
+    let same = one_ready (Show name w) b r o h g in
+    let numbers = one_number (Show name w) b r o (asked_name name false) refl h g in
+    one_showing r m n (own_showing r m t p) (showing r o n u (one_rest (Show name w) b r o refl h g) (λ sets. one_marks r o sets same numbers h.match) q)
 one_of (Prove name) b r o m n t u h g p q = p.0 ∙ sym q.0
 one_of (Verify name) b r o m n t u h g p q =
     let same = one_ready (Verify name) b r o h g in
@@ -187,12 +188,12 @@ files_jobless : (c : Command) → c ≡ Combine → (way_of c).reads_job ≡ tru
 files_jobless c e reads = not_both (way_of c).reads_job reads (ap (λ (d : Command). (way_of d).reads_job) e)
 
 pub one_status : (c : Command) (b : List ℕ) (m n : ℕ) (t u : List ℕ) → IsAnswer c b m t → IsAnswer c b n u → m ≡ n
-one_status c b m n t u (Refused reads is) (Refused also it) = one_refusal (way_of c).more (way_of c).asked b (refusal m t) (refusal n u) is it
+one_status c b m n t u (Refused reads is) (Refused also it) = one_refusal (way_of c).form (way_of c).asked b (refusal m t) (refusal n u) is it
 one_status c b m n t u (Refused reads is) (OfFiles e it) = absurd (files_jobless c e reads)
-one_status c b m n t u (Refused reads is) (OfJob o g it) = absurd (ready_or_refused (way_of c).more (way_of c).asked b o.job (refusal m t) g.has g.asked g.match.faultless is)
+one_status c b m n t u (Refused reads is) (OfJob o g it) = absurd (ready_or_refused (way_of c).form (way_of c).asked b o.job (refusal m t) g.has g.asked g.match.faultless is)
 one_status c b m n t u (OfFiles e is) (Refused also it) = absurd (files_jobless c e also)
 one_status c b m n t u (OfFiles e is) (OfFiles f it) = one_united b m n t u is it
 one_status c b m n t u (OfFiles e is) (OfJob o g it) = absurd (files_jobless c e g.reads)
-one_status c b m n t u (OfJob r h is) (Refused also it) = absurd (ready_or_refused (way_of c).more (way_of c).asked b r.job (refusal n u) h.has h.asked h.match.faultless it)
+one_status c b m n t u (OfJob r h is) (Refused also it) = absurd (ready_or_refused (way_of c).form (way_of c).asked b r.job (refusal n u) h.has h.asked h.match.faultless it)
 one_status c b m n t u (OfJob r h is) (OfFiles e it) = absurd (files_jobless c e h.reads)
 one_status c b m n t u (OfJob r h is) (OfJob o g it) = one_of c b r o m n t u h g is it

@@ -21,7 +21,11 @@ use Rattle.job_text.proofs.Excluded as excluded
 use Rattle.marks_file.specs.Meaning.{MarkedView}
 use Rattle.session_book.specs.Meaning.{JobView, session_of}
 use Rattle.session_marks.specs.Meaning.{marked_module, session_marks}
-use Rattle.coverage_commands.specs.Meaning.{ReadyView, IsReady, IsRefused, Jobless, NoSession, Controlled, BadListing, HasAsked, HasNamed, controlled_asked, first_controlled, if_controlled, session_number, Asked, AnyJob, WithSession, AllWhole, Wanted, way_of}
+use Rattle.coverage_commands.specs.Meaning.{ReadyView, IsReady, IsRefused, Jobless, NoSession, Controlled, BadListing, HasAsked, HasNamed, controlled_asked, first_controlled, if_controlled, session_number, with_session, way_of}
+use Rattle.coverage_commands.specs.declared.asked.Wanted.{Wanted}
+use Rattle.coverage_commands.specs.declared.asked.Asked.{Asked}
+use Rattle.coverage_commands.specs.declared.asked.Asked.TheVariants.{AnyJob, WithSession, AllWhole}
+use Rattle.job_input.specs.declared.form.Form.{Form}
 use Rattle.refusals.specs.Meaning.{RefusalView, refusal, read_refusal, jobless_refusal, list_refusal, build_refusal, tables_refusal}
 use Rattle.command_words.specs.declared.words.Command.{Command}
 
@@ -47,25 +51,22 @@ missing_free asked j wanted number e none controlled = by_whole wanted.whole (sy
     by_whole true h = let clash : None ≡ Some number = sym (ap (if_controlled j) none) ∙ h in absurd cc
     by_whole false h = absurd cc
 
--- a session of the job that may have a controller, one that has none, and all of them without any
-pub any_named : (j : JobView) (name : List ℕ) (number : ℕ) → session_number j name ≡ Some number → HasAsked (WithSession (record { name = name; whole = false })) j
-any_named j name number is = record { named = ap is_some is; free = refl }
-
-pub whole_named : (j : JobView) (name : List ℕ) (number : ℕ) → session_number j name ≡ Some number → (session_of j number).by ≡ None → HasAsked (WithSession (record { name = name; whole = true })) j
-whole_named j name number is free = record { named = ap is_some is; free = ap (if_controlled j) is ∙ ap (λ (o : Option ℕ). if not (is_some o) then None else Some number) free }
+-- of which none is asked, and of which none has one
+pub any_job : (j : JobView) → HasAsked AnyJob j
+any_job j = record { named = tt; free = refl }
 
 pub all_whole : (j : JobView) → first_controlled j ≡ None → HasAsked AllWhole j
 all_whole j free = record { named = tt; free = free }
 
--- the number of the one that is named
-pub of_name : (j : JobView) (number : ℕ) (own wanted : Wanted) → session_number j own.name ≡ Some number → WithSession own ≡ WithSession wanted → session_number j wanted.name ≡ Some number
-of_name j number own wanted is e = let same : own ≡ wanted = cc in subst (λ (w : Wanted). session_number j w.name ≡ Some number) same is
-
-pub unnamed : (j : JobView) (number : ℕ) (wanted : Wanted) → AnyJob ≡ WithSession wanted → session_number j wanted.name ≡ Some number
-unnamed j number wanted e = absurd cc
-
-pub nameless : (j : JobView) (number : ℕ) (wanted : Wanted) → AllWhole ≡ WithSession wanted → session_number j wanted.name ≡ Some number
-nameless j number wanted e = absurd cc
+-- the session that is named has none where it must be whole
+pub is_free : (name : List ℕ) (j : JobView) (s : ℕ) → HasAsked (with_session name true) j → session_number j name ≡ Some s → (session_of j s).by ≡ None
+is_free name j s has number = by_controller (session_of j s).by refl
+  where
+    by_controller : (o : Option ℕ) → (session_of j s).by ≡ o → o ≡ None
+    by_controller None e = refl
+    by_controller (Some t) e =
+        let found : controlled_asked (with_session name true) j ≡ Some s = ap (if_controlled j) number ∙ ap (λ (o : Option ℕ). if not (is_some o) then None else Some s) e in
+        absurd (not_free (with_session name true) j s found has)
 
 -- ---- no refusal has status 0
 
@@ -101,62 +102,62 @@ tables_told first.NoMemory p = absurd cc
 pub status_is : (r q : RefusalView) → r ≡ q → r.status ≡ q.status
 status_is r q e = ap (λ (v : RefusalView). v.status) e
 
-pub refused_told : (more : Bool) (asked : Asked) (b : List ℕ) (r : RefusalView) → IsRefused more asked b r → r.status ≡ 0 → ⊥
-refused_told more asked b r (Jobless e is other told) z = jobless_told e (sym (status_is r (jobless_refusal e) told) ∙ z)
-refused_told more asked b r (NoSession j wanted has named missing told) z = let x : 13 ≡ 0 = sym (status_is r _ told) ∙ z in absurd cc
-refused_told more asked b r (Controlled j number has controlled told) z = let x : 14 ≡ 0 = sym (status_is r _ told) ∙ z in absurd cc
-refused_told more asked b r (BadListing j e has asks some told) z = tables_told e (sym (status_is r (tables_refusal e) told) ∙ z)
+pub refused_told : (form : Form) (asked : Asked) (b : List ℕ) (r : RefusalView) → IsRefused form asked b r → r.status ≡ 0 → ⊥
+refused_told form asked b r (Jobless e is other told) z = jobless_told e (sym (status_is r (jobless_refusal e) told) ∙ z)
+refused_told form asked b r (NoSession j wanted has named missing told) z = let x : 13 ≡ 0 = sym (status_is r _ told) ∙ z in absurd cc
+refused_told form asked b r (Controlled j number has controlled told) z = let x : 14 ≡ 0 = sym (status_is r _ told) ∙ z in absurd cc
+refused_told form asked b r (BadListing j e has asks some told) z = tables_told e (sym (status_is r (tables_refusal e) told) ∙ z)
 
 -- ---- bytes have a job as is asked, or a refusal, which is one
 
-pub ready_or_refused : (more : Bool) (asked : Asked) (b : List ℕ) (j : JobView) (r : RefusalView) → HasJob more (lines_of b) j → HasAsked asked j → job_fault j ≡ None → IsRefused more asked b r → ⊥
-ready_or_refused more asked b j r has asks none (Jobless e is other told) = other (is.jobless j has)
-ready_or_refused more asked b j r has asks none (NoSession k wanted its named missing told) =
-    not_named asked k wanted named missing (subst (λ (i : JobView). HasAsked asked i) (one_job more (lines_of b) j k has its).1 asks)
-ready_or_refused more asked b j r has asks none (Controlled k number its controlled told) =
-    not_free asked k number controlled (subst (λ (i : JobView). HasAsked asked i) (one_job more (lines_of b) j k has its).1 asks)
-ready_or_refused more asked b j r has asks none (BadListing k e its named some told) =
-    let clash : None ≡ Some e = sym none ∙ (ap job_fault (one_job more (lines_of b) j k has its).1 ∙ some) in absurd cc
+pub ready_or_refused : (form : Form) (asked : Asked) (b : List ℕ) (j : JobView) (r : RefusalView) → HasJob form (lines_of b) j → HasAsked asked j → job_fault j ≡ None → IsRefused form asked b r → ⊥
+ready_or_refused form asked b j r has asks none (Jobless e is other told) = other (is.jobless j has)
+ready_or_refused form asked b j r has asks none (NoSession k wanted its named missing told) =
+    not_named asked k wanted named missing (subst (λ (i : JobView). HasAsked asked i) (one_job form (lines_of b) j k has its).1 asks)
+ready_or_refused form asked b j r has asks none (Controlled k number its controlled told) =
+    not_free asked k number controlled (subst (λ (i : JobView). HasAsked asked i) (one_job form (lines_of b) j k has its).1 asks)
+ready_or_refused form asked b j r has asks none (BadListing k e its named some told) =
+    let clash : None ≡ Some e = sym none ∙ (ap job_fault (one_job form (lines_of b) j k has its).1 ∙ some) in absurd cc
 
 -- two faults of the same bytes have one status, where neither is want of memory
-same_fault : (more : Bool) (b : List ℕ) (e f : JobFault) → IsJobFault more b e → IsJobFault more b f → e ≢ fault.NoMemory → f ≢ fault.NoMemory → (jobless_refusal e).status ≡ (jobless_refusal f).status
-same_fault more b (fault.BadJob n) (fault.BadJob m) p q one other = refl
-same_fault more b (fault.BadJob n) (fault.TooLarge what m) p q one other = absurd (excluded.not_both (lines_of b) what n m p.first q.first)
-same_fault more b (fault.BadJob n) fault.NoMemory p q one other = absurd (other refl)
-same_fault more b (fault.TooLarge what n) (fault.BadJob m) p q one other = absurd (excluded.not_both (lines_of b) what m n q.first p.first)
-same_fault more b (fault.TooLarge what n) (fault.TooLarge which m) p q one other = refl
-same_fault more b (fault.TooLarge what n) fault.NoMemory p q one other = absurd (other refl)
-same_fault more b fault.NoMemory f p q one other = absurd (one refl)
+same_fault : (form : Form) (b : List ℕ) (e f : JobFault) → IsJobFault form b e → IsJobFault form b f → e ≢ fault.NoMemory → f ≢ fault.NoMemory → (jobless_refusal e).status ≡ (jobless_refusal f).status
+same_fault form b (fault.BadJob n) (fault.BadJob m) p q one other = refl
+same_fault form b (fault.BadJob n) (fault.TooLarge what m) p q one other = absurd (excluded.not_both (lines_of b) what n m p.first q.first)
+same_fault form b (fault.BadJob n) fault.NoMemory p q one other = absurd (other refl)
+same_fault form b (fault.TooLarge what n) (fault.BadJob m) p q one other = absurd (excluded.not_both (lines_of b) what m n q.first p.first)
+same_fault form b (fault.TooLarge what n) (fault.TooLarge which m) p q one other = refl
+same_fault form b (fault.TooLarge what n) fault.NoMemory p q one other = absurd (other refl)
+same_fault form b fault.NoMemory f p q one other = absurd (one refl)
 
 -- the job of each is the same
-moved : (is : JobView → Type 0) (more : Bool) (b : List ℕ) (j k : JobView) → HasJob more (lines_of b) j → HasJob more (lines_of b) k → is j → is k
-moved is more b j k has its h = subst is (one_job more (lines_of b) j k has its).1 h
+moved : (is : JobView → Type 0) (form : Form) (b : List ℕ) (j k : JobView) → HasJob form (lines_of b) j → HasJob form (lines_of b) k → is j → is k
+moved is form b j k has its h = subst is (one_job form (lines_of b) j k has its).1 h
 
-pub one_refusal : (more : Bool) (asked : Asked) (b : List ℕ) (r q : RefusalView) → IsRefused more asked b r → IsRefused more asked b q → r.status ≡ q.status
-one_refusal more asked b r q (Jobless e is other told) (Jobless f also no_other tells) =
-    status_is r (jobless_refusal e) told ∙ (same_fault more b e f is also other no_other ∙ sym (status_is q (jobless_refusal f) tells))
-one_refusal more asked b r q (Jobless e is other told) (NoSession k wanted its named missing tells) = absurd (other (is.jobless k its))
-one_refusal more asked b r q (Jobless e is other told) (Controlled k number its controlled tells) = absurd (other (is.jobless k its))
-one_refusal more asked b r q (Jobless e is other told) (BadListing k f its asks some tells) = absurd (other (is.jobless k its))
-one_refusal more asked b r q (NoSession j wanted has named missing told) (Jobless f also other tells) = absurd (other (also.jobless j has))
-one_refusal more asked b r q (NoSession j wanted has named missing told) (NoSession k wants its names misses tells) = status_is r _ told ∙ sym (status_is q _ tells)
-one_refusal more asked b r q (NoSession j wanted has named missing told) (Controlled k number its controlled tells) =
-    absurd (missing_free asked k wanted number named (moved (λ (i : JobView). session_number i wanted.name ≡ None) more b j k has its missing) controlled)
-one_refusal more asked b r q (NoSession j wanted has named missing told) (BadListing k f its asks some tells) =
-    absurd (not_named asked k wanted named (moved (λ (i : JobView). session_number i wanted.name ≡ None) more b j k has its missing) asks)
-one_refusal more asked b r q (Controlled j number has controlled told) (Jobless f also other tells) = absurd (other (also.jobless j has))
-one_refusal more asked b r q (Controlled j number has controlled told) (NoSession k wanted its named missing tells) =
-    absurd (missing_free asked k wanted number named missing (moved (λ (i : JobView). controlled_asked asked i ≡ Some number) more b j k has its controlled))
-one_refusal more asked b r q (Controlled j number has controlled told) (Controlled k other its also tells) = status_is r _ told ∙ sym (status_is q _ tells)
-one_refusal more asked b r q (Controlled j number has controlled told) (BadListing k f its asks some tells) =
-    absurd (not_free asked k number (moved (λ (i : JobView). controlled_asked asked i ≡ Some number) more b j k has its controlled) asks)
-one_refusal more asked b r q (BadListing j e has asks some told) (Jobless f also other tells) = absurd (other (also.jobless j has))
-one_refusal more asked b r q (BadListing j e has asks some told) (NoSession k wanted its named missing tells) =
-    absurd (not_named asked k wanted named missing (moved (λ (i : JobView). HasAsked asked i) more b j k has its asks))
-one_refusal more asked b r q (BadListing j e has asks some told) (Controlled k number its controlled tells) =
-    absurd (not_free asked k number controlled (moved (λ (i : JobView). HasAsked asked i) more b j k has its asks))
-one_refusal more asked b r q (BadListing j e has asks some told) (BadListing k f its also any tells) =
-    let both : Some e ≡ Some f = sym some ∙ (ap job_fault (one_job more (lines_of b) j k has its).1 ∙ any) in
+pub one_refusal : (form : Form) (asked : Asked) (b : List ℕ) (r q : RefusalView) → IsRefused form asked b r → IsRefused form asked b q → r.status ≡ q.status
+one_refusal form asked b r q (Jobless e is other told) (Jobless f also no_other tells) =
+    status_is r (jobless_refusal e) told ∙ (same_fault form b e f is also other no_other ∙ sym (status_is q (jobless_refusal f) tells))
+one_refusal form asked b r q (Jobless e is other told) (NoSession k wanted its named missing tells) = absurd (other (is.jobless k its))
+one_refusal form asked b r q (Jobless e is other told) (Controlled k number its controlled tells) = absurd (other (is.jobless k its))
+one_refusal form asked b r q (Jobless e is other told) (BadListing k f its asks some tells) = absurd (other (is.jobless k its))
+one_refusal form asked b r q (NoSession j wanted has named missing told) (Jobless f also other tells) = absurd (other (also.jobless j has))
+one_refusal form asked b r q (NoSession j wanted has named missing told) (NoSession k wants its names misses tells) = status_is r _ told ∙ sym (status_is q _ tells)
+one_refusal form asked b r q (NoSession j wanted has named missing told) (Controlled k number its controlled tells) =
+    absurd (missing_free asked k wanted number named (moved (λ (i : JobView). session_number i wanted.name ≡ None) form b j k has its missing) controlled)
+one_refusal form asked b r q (NoSession j wanted has named missing told) (BadListing k f its asks some tells) =
+    absurd (not_named asked k wanted named (moved (λ (i : JobView). session_number i wanted.name ≡ None) form b j k has its missing) asks)
+one_refusal form asked b r q (Controlled j number has controlled told) (Jobless f also other tells) = absurd (other (also.jobless j has))
+one_refusal form asked b r q (Controlled j number has controlled told) (NoSession k wanted its named missing tells) =
+    absurd (missing_free asked k wanted number named missing (moved (λ (i : JobView). controlled_asked asked i ≡ Some number) form b j k has its controlled))
+one_refusal form asked b r q (Controlled j number has controlled told) (Controlled k other its also tells) = status_is r _ told ∙ sym (status_is q _ tells)
+one_refusal form asked b r q (Controlled j number has controlled told) (BadListing k f its asks some tells) =
+    absurd (not_free asked k number (moved (λ (i : JobView). controlled_asked asked i ≡ Some number) form b j k has its controlled) asks)
+one_refusal form asked b r q (BadListing j e has asks some told) (Jobless f also other tells) = absurd (other (also.jobless j has))
+one_refusal form asked b r q (BadListing j e has asks some told) (NoSession k wanted its named missing tells) =
+    absurd (not_named asked k wanted named missing (moved (λ (i : JobView). HasAsked asked i) form b j k has its asks))
+one_refusal form asked b r q (BadListing j e has asks some told) (Controlled k number its controlled tells) =
+    absurd (not_free asked k number controlled (moved (λ (i : JobView). HasAsked asked i) form b j k has its asks))
+one_refusal form asked b r q (BadListing j e has asks some told) (BadListing k f its also any tells) =
+    let both : Some e ≡ Some f = sym some ∙ (ap job_fault (one_job form (lines_of b) j k has its).1 ∙ any) in
     let same : e ≡ f = cc in
     status_is r (tables_refusal e) told ∙ (ap (λ (x : TablesFault). (tables_refusal x).status) same ∙ sym (status_is q (tables_refusal f) tells))
 
@@ -171,7 +172,7 @@ pub record IsSame (r o : ReadyView) : Type 0 where
 
 pub one_ready : (c : Command) (b : List ℕ) (r o : ReadyView) → IsReady c b r → IsReady c b o → IsSame r o
 one_ready c b r o h g =
-    let one = one_job (way_of c).more (lines_of b) r.job o.job h.has g.has in
+    let one = one_job (way_of c).form (lines_of b) r.job o.job h.has g.has in
     let mine : Match r.job o.tables = subst (λ (i : JobView). Match i o.tables) (sym one.1) g.match in
     record {
       jobs = sym one.1;
@@ -182,7 +183,7 @@ one_ready c b r o h g =
     }
 
 -- where more than a job may come it is the same that came
-pub one_rest : (c : Command) (b : List ℕ) (r o : ReadyView) → (way_of c).more ≡ true → IsReady c b r → IsReady c b o → o.rest ≡ r.rest
+pub one_rest : (c : Command) (b : List ℕ) (r o : ReadyView) → (way_of c).form.more ≡ true → IsReady c b r → IsReady c b o → o.rest ≡ r.rest
 one_rest c b r o m h g = one_bytes o.rest r.rest (g.behind m ∙ (ap (λ (i : ℕ). drop i (lines_of b)) (one_ready c b r o h g).lines ∙ sym (h.behind m)))
 
 -- and where a session is named it has the same number

@@ -27,51 +27,51 @@ use Rattle.coverage_commands.proofs.ReadyLemmas.{not_both, ready_or_refused, sta
 
 -- a run's text is that of a command that makes areas
 run_areas : (c : Command) (r : ReadyView) (a : AreasChange) (text : List ℕ) → IsRunText c r a text → (way_of c).makes_areas ≡ true
-run_areas Run r a text is = refl
+run_areas (Run g) r a text is = refl
 run_areas Exits r a text is = refl
 run_areas Early r a text is = refl
-run_areas Count r a text is = absurd is
-run_areas (Marks name) r a text is = refl
+run_areas (Count g) r a text is = absurd is
+run_areas (Marks name g) r a text is = refl
 run_areas (Trial number tasks) r a text is = refl
-run_areas Table r a text is = absurd is
-run_areas Ends r a text is = absurd is
+run_areas (Table g) r a text is = absurd is
+run_areas (Ends g) r a text is = absurd is
 run_areas Replay r a text is = absurd is
 run_areas Combine r a text is = absurd is
-run_areas (Show name) r a text is = absurd is
+run_areas (Show name g) r a text is = absurd is
 run_areas (Prove name) r a text is = absurd is
 run_areas (Verify name) r a text is = absurd is
 run_areas Unknown r a text is = absurd is
 
 -- and no other answer is
 still : (c : Command) (r : ReadyView) (n : ℕ) (text : List ℕ) → IsAnswerOf c r n text → (way_of c).makes_areas ≡ true → ⊥
-still Run r n text is m = is
+still (Run g) r n text is m = is
 still Exits r n text is m = is
 still Early r n text is m = is
-still Count r n text is m = absurd cc
-still (Marks name) r n text is m = is
+still (Count g) r n text is m = absurd cc
+still (Marks name g) r n text is m = is
 still (Trial number tasks) r n text is m = is
-still Table r n text is m = absurd cc
-still Ends r n text is m = absurd cc
+still (Table g) r n text is m = absurd cc
+still (Ends g) r n text is m = absurd cc
 still Replay r n text is m = absurd cc
 still Combine r n text is m = is
-still (Show name) r n text is m = absurd cc
+still (Show name g) r n text is m = absurd cc
 still (Prove name) r n text is m = absurd cc
 still (Verify name) r n text is m = absurd cc
 still Unknown r n text is m = is
 
 -- where nothing may stand behind the job it is served
-single : (c : Command) (r : ReadyView) (n : ℕ) (text : List ℕ) → IsAnswerOf c r n text → (way_of c).more ≡ false → n ≡ 0
-single Run r n text is m = absurd is
+single : (c : Command) (r : ReadyView) (n : ℕ) (text : List ℕ) → IsAnswerOf c r n text → (way_of c).form.more ≡ false → n ≡ 0
+single (Run g) r n text is m = absurd is
 single Exits r n text is m = absurd is
 single Early r n text is m = absurd is
-single Count r n text is m = is.0
-single (Marks name) r n text is m = absurd is
+single (Count g) r n text is m = is.0
+single (Marks name g) r n text is m = absurd is
 single (Trial number tasks) r n text is m = absurd is
-single Table r n text is m = is.0
-single Ends r n text is m = is.0
+single (Table g) r n text is m = is.0
+single (Ends g) r n text is m = is.0
 single Replay r n text is m = absurd cc
 single Combine r n text is m = absurd is
-single (Show name) r n text is m = absurd cc
+single (Show name g) r n text is m = absurd cc
 single (Prove name) r n text is m = is.0
 single (Verify name) r n text is m = absurd cc
 single Unknown r n text is m = absurd is
@@ -122,7 +122,7 @@ reported : (c : Command) (s : SourceChange) (b : List ℕ) (n : ℕ) → HasTask
 reported c s b n tasks left w = by_way tasks.comes w
   where
     answered : (bytes : List ℕ) → IsReady c b tasks.ready → (text : List ℕ) → IsAnswer c b n text → ⊥
-    answered bytes h text (Refused t is) = ready_or_refused (way_of c).more (way_of c).asked b tasks.ready.job (refusal n text) h.has h.asked h.match.faultless is
+    answered bytes h text (Refused t is) = ready_or_refused (way_of c).form (way_of c).asked b tasks.ready.job (refusal n text) h.has h.asked h.match.faultless is
     answered bytes h text (OfFiles e is) = not_same makes c Combine e tasks.run refl
     answered bytes h text (OfJob o g is) = still c o n text is tasks.run
 
@@ -186,7 +186,7 @@ came_status c s b bytes status text n left came (Refused t is) (ToUsage u z) = a
 came_status c s b bytes status text n left came (OfFiles e is) (ToUsage u z) = let clash : Unknown ≡ Combine = sym u ∙ e in absurd cc
 came_status c s b bytes status text n left came (OfJob r h is) (ToUsage u z) = absurd (not_same reads c Unknown u h.reads refl)
 came_status c s b bytes status text n left came is (ToLarge t l z) = absurd (too_many s b bytes left l came)
-came_status c s b bytes status text n left came (Refused t is) (ToMatched j job alone few has asks none z) = absurd (ready_or_refused (way_of c).more (way_of c).asked b j (refusal status text) has asks none is)
+came_status c s b bytes status text n left came (Refused t is) (ToMatched j job alone few has asks none z) = absurd (ready_or_refused (way_of c).form (way_of c).asked b j (refusal status text) has asks none is)
 came_status c s b bytes status text n left came (OfFiles e is) (ToMatched j job alone few has asks none z) = absurd (not_same reads c Combine e job refl)
 came_status c s b bytes status text n left came (OfJob r h is) (ToMatched j job alone few has asks none z) = single c r status text is alone ∙ sym z
 came_status c s b bytes status text n left came is (ToAnswer other few also) = one_status c b status n text other is also

@@ -1,9 +1,10 @@
 -- What the program makes of marks files: the union of several, and the listings that one of them marks.
 use Rattle.std.specs.Prelude.{◌≡◌, ℕ, Some, List, length}
 use Rattle.brk_table.specs.Meaning.{TablesView}
+use Rattle.cov_base.specs.Meaning.{FactSet}
 use Rattle.marks_file.specs.Meaning.{MarkedView, rows}
 use Rattle.session_book.specs.Meaning.{JobView}
-use Rattle.session_marks.specs.Meaning.{session_rows}
+use Rattle.session_marks.specs.Meaning.{session_marks, session_rows}
 use Rattle.table_combine.specs.Meaning.{Difference, first_difference}
 use Rattle.table_combine.specs.Combine.{difference_of}
 use Rattle.table_combine.specs.declared.files.CombineFault.{CombineFault}
@@ -16,6 +17,10 @@ abbrev pub combine_refusal : CombineFault → RefusalView
 combine_refusal (fault.BadMarks offset) = refusal 10 (bad_marks_line offset)
 combine_refusal (fault.Other e) = refusal 11 (other_table_line (difference_of e))
 combine_refusal fault.NoMemory = refusal 7 no_memory_line
+
+-- one file of the session with these sets
+abbrev pub IsFileOf : JobView → TablesView → ℕ → List ℕ → (ℕ → FactSet) → Type 0
+IsFileOf j tables s rest sets = BeginsWith rest (session_marks j tables sets s) (length rest)
 
 -- why bytes are not one whole file, or want of memory
 pub data IsFileRefusal (rest : List ℕ) (r : RefusalView) : Type 0 where

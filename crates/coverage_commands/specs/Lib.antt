@@ -1,9 +1,9 @@
 pub mod Answers
+pub mod Asked
 pub mod Calls
 pub mod Changes
 pub mod Checked
 pub mod Files
 pub mod Meaning
-pub mod Named
 pub mod Ready
 pub mod Words

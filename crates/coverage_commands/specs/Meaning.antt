@@ -9,17 +9,25 @@ use Rattle.module_area.specs.declared.tallies.Tally.{Tally}
 use Rattle.job_run.specs.Meaning.{Account, solo_result, walk_by, result_by, set_by, least_by, most_by, HasRunBy, set_left}
 use Rattle.cov_base.specs.Meaning.{FactSet}
 use Rattle.cov_base.specs.declared.facts.Fact.{Fact}
+use Rattle.coverage_commands.specs.declared.asked.Wanted.{Wanted}
+use Rattle.coverage_commands.specs.declared.asked.Asked.{Asked}
+use Rattle.coverage_commands.specs.declared.asked.Asked.TheVariants.{AnyJob, WithSession, AllWhole}
+use Rattle.coverage_commands.specs.declared.status.Status.{Status}
 use Rattle.command_words.specs.declared.words.Command.{Command}
 use Rattle.command_words.specs.declared.words.Command.TheVariants.{Run, Exits, Early, Count, Marks, Trial, Table, Ends, Replay, Combine, Show, Prove, Verify, Unknown}
 use Rattle.report_text.specs.Meaning.{text_of, session_part, report_of, count_text, trial_text, table_text}
 use Rattle.check_exits.specs.Meaning.{with_exits}
 use Rattle.task_run.specs.Meaning.{Course, solo, IsBetween}
+use Rattle.task_services.specs.Meaning.{course_of}
 use Rattle.table_combine.specs.Meaning.{Difference, first_difference, IsCombined, IsBad, IsOtherTable}
 use Rattle.session_book.specs.Meaning.{JobView, SessionView, session_of, is_whole, plan_view, observes, ResultView}
 use Rattle.brk_table.specs.Meaning.{TablesView}
-use Rattle.job_input.specs.Meaning.{SourceChange, CameWhole, HasJob, input_limit, IsJobFault, IsReadFault, source_change}
+use Rattle.job_input.specs.Meaning.{SourceChange, CameWhole, HasJob, to_end, to_go_on, input_limit, IsJobFault, IsReadFault, source_change}
+use Rattle.job_input.specs.declared.form.Form.{Form}
 use Rattle.job_tables.specs.Meaning.{Match, job_fault}
 use Rattle.job_text.specs.Meaning.{lines_of}
+use Rattle.job_text.specs.declared.grammar.Grammar.{Grammar}
+use Rattle.job_text.specs.declared.grammar.Grammar.TheVariants.{Plain}
 use Rattle.evidence_check.specs.Meaning.{facts_of_modules, evidence_claims, first_refuted, evidence, evidence_fields, IsVerified}
 use Rattle.marks_file.specs.Meaning.{MarkedView, MarksView, keeps_rules, HasFile, rows, file_bytes, first_bad, file_fields}
 use Rattle.session_marks.specs.Meaning.{session_rows, session_marks, session_file}
@@ -66,56 +74,42 @@ areas_change ledger finals made old new = record {
 
 -- The words of a command, what it reads and makes, and the lines that a refusal is told by.
 
--- a session that a command asks for by its name
-pub record Wanted : Type 0 where
-  pub name : List ℕ
-  -- it must have no controller
-  pub whole : Bool
-
--- what a command asks of a job's sessions
-pub data Asked : Type 0 where
-  AnyJob : Asked
-  -- one of them has the name
-  WithSession : Wanted → Asked
-  -- none of them has a controller
-  AllWhole : Asked
-
 -- what a command reads and makes
 pub record Way : Type 0 where
   -- it reads the source to its end
   pub reads_input : Bool
-  -- its input has a job, with more behind it or not, of whose sessions this is asked
+  -- its input has a job in this form, of whose sessions this is asked
   pub reads_job : Bool
-  pub more : Bool
+  pub form : Form
   pub asked : Asked
   -- it runs tasks over areas
   pub makes_areas : Bool
 
--- it reads a job and nothing behind it, and asks for no session
-abbrev pub on_a_job : Way
-on_a_job = record { reads_input = true; reads_job = true; more = false; asked = AnyJob; makes_areas = false }
+-- it reads a job of this grammar and nothing behind it, and asks for no session
+abbrev pub on_a_job : Grammar → Way
+on_a_job g = record { reads_input = true; reads_job = true; form = to_end g; asked = AnyJob; makes_areas = false }
 
-abbrev pub of_a_run : Way
-of_a_run = record on_a_job { makes_areas = true }
+abbrev pub of_a_run : Grammar → Way
+of_a_run g = record (on_a_job g) { makes_areas = true }
 
 abbrev pub with_session : List ℕ → Bool → Asked
 with_session name whole = WithSession (record { name = name; whole = whole })
 
 abbrev pub way_of : Command → Way
-way_of Run = of_a_run
-way_of Exits = of_a_run
-way_of Early = of_a_run
-way_of (Marks name) = record of_a_run { asked = with_session name false }
-way_of (Trial number tasks) = record of_a_run { reads_input = false; reads_job = false }
-way_of Count = record on_a_job { asked = AllWhole }
-way_of Table = on_a_job
-way_of Ends = on_a_job
-way_of Replay = record on_a_job { more = true }
-way_of (Show name) = record on_a_job { more = true; asked = with_session name false }
-way_of (Prove name) = record on_a_job { asked = with_session name true }
-way_of (Verify name) = record on_a_job { more = true; asked = with_session name true }
-way_of Combine = record on_a_job { reads_job = false }
-way_of Unknown = record on_a_job { reads_input = false; reads_job = false }
+way_of (Run g) = of_a_run g
+way_of Exits = of_a_run Plain
+way_of Early = of_a_run Plain
+way_of (Marks name g) = record (of_a_run g) { asked = with_session name false }
+way_of (Trial number tasks) = record (of_a_run Plain) { reads_input = false; reads_job = false }
+way_of (Count g) = record (on_a_job g) { asked = AllWhole }
+way_of (Table g) = on_a_job g
+way_of (Ends g) = on_a_job g
+way_of Replay = record (on_a_job Plain) { form = to_go_on Plain }
+way_of (Show name g) = record (on_a_job g) { form = to_go_on g; asked = with_session name false }
+way_of (Prove name) = record (on_a_job Plain) { asked = with_session name true }
+way_of (Verify name) = record (on_a_job Plain) { form = to_go_on Plain; asked = with_session name true }
+way_of Combine = record (on_a_job Plain) { reads_job = false }
+way_of Unknown = record (on_a_job Plain) { reads_input = false; reads_job = false }
 
 -- The session of a name, and those that have a controller.
 
@@ -169,20 +163,20 @@ pub record ReadyView : Type 0 where
 -- the bytes have this job, its sessions are as the command asks, and its listings match
 pub record IsReady (c : Command) (bytes : List ℕ) (r : ReadyView) : Type 0 where
   pub reads : (way_of c).reads_job ≡ true
-  pub has : HasJob (way_of c).more (lines_of bytes) r.job
+  pub has : HasJob (way_of c).form (lines_of bytes) r.job
   pub asked : HasAsked (way_of c).asked r.job
   pub named : (wanted : Wanted) → (way_of c).asked ≡ WithSession wanted → session_number r.job wanted.name ≡ Some r.number
   pub match : Match r.job r.tables
   pub lines : r.lines ≡ has.count
-  pub behind : (way_of c).more ≡ true → lines_of r.rest ≡ drop r.lines (lines_of bytes)
+  pub behind : (way_of c).form.more ≡ true → lines_of r.rest ≡ drop r.lines (lines_of bytes)
 
 -- why bytes have no job of which this is so, and how that is told; of the sessions with a controller that may have none it is
 -- the one that was named, or the first
-pub data IsRefused (more : Bool) (asked : Asked) (bytes : List ℕ) (r : RefusalView) : Type 0 where
-  Jobless : (e : JobFault) → IsJobFault more bytes e → e ≢ fault.NoMemory → r ≡ jobless_refusal e → IsRefused more asked bytes r
-  NoSession : (j : JobView) (wanted : Wanted) → HasJob more (lines_of bytes) j → asked ≡ WithSession wanted → session_number j wanted.name ≡ None → r ≡ refusal 13 (no_session_line wanted.name) → IsRefused more asked bytes r
-  Controlled : (j : JobView) (number : ℕ) → HasJob more (lines_of bytes) j → controlled_asked asked j ≡ Some number → r ≡ refusal 14 (controlled_line (session_of j number).name) → IsRefused more asked bytes r
-  BadListing : (j : JobView) (e : TablesFault) → HasJob more (lines_of bytes) j → HasAsked asked j → job_fault j ≡ Some e → r ≡ tables_refusal e → IsRefused more asked bytes r
+pub data IsRefused (form : Form) (asked : Asked) (bytes : List ℕ) (r : RefusalView) : Type 0 where
+  Jobless : (e : JobFault) → IsJobFault form bytes e → e ≢ fault.NoMemory → r ≡ jobless_refusal e → IsRefused form asked bytes r
+  NoSession : (j : JobView) (wanted : Wanted) → HasJob form (lines_of bytes) j → asked ≡ WithSession wanted → session_number j wanted.name ≡ None → r ≡ refusal 13 (no_session_line wanted.name) → IsRefused form asked bytes r
+  Controlled : (j : JobView) (number : ℕ) → HasJob form (lines_of bytes) j → controlled_asked asked j ≡ Some number → r ≡ refusal 14 (controlled_line (session_of j number).name) → IsRefused form asked bytes r
+  BadListing : (j : JobView) (e : TablesFault) → HasJob form (lines_of bytes) j → HasAsked asked j → job_fault j ≡ Some e → r ≡ tables_refusal e → IsRefused form asked bytes r
 
 -- What the program makes of marks files and evidence.
 
@@ -289,12 +283,12 @@ pub record Reports (course : Course) (j : JobView) (tables : TablesView) (a : Ar
   pub are_final : (s p : ℕ) → 0 < s → s ≤ length j.sessions → p < length tables.places → sets s p ≡ set_left j ran.sets s p
   pub is_text : text ≡ text_by results sets
 
--- The text tells of these results and counts. The results are those of each task's run alone, and the count of a fact at a
--- place of a session is how many begun visits of its executions there give it.
+-- The text tells of these results and counts. The results are those of each task's run with the job's services, and the count
+-- of a fact at a place of a session is how many begun visits of its executions there give it.
 pub record Counts (j : JobView) (tables : TablesView) (text : List ℕ) : Type 0 where
   pub results : ℕ → ResultView
   pub counts : ℕ → ℕ → Fact → ℕ
-  pub are_results : (t : ℕ) → t < length j.tasks → results t ≡ solo_result j tables.places t
+  pub are_results : (t : ℕ) → t < length j.tasks → results t ≡ result_by (course_of j.services) j tables.places t
   pub are_counts : (s p : ℕ) (f : Fact) → 0 < s → s ≤ length j.sessions → p < length tables.places → counts s p f ≡ session_count j tables.places s p f
   pub is_text : text ≡ count_text j tables results counts
 
@@ -305,12 +299,12 @@ pub record IsEarlyReport (r : ReadyView) (a : AreasChange) (text : List ℕ) : T
   pub reports : Reports solo r.job r.tables a (λ results sets. early_of r.job r.tables results sets drained) text
 
 -- what a command that runs a job's tasks over areas writes: the report, a session's marks file, of its name and one run, or the
--- summary of a generated job
+-- summary of a generated job; `run` and `marks` run them with the job's services
 abbrev pub IsRunText : Command → ReadyView → AreasChange → List ℕ → Type 0
-IsRunText Run r a text = Reports solo r.job r.tables a (report_of r.job r.tables) text
+IsRunText (Run g) r a text = Reports (course_of r.job.services) r.job r.tables a (report_of r.job r.tables) text
 IsRunText Exits r a text = Reports with_exits r.job r.tables a (report_of r.job r.tables) text
 IsRunText Early r a text = IsEarlyReport r a text
-IsRunText (Marks name) r a text = Reports solo r.job r.tables a (λ results sets. file_bytes Second (session_file r.job r.tables (sets r.number) r.number)) text
+IsRunText (Marks name g) r a text = Reports (course_of r.job.services) r.job r.tables a (λ results sets. file_bytes Second (session_file r.job r.tables (sets r.number) r.number)) text
 IsRunText (Trial number tasks) r a text = Reports solo r.job r.tables a (trial_text number tasks r.tables.places) text
 IsRunText c r a text = ⊥
 
@@ -323,18 +317,18 @@ IsPlayed r (Bad line) status text = (status ≡ 9) × (text ≡ bad_schedule_lin
 
 -- what all other commands answer that read a job
 abbrev pub IsAnswerOf : Command → ReadyView → ℕ → List ℕ → Type 0
-IsAnswerOf Table r status text = (status ≡ 0) × (text ≡ table_text r.job r.tables)
-IsAnswerOf Ends r status text = (status ≡ 0) × (text ≡ ends_text r.job (end_of r.job r.tables.places) (unlisted_of r.job r.tables.places))
-IsAnswerOf Count r status text = (status ≡ 0) × Counts r.job r.tables text
+IsAnswerOf (Table g) r status text = (status ≡ 0) × (text ≡ table_text r.job r.tables)
+IsAnswerOf (Ends g) r status text = (status ≡ 0) × (text ≡ ends_text r.job (end_of r.job r.tables.places) (unlisted_of r.job r.tables.places))
+IsAnswerOf (Count g) r status text = (status ≡ 0) × Counts r.job r.tables text
 IsAnswerOf (Prove name) r status text = (status ≡ 0) × (text ≡ evidence r.job r.tables r.number)
-IsAnswerOf (Show name) r status text = IsShown r status text
+IsAnswerOf (Show name g) r status text = IsShown r status text
 IsAnswerOf (Verify name) r status text = IsVerdict name r.job r.tables r.number r.rest (refusal status text)
 IsAnswerOf Replay r status text = IsPlayed r (play_of r.job r.tables.places r.lines (lines_of r.rest)) status text
 IsAnswerOf c r status text = ⊥
 
 -- what the bytes have for an answer that no areas are made for
 pub data IsAnswer (c : Command) (bytes : List ℕ) (status : ℕ) (text : List ℕ) : Type 0 where
-  Refused : (way_of c).reads_job ≡ true → IsRefused (way_of c).more (way_of c).asked bytes (refusal status text) → IsAnswer c bytes status text
+  Refused : (way_of c).reads_job ≡ true → IsRefused (way_of c).form (way_of c).asked bytes (refusal status text) → IsAnswer c bytes status text
   OfFiles : c ≡ Combine → IsUnited bytes status text → IsAnswer c bytes status text
   OfJob : (r : ReadyView) → IsReady c bytes r → IsAnswerOf c r status text → IsAnswer c bytes status text
 
@@ -392,7 +386,7 @@ pub record Answers (c : Command) (s : SourceChange) (a : AreasChange) (k : SinkC
 pub data HasStatus (c : Command) (bytes : List ℕ) (n : ℕ) : Type 0 where
   ToUsage : c ≡ Unknown → n ≡ 1 → HasStatus c bytes n
   ToLarge : (way_of c).reads_input ≡ true → input_limit < length bytes → n ≡ 4 → HasStatus c bytes n
-  ToMatched : (j : JobView) → (way_of c).reads_job ≡ true → (way_of c).more ≡ false → length bytes ≤ input_limit → HasJob (way_of c).more (lines_of bytes) j → HasAsked (way_of c).asked j → job_fault j ≡ None → n ≡ 0 → HasStatus c bytes n
+  ToMatched : (j : JobView) → (way_of c).reads_job ≡ true → (way_of c).form.more ≡ false → length bytes ≤ input_limit → HasJob (way_of c).form (lines_of bytes) j → HasAsked (way_of c).asked j → job_fault j ≡ None → n ≡ 0 → HasStatus c bytes n
   ToAnswer : (text : List ℕ) → length bytes ≤ input_limit → IsAnswer c bytes n text → HasStatus c bytes n
 
 -- the status is that of the words and bytes, or 7, where no fault of the source was counted; that of `trial` is 0 or 7
@@ -424,7 +418,7 @@ pub record IsServed (c : Command) (s : SourceChange) (a : AreasChange) (k : Sink
 abbrev pub asked : {A : Type 0} → List (String A) → Command
 asked words = command_of (map string_bytes words)
 
--- so by what source, areas and sink tell of themselves
-abbrev pub Serves : {S A C P K : Type 0} → source.Ghosts S → areas.Ghosts A C P → sink.Ghosts K → Command → S → S → A → A → K → K → ℕ → Type 0
-Serves s a k c source0 source1 areas0 areas1 sink0 sink1 answer =
-    IsServed c (source_change s.left s.faults source0 source1) (areas_change a.ledger a.finals a.made areas0 areas1) (sink_change k.written k.faults sink0 sink1) answer
+-- of these words, by what source, areas and sink tell of themselves
+abbrev pub Serves : {S A C P K W : Type 0} → source.Ghosts S → areas.Ghosts A C P → sink.Ghosts K → List (String W) → S → S → A → A → K → K → Status → Type 0
+Serves s a k words source0 source1 areas0 areas1 sink0 sink1 answer =
+    IsServed (asked words) (source_change s.left s.faults source0 source1) (areas_change a.ledger a.finals a.made areas0 areas1) (sink_change k.written k.faults sink0 sink1) answer.0

@@ -1,22 +1,28 @@
 -- A job that came as a command asks for it, its tables, and what stands behind it.
-use Rattle.std.specs.Prelude.{◌≡◌, ℕ, Bool, true, None, List}
-use Rattle.cov_base.specs.declared.numbers.SessNo.{SessNo}
-use Rattle.job_input.specs.Meaning.{SourceChange}
+use Rattle.std.specs.Prelude.{◌+◌, ◌≤◌, length}
+use Rattle.job_input.specs.Meaning.{SourceChange, input_limit}
 use Rattle.job_input.specs.Inputs.{IsInput}
+use Rattle.job_input.specs.declared.form.Form.{Form}
 use Rattle.job_tables.specs.Tables.{IsReadyJob}
-use Rattle.session_book.specs.Meaning.{session_of}
-use Rattle.coverage_commands.specs.Meaning.{HasAsked, Asked, with_session}
-use Rattle.coverage_commands.specs.Named.{IsSessionOf}
+use Rattle.coverage_commands.specs.Asked.{HasSession}
+use Rattle.coverage_commands.specs.Meaning.{HasAsked, ReadyView}
+use Rattle.coverage_commands.specs.declared.asked.Asked.{Asked}
 use Rattle.coverage_commands.specs.declared.ready.Ready.{Ready}
 
--- what was made ready for a command: its job came, with what stands behind it, has the sessions that are asked for, and has tables
-pub record IsMadeReady (more : Bool) (asked : Asked) (s : SourceChange) (r : Ready) : Type 0 where
-  pub input : IsInput more s r.input
+-- its sessions are as is asked, it is known which of them is named, and it has tables
+pub record IsReadyFor (asked : Asked) (r : Ready) : Type 0 where
   pub has : HasAsked asked r.input.job
-  pub ready : IsReadyJob r.input.job r.tables
+  pub session : HasSession asked r.input.job r.session.0
+  pub job : IsReadyJob r.input.job r.tables
 
--- and the session of this name with its number, which has no controller where it must be whole
-pub record IsNamedReady (more : Bool) (name : List ℕ) (whole : Bool) (s : SourceChange) (r : Ready × SessNo) : Type 0 where
-  pub ready : IsMadeReady more (with_session name whole) s r.0
-  pub session : IsSessionOf r.0.input.job name r.1.0
-  pub free : whole ≡ true → (session_of r.0.input.job r.1.0).by ≡ None
+-- and it came so
+pub record IsMadeReady (form : Form) (asked : Asked) (s : SourceChange) (r : Ready) : Type 0 where
+  pub input : IsInput form s r.input
+  pub is : IsReadyFor asked r
+
+-- the lines of its schedule have numbers
+abbrev pub HasNumbers : Ready → Type 0
+HasNumbers r = r.input.lines + length r.input.rest.items ≤ input_limit
+
+abbrev pub view_of : Ready → ReadyView
+view_of r = record { job = r.input.job; tables = r.tables; number = r.session.0; lines = r.input.lines; rest = r.input.rest.items }

@@ -4,11 +4,11 @@ use Rattle.command_words.specs.declared.words.Command.{Command}
 use Rattle.command_words.specs.declared.words.Command.TheVariants.{Run, Exits, Early, Count, Marks, Trial, Unknown}
 
 abbrev pub runs_threads : Command → Bool
-runs_threads Run = true
+runs_threads (Run g) = true
 runs_threads Exits = true
 runs_threads Early = true
-runs_threads Count = true
-runs_threads (Marks name) = true
+runs_threads (Count g) = true
+runs_threads (Marks name g) = true
 runs_threads (Trial number tasks) = true
 runs_threads c = false
 

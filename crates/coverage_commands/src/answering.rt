@@ -1,240 +1,138 @@
 //! The program over any source, sink and areas.
-ghost use Rattle.std.specs.Prelude.{◌≡◌, ◌+◌, ◌<◌, ◌^◌, ◌≤◌, false, true, All, length};
-ghost use Rattle.job_tables.specs.Tables.{IsReadyJob};
-ghost use Rattle.command_words.specs.declared.words.Command.TheVariants.{Marks};
-ghost use Rattle.coverage_commands.specs.Named.{IsSessionOf};
+ghost use Rattle.std.specs.Prelude.{◌≡◌, ◌<◌, ◌^◌, false, true};
 ghost use Rattle.command_words.specs.Words.{HasFewTasks};
-ghost use Rattle.coverage_commands.specs.Words.{without_threads};
-ghost use Rattle.coverage_commands.specs.Meaning.{Serves, asked};
-ghost use Rattle.coverage_commands.specs.Calls.{Answered, AnsweredAlone, AnsweredJob, AnsweredWith, Reported, ReportedJob, ServedAlone};
+ghost use Rattle.coverage_commands.specs.Words.{runs_threads, without_threads};
+ghost use Rattle.coverage_commands.specs.Meaning.{Serves, way_of};
+ghost use Rattle.coverage_commands.specs.Calls.{Answered, AnsweredAlone, AnsweredJob, AnsweredJobAlone, ServedAlone};
+ghost use Rattle.coverage_commands.specs.Ready.{HasNumbers, IsReadyFor};
 
 use crate::combining::answer_combine;
-use crate::counting::answer_count;
-use crate::early::answer_early;
-use crate::ending::answer_ends;
-use crate::proving::answer_prove;
-use crate::ready::{make_named, make_ready};
-use crate::showing::answer_show;
+use crate::counting::write_counts;
+use crate::early::write_drained;
+use crate::ending::write_job_ends;
+use crate::playing::write_schedule;
+use crate::proving::write_evidence;
+use crate::ready::{Ready, make_ready};
+use crate::running::{write_marks, write_report};
+use crate::showing::write_shown;
 use crate::status::{Status, status_of, told};
 use crate::trial::answer_trial;
-use crate::verifying::answer_verify;
-use brk_table::Tables;
+use crate::verifying::write_verdict;
+use crate::ways::{asked_of, form_of};
 use check_exits::ExitRunner;
 use command_words::{Command, command_of};
-use cov_base::{Name, SessNo};
 use cov_outside::{Gate, Sink, Source};
-use job_run::{run_job, run_job_with};
-use marks_file::write;
 use module_area::Areas;
-use refusals::{NO_MEMORY, USAGE, bad_schedule_line};
-use report_text::{report, table};
-use schedule_play::{ScheduleFault, replay, replay_text};
-use session_book::Job;
-use session_marks::{NoSets, fill_marks, marks_of};
+use refusals::USAGE;
+use report_text::table;
 use std::alloc::Global;
 use std::sync::Wait;
 use std::thread::Threads;
-use task_run::{PlainRunner, Runner};
+use task_services::JobRunner;
 
-/// Runs a job whose listings match, each task along the runner's course, and writes its report.
-#[tactic(auto, using(brk_table::proofs::CodeLemmas::are_in))]
-fn answer_tables<
-    T: Threads + Wait + Sync,
-    K: Sink,
-    A: Areas,
-    G: Gate + Sync,
-    R: Runner<A::C> + Sync,
->(
+/// Answers a command whose tasks run on threads, of a job that is ready for it.
+fn answer_tasks<T: Threads + Wait + Sync, K: Sink, A: Areas, G: Gate + Sync>(
     rt: &T,
     alloc: Global,
-    runner: &R,
-    job: &Job,
-    tables: &Tables,
+    command: &Command,
+    ready: &Ready,
     sink: &mut K,
     areas: &mut A,
     gate: &G,
 ) -> Status
-    requires ready { IsReadyJob job.now tables.now }
+    requires threads { runs_threads command.now ≡ true }
+    requires reads { (way_of command.now).reads_job ≡ true }
+    requires ready { IsReadyFor (way_of command.now).asked ready.now }
     requires room { A.made areas.old < 2 ^ 61 }
-    ensures { ReportedJob A.Areas K.Sink (R.course runner.now) job.now areas.old areas.new sink.old sink.new result.0 }
+    ensures { AnsweredJob A.Areas K.Sink command.now ready.now areas.old areas.new sink.old sink.new result }
 {
-    let (outcome, _) = match run_job_with(rt, alloc, areas, gate, runner, job, tables) {
-        Ok(ran) => ran,
-        Err(_) => return told(sink, NO_MEMORY, 7),
+    let runner = JobRunner {
+        services: ready.input.job.services(),
     };
-    status_of(report(sink, job, tables, &outcome))
-}
-
-/// Reads a job, runs it, each task along the runner's course, and writes its report.
-fn answer_run<
-    T: Threads + Wait + Sync,
-    S: Source,
-    K: Sink,
-    A: Areas,
-    G: Gate + Sync,
-    R: Runner<A::C> + Sync,
->(
-    rt: &T,
-    alloc: Global,
-    runner: &R,
-    source: &mut S,
-    sink: &mut K,
-    areas: &mut A,
-    gate: &G,
-) -> Status
-    requires { A.made areas.old < 2 ^ 61 }
-    ensures { Reported S.Source A.Areas K.Sink (R.course runner.now) source.old source.new areas.old areas.new sink.old sink.new result.0 }
-{
-    match make_ready(alloc, source, false) {
-        Ok(read) => answer_tables(
-            rt,
-            alloc,
-            runner,
-            &read.input.job,
-            &read.tables,
-            sink,
-            areas,
-            gate,
-        ),
-        Err(refusal) => told(sink, &refusal.line, refusal.status),
+    match command {
+        Command::Run(_) => write_report(rt, alloc, &runner, ready, sink, areas, gate),
+        Command::Exits => write_report(rt, alloc, &ExitRunner, ready, sink, areas, gate),
+        Command::Early => write_drained(rt, alloc, ready, sink, areas, gate),
+        Command::Count(_) => write_counts(rt, alloc, &ready.input.job, &ready.tables, sink, gate),
+        Command::Marks { .. } => write_marks(rt, alloc, &runner, ready, sink, areas, gate),
+        Command::Table(_)
+        | Command::Ends(_)
+        | Command::Replay
+        | Command::Show { .. }
+        | Command::Prove(_)
+        | Command::Verify(_)
+        | Command::Trial { .. }
+        | Command::Combine
+        | Command::Unknown => unreachable!(),
     }
 }
 
-/// Runs a job whose listings match, and writes the marks file of session s, of that name.
-#[tactic(auto, using(brk_table::proofs::CodeLemmas::are_in))]
-fn answer_session<T: Threads + Wait + Sync, K: Sink, A: Areas, G: Gate + Sync>(
-    rt: &T,
-    alloc: Global,
-    name: &Name,
-    job: &Job,
-    tables: &Tables,
-    s: SessNo,
-    sink: &mut K,
-    areas: &mut A,
-    gate: &G,
-) -> Status
-    requires ready { IsReadyJob job.now tables.now }
-    requires session { IsSessionOf job.now name.now s.0 }
-    requires room { A.made areas.old < 2 ^ 61 }
-    ensures { AnsweredJob A.Areas K.Sink (Command.Marks name.now) job.now areas.old areas.new sink.old sink.new result.0 }
+/// Answers a command that needs no threads, of a job that is ready for it.
+fn answer_job<K: Sink>(alloc: Global, command: &Command, ready: &Ready, sink: &mut K) -> Status
+    requires alone { runs_threads command.now ≡ false }
+    requires reads { (way_of command.now).reads_job ≡ true }
+    requires ready { IsReadyFor (way_of command.now).asked ready.now }
+    requires numbers { (way_of command.now).form.more ≡ true → HasNumbers ready.now }
+    ensures { AnsweredJobAlone K.Sink command.now ready.now sink.old sink.new result }
 {
-    // The memory of the marks is taken before a task runs.
-    let none = NoSets {
-        sessions: s.0,
-        places: tables.len(),
-    };
-    let Ok(mut marks) = marks_of(alloc, job, tables, &none, s) else {
-        return told(sink, NO_MEMORY, 7);
-    };
-    let Ok(outcome) = run_job(rt, alloc, areas, gate, job, tables) else {
-        return told(sink, NO_MEMORY, 7);
-    };
-    fill_marks(&mut marks, job, tables, &outcome, s);
-    status_of(write(sink, &marks))
-}
-
-/// Reads a job, runs it and writes the marks file of the session of the name.
-fn answer_marks<T: Threads + Wait + Sync, S: Source, K: Sink, A: Areas, G: Gate + Sync>(
-    rt: &T,
-    alloc: Global,
-    name: &Name,
-    source: &mut S,
-    sink: &mut K,
-    areas: &mut A,
-    gate: &G,
-) -> Status
-    requires { A.made areas.old < 2 ^ 61 }
-    ensures { Answered S.Source A.Areas K.Sink (Marks name.now) source.old source.new areas.old areas.new sink.old sink.new result.0 }
-{
-    let (read, session) = match make_named(alloc, source, false, name, false) {
-        Ok(read) => read,
-        Err(refusal) => return told(sink, &refusal.line, refusal.status),
-    };
-    answer_session(
-        rt,
-        alloc,
-        name,
-        &read.input.job,
-        &read.tables,
-        session,
-        sink,
-        areas,
-        gate,
-    )
-}
-
-/// Reads a job and writes the places of its modules.
-fn answer_table<S: Source, K: Sink>(alloc: Global, source: &mut S, sink: &mut K) -> Status
-    ensures { AnsweredAlone S.Source K.Sink Command.Table source.old source.new sink.old sink.new result.0 }
-{
-    let read = match make_ready(alloc, source, false) {
-        Ok(read) => read,
-        Err(refusal) => return told(sink, &refusal.line, refusal.status),
-    };
-    status_of(table(sink, &read.input.job, &read.tables))
-}
-
-/// Plays the schedule behind a job's lines, so many, and writes what its items have shown.
-fn answer_schedule<K: Sink>(
-    alloc: Global,
-    job: &Job,
-    tables: &Tables,
-    lines: u32,
-    schedule: &[u8],
-    sink: &mut K,
-) -> Status
-    requires ready { IsReadyJob job.now tables.now }
-    requires numbers { lines + 1 + length schedule.now < 2 ^ 32 }
-    ensures { AnsweredWith K.Sink Command.Replay job.now lines schedule.now sink.old sink.new result.0 }
-{
-    let replayed = match replay(alloc, job, tables, lines, schedule) {
-        Ok(replayed) => replayed,
-        Err(ScheduleFault::Bad { line }) => return told(sink, &bad_schedule_line(line), 9),
-        Err(ScheduleFault::NoMemory) => return told(sink, NO_MEMORY, 7),
-    };
-    status_of(replay_text(sink, job, tables, &replayed.core, &replayed.played))
-}
-
-/// Reads a job and a schedule, and plays it.
-fn answer_replay<S: Source, K: Sink>(alloc: Global, source: &mut S, sink: &mut K) -> Status
-    ensures { AnsweredAlone S.Source K.Sink Command.Replay source.old source.new sink.old sink.new result.0 }
-{
-    let read = match make_ready(alloc, source, true) {
-        Ok(read) => read,
-        Err(refusal) => return told(sink, &refusal.line, refusal.status),
-    };
-    answer_schedule(
-        alloc,
-        &read.input.job,
-        &read.tables,
-        read.input.lines,
-        &read.input.rest,
-        sink,
-    )
+    let job = &ready.input.job;
+    let tables = &ready.tables;
+    let behind = &ready.input.rest;
+    match command {
+        Command::Table(_) => status_of(table(sink, job, tables)),
+        Command::Ends(_) => write_job_ends(alloc, job, tables, sink),
+        Command::Replay => write_schedule(alloc, job, tables, ready.input.lines, behind, sink),
+        Command::Show { .. } => write_shown(alloc, ready, sink),
+        Command::Prove(_) => write_evidence(alloc, job, tables, ready.session, sink),
+        Command::Verify(name) => write_verdict(
+            alloc,
+            &name,
+            job,
+            tables,
+            ready.session,
+            behind,
+            sink,
+        ),
+        Command::Run(_)
+        | Command::Exits
+        | Command::Early
+        | Command::Count(_)
+        | Command::Marks { .. }
+        | Command::Trial { .. }
+        | Command::Combine
+        | Command::Unknown => unreachable!(),
+    }
 }
 
 /// Answers the commands that need no threads; all others are usage.
 fn answer_one<S: Source, K: Sink>(
     alloc: Global,
-    command: Command,
+    command: &Command,
     source: &mut S,
     sink: &mut K,
 ) -> Status
-    ensures { AnsweredAlone S.Source K.Sink (without_threads command) source.old source.new sink.old sink.new result.0 }
+    ensures { AnsweredAlone S.Source K.Sink (without_threads command.now) source.old source.new sink.old sink.new result }
 {
     match command {
-        Command::Table => answer_table(alloc, source, sink),
-        Command::Ends => answer_ends(alloc, source, sink),
-        Command::Replay => answer_replay(alloc, source, sink),
+        Command::Table(_)
+        | Command::Ends(_)
+        | Command::Replay
+        | Command::Show { .. }
+        | Command::Prove(_)
+        | Command::Verify(_) => {
+            let form = form_of(command);
+            let asked = asked_of(command);
+            match make_ready(alloc, source, form, &asked) {
+                Ok(ready) => answer_job(alloc, command, &ready, sink),
+                Err(refusal) => told(sink, &refusal.line, refusal.status),
+            }
+        }
         Command::Combine => answer_combine(alloc, source, sink),
-        Command::Show(name) => answer_show(alloc, &name, source, sink),
-        Command::Prove(name) => answer_prove(alloc, &name, source, sink),
-        Command::Verify(name) => answer_verify(alloc, &name, source, sink),
-        Command::Run
+        Command::Run(_)
         | Command::Exits
         | Command::Early
-        | Command::Count
-        | Command::Marks(_)
+        | Command::Count(_)
+        | Command::Marks { .. }
         | Command::Trial { .. }
         | Command::Unknown => told(sink, USAGE, 1),
     }
@@ -252,25 +150,32 @@ fn answer<T: Threads + Wait + Sync, S: Source, K: Sink, A: Areas, G: Gate + Sync
 ) -> Status
     requires room { A.made areas.old < 2 ^ 61 }
     requires few { HasFewTasks command }
-    ensures { Answered S.Source A.Areas K.Sink command source.old source.new areas.old areas.new sink.old sink.new result.0 }
+    ensures { Answered S.Source A.Areas K.Sink command source.old source.new areas.old areas.new sink.old sink.new result }
 {
     match command {
-        Command::Run => answer_run(rt, alloc, &PlainRunner, source, sink, areas, gate),
-        Command::Exits => answer_run(rt, alloc, &ExitRunner, source, sink, areas, gate),
-        Command::Early => answer_early(rt, alloc, source, sink, areas, gate),
-        Command::Count => answer_count(rt, alloc, source, sink, gate),
-        Command::Marks(name) => answer_marks(rt, alloc, &name, source, sink, areas, gate),
+        Command::Run(_)
+        | Command::Exits
+        | Command::Early
+        | Command::Count(_)
+        | Command::Marks { .. } => {
+            let form = form_of(&command);
+            let asked = asked_of(&command);
+            match make_ready(alloc, source, form, &asked) {
+                Ok(ready) => answer_tasks(rt, alloc, &command, &ready, sink, areas, gate),
+                Err(refusal) => told(sink, &refusal.line, refusal.status),
+            }
+        }
         Command::Trial { number, tasks } => answer_trial(
             rt, alloc, number, tasks, sink, areas, gate,
         ),
-        Command::Table
-        | Command::Ends
+        Command::Table(_)
+        | Command::Ends(_)
         | Command::Replay
         | Command::Combine
-        | Command::Show(_)
+        | Command::Show { .. }
         | Command::Prove(_)
         | Command::Verify(_)
-        | Command::Unknown => answer_one(alloc, command, source, sink),
+        | Command::Unknown => answer_one(alloc, &command, source, sink),
     }
 }
 
@@ -305,7 +210,7 @@ pub fn cover<T: Threads + Wait + Sync, S: Source, K: Sink, A: Areas, G: Gate + S
     gate: &G,
 ) -> Status
     requires { A.made areas.old < 2 ^ 61 }
-    ensures { Serves S.Source A.Areas K.Sink (asked words.now) source.old source.new areas.old areas.new sink.old sink.new result.0 }
+    ensures { Serves S.Source A.Areas K.Sink words.now source.old source.new areas.old areas.new sink.old sink.new result }
 {
     answer(rt, alloc, command_of(words), source, sink, areas, gate)
 }
@@ -333,7 +238,8 @@ pub fn cover_one<S: Source, K: Sink>(
     source: &mut S,
     sink: &mut K,
 ) -> Status
-    ensures { ServedAlone S.Source K.Sink (asked words.now) source.old source.new sink.old sink.new result.0 }
+    ensures { ServedAlone S.Source K.Sink words.now source.old source.new sink.old sink.new result }
 {
-    answer_one(alloc, command_of(words), source, sink)
+    let command = command_of(words);
+    answer_one(alloc, &command, source, sink)
 }

@@ -25,7 +25,7 @@ fn combine_refusal(fault: CombineFault) -> Refusal
 
 /// Unites the files that the bytes are, and writes the file of their union.
 fn answer_files<K: Sink>(alloc: Global, bytes: &[u8], sink: &mut K) -> Status
-    ensures { AnsweredBytes K.Sink Command.Combine bytes.now sink.old sink.new result.0 }
+    ensures { AnsweredBytes K.Sink Command.Combine bytes.now sink.old sink.new result }
 {
     let marks = match combine_files(alloc, bytes) {
         Ok(marks) => marks,
@@ -39,7 +39,7 @@ fn answer_files<K: Sink>(alloc: Global, bytes: &[u8], sink: &mut K) -> Status
 
 /// Reads marks files, and writes the file of their union.
 pub fn answer_combine<S: Source, K: Sink>(alloc: Global, source: &mut S, sink: &mut K) -> Status
-    ensures { AnsweredAlone S.Source K.Sink Command.Combine source.old source.new sink.old sink.new result.0 }
+    ensures { AnsweredAlone S.Source K.Sink Command.Combine source.old source.new sink.old sink.new result }
 {
     match read_input(alloc, source) {
         Ok(input) => answer_files(alloc, &input, sink),

@@ -1,18 +1,19 @@
 //! A job that a source gives, made ready for a command.
-ghost use Rattle.std.specs.Prelude.{true, IfOk, IfErr};
+ghost use Rattle.std.specs.Prelude.{IfOk, IfErr};
 ghost use Rattle.job_input.specs.Meaning.{source_change};
-ghost use Rattle.job_input.specs.Inputs.{to_end, IsInput};
+ghost use Rattle.job_input.specs.Inputs.{IsInput};
 ghost use Rattle.job_tables.specs.Tables.{IsReadyJob};
 ghost use Rattle.report_text.specs.Conditions.{HasFewLines};
-ghost use Rattle.coverage_commands.specs.Meaning.{HasAsked, Asked, AnyJob, AllWhole, with_session};
-ghost use Rattle.coverage_commands.specs.Answers.{IsStopped, StopsJob};
-ghost use Rattle.coverage_commands.specs.Ready.{IsMadeReady, IsNamedReady};
+ghost use Rattle.coverage_commands.specs.Meaning.{HasAsked};
+ghost use Rattle.coverage_commands.specs.declared.asked.Asked.{Asked as AskedOf};
+ghost use Rattle.coverage_commands.specs.Answers.{IsStopped, StopsInput, StopsJob};
+ghost use Rattle.coverage_commands.specs.Ready.{IsMadeReady};
 
-use crate::named::{named_session, whole_sessions};
+use crate::asked::{Asked, asked_session};
 use brk_table::Tables;
-use cov_base::{Name, SessNo};
+use cov_base::SessNo;
 use cov_outside::Source;
-use job_input::{Input, job_of_source};
+use job_input::{Form, Input, job_of_source};
 use job_tables::tables_of;
 use refusals::{Refusal, input_refusal, tables_refusal};
 use session_book::Job;
@@ -23,15 +24,16 @@ use std::alloc::Global;
 pub struct Ready {
     pub input: Input,
     pub tables: Tables,
+    /// The session that is asked for by its name; 0 where none is.
+    pub session: SessNo,
 }
 
 /// Reads the source to its end, and the job of its lines; and what stands behind it.
-fn read_job<S: Source>(alloc: Global, source: &mut S, more: bool) -> Result<Input, Refusal>
-    ensures input { IfOk result (IsInput more (source_change S.left S.faults source.old source.new)) }
-    ensures stopped { (asked : Asked) →
-        IfErr result (IsStopped more asked (source_change S.left S.faults source.old source.new)) }
+fn read_job<S: Source>(alloc: Global, source: &mut S, form: Form) -> Result<Input, Refusal>
+    ensures input { IfOk result (IsInput form (source_change S.left S.faults source.old source.new)) }
+    ensures stopped { IfErr result (StopsInput form (source_change S.left S.faults source.old source.new)) }
 {
-    match job_of_source(alloc, source, more) {
+    match job_of_source(alloc, source, form) {
         Ok(input) => Ok(input),
         Err(fault) => Err(input_refusal(fault)),
     }
@@ -41,7 +43,7 @@ fn read_job<S: Source>(alloc: Global, source: &mut S, more: bool) -> Result<Inpu
 fn read_tables(alloc: Global, job: &Job) -> Result<Tables, Refusal>
     requires { HasFewLines job.now }
     ensures ready { IfOk result (IsReadyJob job.now) }
-    ensures stopped { (asked : Asked) → HasAsked asked job.now → IfErr result (StopsJob asked job.now) }
+    ensures stopped { (asked : AskedOf) → HasAsked asked job.now → IfErr result (StopsJob asked job.now) }
 {
     match tables_of(alloc, job) {
         Ok(tables) => Ok(tables),
@@ -49,45 +51,24 @@ fn read_tables(alloc: Global, job: &Job) -> Result<Tables, Refusal>
     }
 }
 
-/// Reads the source to its end, the job of its lines, and the tables of the job's listings; or the first refusal of
-/// these, in this order. What stands behind the job is the caller's where more may stand there; else nothing does.
-pub fn make_ready<S: Source>(alloc: Global, source: &mut S, more: bool) -> Result<Ready, Refusal>
-    ensures ready { IfOk result (IsMadeReady more AnyJob (source_change S.left S.faults source.old source.new)) }
-    ensures stopped { IfErr result (IsStopped more AnyJob (source_change S.left S.faults source.old source.new)) }
-{
-    let input = read_job(alloc, source, more)?;
-    let tables = read_tables(alloc, &input.job)?;
-    Ok(Ready { input, tables })
-}
-
-/// Reads the source to its end, the job of its lines, the number of the session of the name, and the tables of the job's
-/// listings; or the first refusal of these, in this order. What stands behind the job is the caller's where more may
-/// stand there; else nothing does. Where it must be `whole` the named session may have no controller.
-pub fn make_named<S: Source>(
+/// Reads the source to its end, the job of its lines, the number of the session that is asked for by its name, and the
+/// tables of the job's listings; or the first refusal of these, in this order. What stands behind the job is the caller's
+/// where the form lets more stand there; else nothing does.
+pub fn make_ready<S: Source>(
     alloc: Global,
     source: &mut S,
-    more: bool,
-    name: &Name,
-    whole: bool,
-) -> Result<(Ready, SessNo), Refusal>
-    ensures ready { IfOk result (IsNamedReady more name.now whole (source_change S.left S.faults source.old source.new)) }
-    ensures stopped { IfErr result (IsStopped more (with_session name.now whole)
-        (source_change S.left S.faults source.old source.new)) }
+    form: Form,
+    asked: &Asked,
+) -> Result<Ready, Refusal>
+    ensures ready { IfOk result (IsMadeReady form asked.now (source_change S.left S.faults source.old source.new)) }
+    ensures stopped { IfErr result (IsStopped form asked.now (source_change S.left S.faults source.old source.new)) }
 {
-    let input = read_job(alloc, source, more)?;
-    let session = named_session(&input.job, name, whole)?;
+    let input = read_job(alloc, source, form)?;
+    let session = asked_session(&input.job, asked)?;
     let tables = read_tables(alloc, &input.job)?;
-    Ok((Ready { input, tables }, session))
-}
-
-/// Reads the source to its end, the job of its lines, which has no session with a controller and nothing behind it, and the
-/// tables of the job's listings; or the first refusal of these, in this order.
-pub fn make_whole<S: Source>(alloc: Global, source: &mut S) -> Result<Ready, Refusal>
-    ensures ready { IfOk result (IsMadeReady to_end AllWhole (source_change S.left S.faults source.old source.new)) }
-    ensures stopped { IfErr result (IsStopped to_end AllWhole (source_change S.left S.faults source.old source.new)) }
-{
-    let input = read_job(alloc, source, false)?;
-    whole_sessions(&input.job)?;
-    let tables = read_tables(alloc, &input.job)?;
-    Ok(Ready { input, tables })
+    Ok(Ready {
+        input,
+        tables,
+        session,
+    })
 }

@@ -1,23 +1,21 @@
 //! A session's listings, marked by a marks file.
 ghost use Rattle.std.specs.Prelude.{◌≡◌, ◌<◌, ◌≤◌, true, length, IfOk, IfErr};
-ghost use Rattle.cov_outside.specs.Writes.{Writes};
 ghost use Rattle.job_tables.specs.Tables.{IsReadyJob};
-ghost use Rattle.coverage_commands.specs.Meaning.{BeginsWith, show_text};
+ghost use Rattle.coverage_commands.specs.Meaning.{BeginsWith, IsShown, show_text};
+ghost use Rattle.coverage_commands.specs.Ready.{view_of};
 ghost use Rattle.refusals.specs.Meaning.{refusal};
-ghost use Rattle.coverage_commands.specs.Files.{IsFileRefusal, IsShowRefusal};
-ghost use Rattle.coverage_commands.specs.Named.{IsSessionOf};
+ghost use Rattle.coverage_commands.specs.Files.{IsFileOf, IsFileRefusal, IsShowRefusal};
 ghost use Rattle.report_text.specs.Conditions.{AreTablesOf};
+ghost use Rattle.report_text.specs.Writes.{PrintsText};
 ghost use Rattle.session_book.specs.Sets.{HasSetsOf};
 ghost use Rattle.session_marks.specs.FromFile.{set_at, sets_of_one};
-ghost use Rattle.session_marks.specs.Meaning.{session_marks};
-ghost use Rattle.coverage_commands.specs.Calls.{AnsweredAlone, AnsweredBehind};
+ghost use Rattle.coverage_commands.specs.Calls.{Tells};
 
-use crate::ready::make_named;
+use crate::ready::Ready;
 use crate::status::{Status, status_of, told};
 use brk_table::Tables;
-use command_words::Command;
-use cov_base::{Name, SessNo};
-use cov_outside::{Failed, Sink, Source};
+use cov_base::SessNo;
+use cov_outside::{Failed, Sink};
 use marks_file::{Marks, MarksFault, read};
 use refusals::{NO_MEMORY, Refusal, bad_marks, other_table, plain_refusal};
 use report_text::{put, session_part, words_line};
@@ -55,7 +53,7 @@ fn sets_behind(
     requires from { 0 < s.0 }
     requires to { s.0 ≤ length job.now.sessions }
     requires ready { IsReadyJob job.now tables.now }
-    ensures file { IfOk result (λ f. BeginsWith rest.now (session_marks job.now tables.now (set_at f.sets) s.0) (length rest.now)) }
+    ensures file { IfOk result (λ f. IsFileOf job.now tables.now s.0 rest.now (set_at f.sets)) }
     ensures sets { IfOk result (λ f. HasSetsOf job.now tables.now f.session (length f.sets) (sets_of_one f) s.0) }
     ensures refused { IfErr result (IsShowRefusal job.now tables.now s.0 rest.now) }
 {
@@ -79,53 +77,24 @@ fn show_text<K: Sink, R: FactSets>(
     requires to { s.0 ≤ length job.now.sessions }
     requires tables { AreTablesOf job.now tables.now }
     requires sets { HasSetsOf job.now tables.now (R.sessions sets.now) (R.places sets.now) (R.set_of sets.now) s.0 }
-    ensures { Writes K.written K.faults sink.old sink.new result (show_text job.now tables.now (R.set_of sets.now s.0) s.0) }
+    ensures { PrintsText K.Sink sink.old sink.new result (show_text job.now tables.now (R.set_of sets.now s.0) s.0) }
 {
     put(sink, words_line(b"COVERAGE SHOW"))?;
     session_part(sink, job, tables, sets, s)?;
     put(sink, words_line(b"END"))
 }
 
-/// Marks the listings of session s of the job by the file that the bytes behind the job are.
-fn answer_file<K: Sink>(
-    alloc: Global,
-    name: &Name,
-    job: &Job,
-    tables: &Tables,
-    s: SessNo,
-    rest: &[u8],
-    sink: &mut K,
-) -> Status
-    requires ready { IsReadyJob job.now tables.now }
-    requires session { IsSessionOf job.now name.now s.0 }
-    ensures { AnsweredBehind K.Sink (Command.Show name.now) job.now rest.now sink.old sink.new result.0 }
+/// Writes the listings of the session that is named, marked by the file that stands behind a job.
+pub fn write_shown<K: Sink>(alloc: Global, ready: &Ready, sink: &mut K) -> Status
+    requires from { 0 < ready.now.session.0 }
+    requires to { ready.now.session.0 ≤ length ready.now.input.job.sessions }
+    requires job { IsReadyJob ready.now.input.job ready.now.tables }
+    ensures { Tells K.Sink (IsShown (view_of ready.now)) sink.old sink.new result }
 {
-    match sets_behind(alloc, job, tables, s, rest) {
-        Ok(sets) => status_of(show_text(sink, job, tables, &sets, s)),
+    let job = &ready.input.job;
+    let tables = &ready.tables;
+    match sets_behind(alloc, job, tables, ready.session, &ready.input.rest) {
+        Ok(sets) => status_of(show_text(sink, job, tables, &sets, ready.session)),
         Err(refusal) => told(sink, &refusal.line, refusal.status),
     }
-}
-
-/// Reads a job and a marks file, and writes the listings of the session of the name with the file's marks.
-pub fn answer_show<S: Source, K: Sink>(
-    alloc: Global,
-    name: &Name,
-    source: &mut S,
-    sink: &mut K,
-) -> Status
-    ensures { AnsweredAlone S.Source K.Sink (Command.Show name.now) source.old source.new sink.old sink.new result.0 }
-{
-    let (read, session) = match make_named(alloc, source, true, name, false) {
-        Ok(read) => read,
-        Err(refusal) => return told(sink, &refusal.line, refusal.status),
-    };
-    answer_file(
-        alloc,
-        name,
-        &read.input.job,
-        &read.tables,
-        session,
-        &read.input.rest,
-        sink,
-    )
 }

@@ -51,7 +51,7 @@ fn answer_job<T: Threads + Wait + Sync, K: Sink, A: Areas, G: Gate + Sync>(
     requires job { job.now ≡ trial_job number tasks }
     requires ready { IsReadyJob job.now tables.now }
     requires room { A.made areas.old < 2 ^ 61 }
-    ensures { AnsweredUnread A.Areas K.Sink (Command.Trial number tasks) areas.old areas.new sink.old sink.new result.0 }
+    ensures { AnsweredUnread A.Areas K.Sink (Command.Trial number tasks) areas.old areas.new sink.old sink.new result }
 {
     let Ok(outcome) = run_job(rt, alloc, areas, gate, job, tables) else {
         return told(sink, NO_MEMORY, 7);
@@ -72,7 +72,7 @@ pub fn answer_trial<T: Threads + Wait + Sync, K: Sink, A: Areas, G: Gate + Sync>
     requires some { 1 ≤ tasks }
     requires most { tasks ≤ 64 }
     requires room { A.made areas.old < 2 ^ 61 }
-    ensures { AnsweredUnread A.Areas K.Sink (Command.Trial number tasks) areas.old areas.new sink.old sink.new result.0 }
+    ensures { AnsweredUnread A.Areas K.Sink (Command.Trial number tasks) areas.old areas.new sink.old sink.new result }
 {
     let Ok(job) = trial(alloc, number, tasks) else {
         return told(sink, NO_MEMORY, 7);

@@ -3,17 +3,14 @@ ghost use Rattle.std.specs.Prelude.{◌≡◌, ◌<◌, ◌≤◌, true, None, l
 ghost use Rattle.job_tables.specs.Tables.{IsReadyJob};
 ghost use Rattle.coverage_commands.specs.Meaning.{HasVerified};
 ghost use Rattle.coverage_commands.specs.Checked.{verify_refusal, IsStartRefusal, IsCheckRefusal, IsPassed};
-ghost use Rattle.coverage_commands.specs.Named.{IsSessionOf};
 ghost use Rattle.marks_file.specs.Meaning.{HasFile};
 ghost use Rattle.session_book.specs.Meaning.{session_of};
-ghost use Rattle.coverage_commands.specs.Calls.{AnsweredAlone, AnsweredBehind};
+ghost use Rattle.coverage_commands.specs.Calls.{IsChecked, Tells};
 
-use crate::ready::make_named;
 use crate::status::{Status, told};
 use brk_table::Tables;
-use command_words::Command;
 use cov_base::{Name, SessNo};
-use cov_outside::{Sink, Source};
+use cov_outside::Sink;
 use evidence_check::{VerifyFault, verify};
 use marks_file::{Marks, MarksFault, read};
 use refusals::{
@@ -85,7 +82,7 @@ fn facts_behind(
 }
 
 /// Says whether the marks and the evidence that stand behind a job are those of session s of it, of that name.
-fn answer_behind<K: Sink>(
+pub fn write_verdict<K: Sink>(
     alloc: Global,
     name: &Name,
     job: &Job,
@@ -94,37 +91,14 @@ fn answer_behind<K: Sink>(
     rest: &[u8],
     sink: &mut K,
 ) -> Status
+    requires from { 0 < s.0 }
+    requires to { s.0 ≤ length job.now.sessions }
     requires whole { (session_of job.now s.0).by ≡ None }
-    requires ready { IsReadyJob job.now tables.now }
-    requires session { IsSessionOf job.now name.now s.0 }
-    ensures { AnsweredBehind K.Sink (Command.Verify name.now) job.now rest.now sink.old sink.new result.0 }
+    requires job { IsReadyJob job.now tables.now }
+    ensures { Tells K.Sink (IsChecked name.now job.now tables.now s.0 rest.now) sink.old sink.new result }
 {
     match facts_behind(alloc, job, tables, s, rest) {
         Ok(facts) => told(sink, &verified_line(name, facts), 0),
         Err(refusal) => told(sink, &refusal.line, refusal.status),
     }
-}
-
-/// Reads a job, a marks file and evidence, and says whether they are those of the session of the name.
-pub fn answer_verify<S: Source, K: Sink>(
-    alloc: Global,
-    name: &Name,
-    source: &mut S,
-    sink: &mut K,
-) -> Status
-    ensures { AnsweredAlone S.Source K.Sink (Command.Verify name.now) source.old source.new sink.old sink.new result.0 }
-{
-    let (read, session) = match make_named(alloc, source, true, name, true) {
-        Ok(read) => read,
-        Err(refusal) => return told(sink, &refusal.line, refusal.status),
-    };
-    answer_behind(
-        alloc,
-        name,
-        &read.input.job,
-        &read.tables,
-        session,
-        &read.input.rest,
-        sink,
-    )
 }

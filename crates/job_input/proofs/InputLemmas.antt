@@ -3,7 +3,8 @@ use Rattle.std.proofs.Common.{◌≡◌, ◌≤◌, ℕ, ◌+◌, ◌-◌, Bool,
 use Rattle.std.proofs.lemmas.List.{length-take-le, take_all, take_at, drop_at}
 use Rattle.session_book.specs.Meaning.{JobView}
 use Rattle.job_text.specs.Meaning.{Present, LineView, lines_of, IsBadAt, IsRefusal, IsWithin, Spells}
-use Rattle.job_text.specs.Refusals.{IsRead, IsOnly}
+use Rattle.job_text.specs.declared.grammar.Grammar.{Grammar}
+use Rattle.job_text.specs.Refusals.{IsRead, AnswersOnly}
 use Rattle.job_text.specs.declared.jobs.JobFault.{JobFault}
 use Rattle.job_text.specs.declared.jobs.JobFault.TheVariants as fault
 use Rattle.job_text.specs.declared.jobs.ReadJob.{ReadJob}
@@ -12,9 +13,10 @@ use Rattle.job_text.proofs.Spans.{lines_count}
 use Rattle.report_text.specs.Conditions.{HasFewLines}
 use Rattle.job_input.specs.Meaning.{SourceChange, CameWhole, HasJob}
 use Rattle.job_input.specs.Inputs.{CameJobless, IsInput}
+use Rattle.job_input.specs.declared.form.Form.{Form}
 use Rattle.job_input.specs.declared.reading.Input.{Input}
 
-few_of : (lines : List LineView) (j : JobView) → length lines ≤ 16777216 → Spells Present lines j → HasFewLines j
+few_of : {g : Grammar} (lines : List LineView) (j : JobView) → length lines ≤ 16777216 → Spells g Present lines j → HasFewLines j
 few_of lines j most s =
     let few : All (IsFew (length lines)) j.listings = listings_few lines j s in
     λ k d l. fewer (length lines) (get_or j.listings k d) most (few k d l)
@@ -24,27 +26,27 @@ few_of lines j most s =
     fewer n (Some texts) h f = omega (arith, h, f)
 
 -- a listing's lines are lines of the input
-pub few_first : (bytes : List ℕ) (r : ReadJob) → length bytes ≤ 16777216 → IsRead bytes r → HasFewLines r.job
+pub few_first : {g : Grammar} (bytes : List ℕ) (r : ReadJob) → length bytes ≤ 16777216 → IsRead g bytes r → HasFewLines r.job
 few_first bytes r most read =
     let size : length (lines_of bytes) ≡ length (lines_of (take r.end bytes)) + length (lines_of (drop r.end bytes)) = ap length read.parted ∙ length-append (lines_of (take r.end bytes)) (lines_of (drop r.end bytes)) in
     few_of (lines_of (take r.end bytes)) r.job (omega (arith, size, most, lines_count bytes)) read.spells
 
 -- the lines of the job, and the bytes behind it, are no more than all bytes
-pub behind_few : (bytes : List ℕ) (r : ReadJob) (rest : List ℕ) → length bytes ≤ 16777216 → IsRead bytes r → rest ≡ drop r.end bytes → r.lines + length rest ≤ 16777216
+pub behind_few : {g : Grammar} (bytes : List ℕ) (r : ReadJob) (rest : List ℕ) → length bytes ≤ 16777216 → IsRead g bytes r → rest ≡ drop r.end bytes → r.lines + length rest ≤ 16777216
 behind_few bytes r rest most read behind =
     let front : length (take r.end bytes) ≡ r.end = length-take-le r.end bytes read.inside in
     let back : length rest ≡ length bytes - r.end = ap length behind ∙ length-drop r.end bytes in
     omega (arith, front, back, most, read.inside, read.count, lines_count (take r.end bytes))
 
 -- the job that the first lines spell, and what stands behind them
-pub input_is : (more : Bool) (s : SourceChange) (bytes : List ℕ) (r : ReadJob) (i : Input) → i.job ≡ r.job → i.lines ≡ r.lines → CameWhole s bytes → IsRead bytes r → (more ≡ false → r.end ≡ length bytes) → (more ≡ true → i.rest.items ≡ drop r.end bytes) →
-    IsInput more s i
-input_is more s bytes r i job lines came read whole behind =
+pub input_is : (form : Form) (s : SourceChange) (bytes : List ℕ) (r : ReadJob) (i : Input) → i.job ≡ r.job → i.lines ≡ r.lines → CameWhole s bytes → IsRead form.grammar bytes r → (form.more ≡ false → r.end ≡ length bytes) → (form.more ≡ true → i.rest.items ≡ drop r.end bytes) →
+    IsInput form s i
+input_is form s bytes r i job lines came read whole behind =
     let head : List LineView = lines_of (take r.end bytes) in
     let tail : List LineView = lines_of (drop r.end bytes) in
     let first : take r.lines (lines_of bytes) ≡ head = ap (λ (l : List LineView). take r.lines l) read.parted ∙ take_at head tail r.lines read.count in
     let back : drop r.lines (lines_of bytes) ≡ tail = ap (λ (l : List LineView). drop r.lines l) read.parted ∙ drop_at head tail r.lines read.count in
-    let over : more ≡ false → r.lines ≡ length (lines_of bytes) = λ e. sym read.count ∙ ap (λ (b : List ℕ). length (lines_of b)) (take_all r.end bytes (omega (arith, whole e))) in
+    let over : form.more ≡ false → r.lines ≡ length (lines_of bytes) = λ e. sym read.count ∙ ap (λ (b : List ℕ). length (lines_of b)) (take_all r.end bytes (omega (arith, whole e))) in
     rw (job, lines) (record {
       came = record {
         bytes = bytes;
@@ -58,21 +60,21 @@ input_is more s bytes r i job lines came read whole behind =
     })
 
 -- the reader's fault
-pub jobless_is : (more : Bool) (s : SourceChange) (bytes : List ℕ) (e : JobFault) → CameWhole s bytes → IsRefusal (lines_of bytes) e →
-    ((n : ℕ) (j : JobView) → n ≤ length (lines_of bytes) → Spells Present (take n (lines_of bytes)) j → IsWithin j → IsOnly n j (Err e)) → CameJobless more s e
-jobless_is more s bytes e came first only = record {
+pub jobless_is : (form : Form) (s : SourceChange) (bytes : List ℕ) (e : JobFault) → CameWhole s bytes → IsRefusal form.grammar (lines_of bytes) e →
+    AnswersOnly form.grammar (lines_of bytes) (Err e) → CameJobless form s e
+jobless_is form s bytes e came first only = record {
   bytes = bytes;
   came = came;
   is = record { first = first; jobless = λ j has. only has.count j has.inside has.spells has.within };
 }
 
 -- a bad line behind the job, where nothing may stand there
-pub over_is : (more : Bool) (s : SourceChange) (bytes : List ℕ) (n : ℕ) → CameWhole s bytes → more ≡ false → IsBadAt (lines_of bytes) n → CameJobless more s (fault.BadJob n)
-over_is more s bytes n came alone bad = record {
+pub over_is : (form : Form) (s : SourceChange) (bytes : List ℕ) (n : ℕ) → CameWhole s bytes → form.more ≡ false → IsBadAt form.grammar (lines_of bytes) n → CameJobless form s (fault.BadJob n)
+over_is form s bytes n came alone bad = record {
   bytes = bytes;
   came = came;
   is = record { first = bad; jobless = λ j has. absurd (never_bad (lines_of bytes) j n (all_spell (lines_of bytes) j has) bad) };
 }
   where
-    all_spell : (ls : List LineView) (j : JobView) → HasJob more ls j → Spells Present ls j
+    all_spell : (ls : List LineView) (j : JobView) → HasJob form ls j → Spells form.grammar Present ls j
     all_spell ls j has = let most : length ls ≤ has.count = omega (arith, has.over alone) in rw (take_all has.count ls most) at has.spells

@@ -10,6 +10,7 @@ use Rattle.job_text.specs.Meaning.{LineView, lines_of, put_on, Present}
 use Rattle.job_text.proofs.Spelled.{one_first}
 use Rattle.job_input.specs.Meaning.{SourceChange, HasJob, CameWhole, IsJobFault, IsReadFault, input_limit}
 use Rattle.job_input.specs.Inputs.{CameJob, CameJobless, CameWith}
+use Rattle.job_input.specs.declared.form.Form.{Form}
 use Rattle.job_text.specs.declared.jobs.JobFault.{JobFault}
 
 all_of : (b bytes : List ℕ) (rest : Option (List ℕ)) → IsWhole (Some b) rest bytes → b ≡ bytes
@@ -24,18 +25,18 @@ pub left_is : (is : List ℕ → Type 0) (s : SourceChange) (b bytes : List ℕ)
 left_is is s b bytes e came h = subst is (sym (came_is s b bytes e came)) h
 
 -- two jobs of the same bytes are one, of as many lines
-pub one_job : (more : Bool) (ls : List LineView) (j k : JobView) (has : HasJob more ls j) (other : HasJob more ls k) → (has.count ≡ other.count) × (j ≡ k)
-one_job more ls j k has other = one_first Present ls has.count other.count j k has.inside other.inside has.spells other.spells
+pub one_job : (form : Form) (ls : List LineView) (j k : JobView) (has : HasJob form ls j) (other : HasJob form ls k) → (has.count ≡ other.count) × (j ≡ k)
+one_job form ls j k has other = one_first Present ls has.count other.count j k has.inside other.inside has.spells other.spells
 
-pub came_job : (more : Bool) (s : SourceChange) (j : JobView) (count : ℕ) (rest : List ℕ) → CameWith more s j count rest → CameJob more s j
-came_job more s j count rest c = record { bytes = c.bytes; came = c.came; has = c.has }
+pub came_job : (form : Form) (s : SourceChange) (j : JobView) (count : ℕ) (rest : List ℕ) → CameWith form s j count rest → CameJob form s j
+came_job form s j count rest c = record { bytes = c.bytes; came = c.came; has = c.has }
 
-pub same_job : (more : Bool) (s : SourceChange) (b : List ℕ) (j k : JobView) → s.left ≡ Some b → HasJob more (lines_of b) j → CameJob more s k → j ≡ k
-same_job more s b j k e has c = (one_job more (lines_of b) j k has (left_is (λ t. HasJob more (lines_of t) k) s b c.bytes e c.came c.has)).1
+pub same_job : (form : Form) (s : SourceChange) (b : List ℕ) (j k : JobView) → s.left ≡ Some b → HasJob form (lines_of b) j → CameJob form s k → j ≡ k
+same_job form s b j k e has c = (one_job form (lines_of b) j k has (left_is (λ t. HasJob form (lines_of t) k) s b c.bytes e c.came c.has)).1
 
 -- a fault of those that came is one of those that were left
-pub fault_left : (more : Bool) (s : SourceChange) (b : List ℕ) (e : JobFault) → s.left ≡ Some b → CameJobless more s e → IsJobFault more b e
-fault_left more s b e left c = left_is (λ t. IsJobFault more t e) s b c.bytes left c.came c.is
+pub fault_left : (form : Form) (s : SourceChange) (b : List ℕ) (e : JobFault) → s.left ≡ Some b → CameJobless form s e → IsJobFault form b e
+fault_left form s b e left c = left_is (λ t. IsJobFault form t e) s b c.bytes left c.came c.is
 
 pub too_many : (s : SourceChange) (b bytes : List ℕ) → s.left ≡ Some b → input_limit < length b → CameWhole s bytes → ⊥
 too_many s b bytes e l c = let same = ap length (came_is s b bytes e c) in absurd (omega (arith, same, c.within))

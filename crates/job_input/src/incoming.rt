@@ -5,6 +5,7 @@ ghost use Rattle.job_input.specs.Incoming.{HasCome, HasAll};
 ghost use Rattle.job_input.specs.Meaning.{SourceChange, IsReadFault, source_change};
 ghost use Rattle.job_input.specs.Inputs.{CameJobless, IsInput};
 
+use crate::form::Form;
 use crate::reading::Input;
 use cov_base::{INPUT_LIMIT, NoMemory};
 use cov_outside::{ReadFault, Source, read_piece};
@@ -16,22 +17,22 @@ use std::alloc::{AllocError, Global};
 #[derive(Drop)]
 pub struct Incoming {
     pub reader: JobReader,
-    pub more: bool,
+    pub form: Form,
     pub over: bool,
     pub rest: Vec<u8>,
 }
 
 impl Incoming {
     /// Nothing has come.
-    pub fn new(alloc: Global, more: bool) -> Result<Incoming, NoMemory>
+    pub fn new(alloc: Global, form: Form) -> Result<Incoming, NoMemory>
         ensures nothing { IfOk result (HasCome []) }
         ensures size { IfOk result (λ i. fed_size i.reader ≡ 0) }
-        ensures more { IfOk result (λ i. i.more ≡ more) }
+        ensures form { IfOk result (λ i. i.form ≡ form) }
     {
-        let reader = JobReader::new(alloc)?;
+        let reader = JobReader::new(alloc, form.grammar)?;
         Ok(Incoming {
             reader,
-            more,
+            form,
             over: false,
             rest: Vec::new(alloc),
         })
@@ -39,15 +40,15 @@ impl Incoming {
 
     fn keep(&mut self, behind: &[u8]) -> Result<(), AllocError>
         ensures reader { self.new.reader ≡ self.old.reader }
-        ensures more { self.new.more ≡ self.old.more }
+        ensures form { self.new.form ≡ self.old.form }
         ensures some { 0 < length behind.now → self.new.over ≡ true }
         ensures none { behind.now ≡ [] → self.new.over ≡ self.old.over }
-        ensures rest { OnOk result (self.old.more ≡ true → self.new.rest.items ≡ self.old.rest.items ++ behind.now) }
+        ensures rest { OnOk result (self.old.form.more ≡ true → self.new.rest.items ≡ self.old.rest.items ++ behind.now) }
     {
         if !behind.is_empty() {
             self.over = true;
         }
-        if self.more {
+        if self.form.more {
             self.rest.extend_from_slice(behind)?;
         }
         Ok(())
@@ -58,7 +59,7 @@ impl Incoming {
         requires { fed_size self.old.reader + length piece.now ≤ INPUT_LIMIT }
         ensures come { (bytes : List ℕ) → HasCome bytes self.old → OnOk result (HasCome (bytes ++ piece.now) self.new) }
         ensures size { fed_size self.new.reader ≤ fed_size self.old.reader + length piece.now }
-        ensures more { self.new.more ≡ self.old.more }
+        ensures form { self.new.form ≡ self.old.form }
     {
         if self.reader.has_ended() {
             return self.keep(piece);
@@ -75,7 +76,7 @@ impl Incoming {
         requires nothing { HasCome [] self.old }
         requires size { fed_size self.old.reader ≡ 0 }
         ensures come { OnOk result (HasAll (source_change S.left S.faults source.old source.new) self.new) }
-        ensures more { self.new.more ≡ self.old.more }
+        ensures form { self.new.form ≡ self.old.form }
         ensures fault { IfErr result (IsReadFault (source_change S.left S.faults source.old source.new)) }
     {
         let mut buffer = [0u8; 65_536];
@@ -94,15 +95,16 @@ impl Incoming {
     /// The job, and the bytes behind it where more than a job may come. Where none may, `BadJob` at the line behind the job.
     pub fn finish(self, alloc: Global) -> Result<Input, JobFault>
         requires { (s : SourceChange) × HasAll s self }
-        ensures input { (s : SourceChange) → HasAll s self → IfOk result (IsInput self.more s) }
-        ensures fault { (s : SourceChange) → HasAll s self → IfErr result (CameJobless self.more s) }
+        ensures input { (s : SourceChange) → HasAll s self → IfOk result (IsInput self.form s) }
+        ensures fault { (s : SourceChange) → HasAll s self → IfErr result (CameJobless self.form s) }
     {
         let Incoming {
             reader,
-            more,
+            form,
             over,
             rest,
         } = self;
+        let more = form.more;
         let read = reader.finish(alloc)?;
         if over && !more {
             return Err(JobFault::BadJob {

@@ -4,8 +4,10 @@
 #![tactic(auto)]
 
 mod faults;
+mod form;
 mod incoming;
 mod reading;
 
 pub use faults::InputFault;
+pub use form::Form;
 pub use reading::{Input, job_of_source, read_input};

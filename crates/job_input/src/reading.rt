@@ -4,6 +4,7 @@ ghost use Rattle.job_input.specs.Meaning.{CameWhole, IsReadFault, source_change}
 ghost use Rattle.job_input.specs.Inputs.{IsInput, IsInputFault};
 
 use crate::faults::InputFault;
+use crate::form::Form;
 use crate::incoming::Incoming;
 use cov_base::INPUT_LIMIT;
 use cov_outside::{ReadFault, Source, read_all};
@@ -27,16 +28,16 @@ pub fn read_input<S: Source>(alloc: Global, source: &mut S) -> Result<Vec<u8>, R
 }
 
 /// Reads the source to its end, and the job of its first lines meanwhile. A fault of the source comes before one of the job.
-/// What stands behind the job is kept where `more` may stand there; else the line behind it is bad.
+/// What stands behind the job is kept where the form lets more stand there; else the line behind it is bad.
 pub fn job_of_source<S: Source>(
     alloc: Global,
     source: &mut S,
-    more: bool,
+    form: Form,
 ) -> Result<Input, InputFault>
-    ensures came { IfOk result (IsInput more (source_change S.left S.faults source.old source.new)) }
-    ensures fault { IfErr result (IsInputFault more (source_change S.left S.faults source.old source.new)) }
+    ensures came { IfOk result (IsInput form (source_change S.left S.faults source.old source.new)) }
+    ensures fault { IfErr result (IsInputFault form (source_change S.left S.faults source.old source.new)) }
 {
-    let mut incoming = Incoming::new(alloc, more)?;
+    let mut incoming = Incoming::new(alloc, form)?;
     incoming.fill(alloc, source)?;
     Ok(incoming.finish(alloc)?)
 }

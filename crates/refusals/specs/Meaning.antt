@@ -23,7 +23,7 @@ use Rattle.job_text.specs.declared.jobs.JobFault.TheVariants as fault
 -- The lines that refusals, and a `verify` that passes, are told by.
 
 abbrev pub usage_line : List ℕ
-usage_line = codes "USAGE: run | marks NAME | trial NUMBER TASKS | table | replay | combine | show NAME | early | count | exits | prove NAME | verify NAME | ends\n"
+usage_line = codes "USAGE: run | marks NAME | trial NUMBER TASKS | table | replay | combine | show NAME | early | count | exits | prove NAME | verify NAME | ends | services COMMAND\n"
 
 abbrev pub too_large_input_line : List ℕ
 too_large_input_line = codes "TOO LARGE INPUT\n"

@@ -13,7 +13,7 @@ use table_combine::OtherTable;
 
 /// For words that are none of the table.
 pub const USAGE: &[u8] =
-    b"USAGE: run | marks NAME | trial NUMBER TASKS | table | replay | combine | show NAME | early | count | exits | prove NAME | verify NAME | ends\n";
+    b"USAGE: run | marks NAME | trial NUMBER TASKS | table | replay | combine | show NAME | early | count | exits | prove NAME | verify NAME | ends | services COMMAND\n";
 
 /// For a source that failed.
 pub const READ_FAULT: &[u8] = b"READ FAULT\n";

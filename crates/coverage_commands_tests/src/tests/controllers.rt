@@ -1,8 +1,9 @@
 //! Two controllers on the core: the plants and closes that are possible, and those that are not.
 
+use super::jobs::PLAIN;
 use cov_base::{PlaceNo, SessNo, TaskNo};
 use cov_outside::MemSource;
-use coverage_commands::make_ready;
+use coverage_commands::{Asked, make_ready};
 use interleave_core::{Core, Event, start};
 use std::test::Fail;
 
@@ -91,7 +92,7 @@ fn controllers_alone_plant_and_close_in_order(rt: HostRuntime) -> Result<(), Fai
     let alloc = rt.alloc();
     let bytes = TWO_CONTROLLERS.as_bytes().to_vec(alloc)?;
     let mut source = MemSource::new(bytes, 64, Vec::new(alloc));
-    let Ok(ready) = make_ready(alloc, &mut source, false) else {
+    let Ok(ready) = make_ready(alloc, &mut source, PLAIN, &Asked::AnyJob) else {
         return Err(Fail::new("the job"));
     };
     if ready.input.job.phase_count() != 1 {

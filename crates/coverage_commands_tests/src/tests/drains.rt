@@ -11,11 +11,12 @@ ghost use Rattle.session_book.specs.JobView.{IsJob};
 
 use super::called::TWO;
 use super::controls::two_sessions;
+use super::jobs::PLAIN;
 use super::notation::{LOAD, Part, bytes_of};
 use brk_table::Tables;
 use cov_base::{NoMemory, TaskNo};
 use cov_outside::MemSource;
-use coverage_commands::make_ready;
+use coverage_commands::{Asked, make_ready};
 use early_report::{Drain, EarlyRunner, Poll, Stage, drain_begin, drain_poll, drain_take, room};
 use module_area::{Areas, Cells, Control, Drains, Forks, Plan};
 use observed_step::Bench;
@@ -221,7 +222,7 @@ fn a_task_that_has_ended_is_not_waited_for(rt: HostRuntime) -> Result<(), Fail> 
     let alloc = rt.alloc();
     let job = bytes_of(alloc, &[Part::Phase(LOAD), Part::Text(TWO)])?;
     let mut source = MemSource::new(job, 64, Vec::new(alloc));
-    let Ok(ready) = make_ready(alloc, &mut source, false) else {
+    let Ok(ready) = make_ready(alloc, &mut source, PLAIN, &Asked::AnyJob) else {
         return Err("no job".into());
     };
     let mut areas = SharedAreas::new(alloc, 1)?;

@@ -3,10 +3,11 @@ ghost use Rattle.std.specs.Prelude.{◌≡◌};
 ghost use Rattle.task_run.specs.Meaning.{solo};
 
 use super::FIRST_JOB;
+use super::jobs::PLAIN;
 use brk_table::Tables;
 use cov_base::{NoMemory, TaskNo};
 use cov_outside::{MemSource, OpenGate};
-use coverage_commands::make_ready;
+use coverage_commands::{Asked, make_ready};
 use job_run::run_job_with;
 use module_area::{Areas, Cells, Plan};
 use s370_state::Ending;
@@ -49,7 +50,7 @@ impl<C: Cells> Runner<C> for Wanting {
 fn makes_extras_before_it_plants(rt: HostRuntime) -> Result<(), Fail> {
     let a = rt.alloc();
     let mut source = MemSource::new(FIRST_JOB.as_bytes().to_vec(a)?, 64, Vec::new(a));
-    let Ok(read) = make_ready(a, &mut source, false) else {
+    let Ok(read) = make_ready(a, &mut source, PLAIN, &Asked::AnyJob) else {
         return Err("ready".into());
     };
     let mut areas = SharedAreas::new(a, 1).map_err(|_| "memory")?;

@@ -1,6 +1,20 @@
 //! Jobs of several tasks, sessions and phases, with their text and tallies: those of the rules' examples.
 
 use super::notation::{Case, LOAD, Tallied};
+use job_input::Form;
+use job_text::Grammar;
+
+/// The form of an input that is a job without SERVICE cards.
+pub const PLAIN: Form = Form {
+    grammar: Grammar::Plain,
+    more: false,
+};
+
+/// And that of one with more behind its job.
+pub const WITH_MORE: Form = Form {
+    grammar: Grammar::Plain,
+    more: true,
+};
 
 pub const TALLIED_JOBS: [Tallied; 4] = [
     Tallied {

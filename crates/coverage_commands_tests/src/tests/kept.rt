@@ -3,12 +3,13 @@ ghost use Rattle.std.specs.Prelude.{◌≤◌};
 ghost use Rattle.brk_table.specs.Kept.{AreCodes};
 
 use super::evidence::proved;
+use super::jobs::WITH_MORE;
 use super::marked::good;
 use super::notation::{Row, row_of};
 use brk_table::Tables;
 use cov_base::PlaceNo;
 use cov_outside::MemSource;
-use coverage_commands::make_ready;
+use coverage_commands::{Asked, make_ready};
 use job_gen::trial;
 use job_tables::tables_of;
 use s370_decode::Code;
@@ -50,7 +51,7 @@ fn compare(alloc: Global, job: &Job, tables: &Tables, seen: &mut [bool; 3]) -> R
 /// So for the job that the row's input begins with, where it does.
 fn compare_row(alloc: Global, row: &Row, seen: &mut [bool; 3]) -> Result<bool, Fail> {
     let mut source = MemSource::new(row.input.to_vec(alloc)?, 64, Vec::new(alloc));
-    match make_ready(alloc, &mut source, true) {
+    match make_ready(alloc, &mut source, WITH_MORE, &Asked::AnyJob) {
         Ok(ready) => compare(alloc, &ready.input.job, &ready.tables, seen),
         Err(_) => Ok(true),
     }

@@ -9,12 +9,13 @@ ghost use Rattle.module_area.specs.Tied.{IsTied};
 ghost use Rattle.session_book.specs.JobView.{IsJob};
 
 use super::drains::has_both;
+use super::jobs::PLAIN;
 use super::notation::{Part, bytes_of};
 use super::order::{COUNT_DOWN, EXECUTED};
 use brk_table::Tables;
 use cov_base::{NoMemory, PlaceNo, SessNo, TaskNo};
 use cov_outside::MemSource;
-use coverage_commands::make_ready;
+use coverage_commands::{Asked, make_ready};
 use module_area::{Areas, Cell, Cells, Control, Forks, Plan};
 use observed_step::Bench;
 use s370_state::Ending;
@@ -118,7 +119,7 @@ fn came(alloc: Global, job: &[Part]) -> Result<Option<(Ending, [Cell; 2])>, Fail
     let mut bytes = job[..job.len().saturating_sub(7)].to_vec(alloc)?;
     bytes.extend_from_slice(b"TASK Z 100000 16 100 0\nENDJOB\n")?;
     let mut source = MemSource::new(bytes, 64, Vec::new(alloc));
-    let Ok(ready) = make_ready(alloc, &mut source, false) else {
+    let Ok(ready) = make_ready(alloc, &mut source, PLAIN, &Asked::AnyJob) else {
         return Ok(None);
     };
     let mut areas = SharedAreas::new(alloc, 1)?;

@@ -12,5 +12,5 @@ loop-turn-preserved g c =
       reached = reached_more _ _ _ c.loop-turn._turn c.loop-turn.room count c.loop-turn.self c.take.new.self _ h read.bytes (length-take-le count c.read_piece.new.buffer read.bound) (omega (arith, c.if-count-eq0.false)) read.within
           (c.in_ok-take.ensures.come h.bytes h.come) c.take.ensures.size;
       faults = read.no_fault ∙ c.loop-turn.invariant.faults;
-      more = c.take.ensures.more ∙ c.loop-turn.invariant.more;
+      form = c.take.ensures.form ∙ c.loop-turn.invariant.form;
     }

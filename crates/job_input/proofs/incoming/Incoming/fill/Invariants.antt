@@ -6,5 +6,5 @@ abbrev pub invariant-loop-turn : goal.invariant-loop-turn
 invariant-loop-turn g l = record {
   reached : HasReached (g.S.Source.left l.initial.source) (g.S.Source.left l.source) l._turn l.room l.self;
   faults : g.S.Source.faults l.source ≡ g.S.Source.faults l.initial.source;
-  more : l.self.more ≡ l.initial.self.more;
+  form : l.self.form ≡ l.initial.self.form;
 }

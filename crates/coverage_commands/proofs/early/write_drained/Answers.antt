@@ -1,0 +1,30 @@
+use Rattle.std.proofs.Common.{map, refl}
+use Rattle.early_report.specs.Meaning.{early_of}
+use Rattle.early_report.specs.Text.{drained_of}
+use Rattle.task_run.specs.Meaning.{solo}
+use Rattle.coverage_commands.specs.Calls.{Told, Wanting}
+use Rattle.coverage_commands.specs.Meaning.{areas_change}
+use Rattle.coverage_commands.proofs.AnswerLemmas.{reports, written_as}
+use Rattle.coverage_commands.proofs.DrainedLemmas.{are_drained}
+use Rattle.coverage_commands.proofs.early.write_drained.Goals as goal
+
+pub returns : goal.returns
+returns g c is =
+    let j = c.args.ready.now.input.job in
+    let tables = c.args.ready.now.tables in
+    let a = areas_change g.A.Areas.ledger g.A.Areas.finals g.A.Areas.made c.args.areas.now c.run_job_with.new.areas in
+    let o = c.in-Ok.ran.0 in
+    let lists = c.in-Ok.ran.1.items in
+    let drained = drained_of j (map (λ v. v.items) lists) in
+    Told 0 _ (
+      refl,
+      record {
+        drained = drained;
+        are_drained = are_drained (λ v. v.items) j tables.places o.tasks.items o.sets lists is c.in-Ok.ensures.outcome c.in-Ok.ensures.extras;
+        reports = reports solo j tables a o.tasks.items o.sets (λ results sets. early_of j tables results sets drained) c.in-Ok.ensures.left c.in-Ok.ensures.outcome;
+      },
+    )
+    (written_as _ _ _ (rw c.deref.ensures.value at c.early.ensures) c.status_of.ensures.whole c.status_of.ensures.failed)
+
+pub returns-in-Err : goal.returns-in-Err
+returns-in-Err g c is = Wanting c.told.ensures

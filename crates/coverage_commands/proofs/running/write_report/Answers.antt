@@ -1,0 +1,18 @@
+use Rattle.std.proofs.Common.{refl}
+use Rattle.report_text.specs.Meaning.{report_of}
+use Rattle.coverage_commands.specs.Calls.{Told, Wanting}
+use Rattle.coverage_commands.specs.Meaning.{areas_change}
+use Rattle.coverage_commands.proofs.AnswerLemmas.{are_results, are_sets, reports, written_as}
+use Rattle.coverage_commands.proofs.running.write_report.Goals as goal
+
+pub returns : goal.returns
+returns g c =
+    let j = c.args.ready.now.input.job in
+    let tables = c.args.ready.now.tables in
+    let a = areas_change g.A.Areas.ledger g.A.Areas.finals g.A.Areas.made c.args.areas.now c.run_job_with.new.areas in
+    let o = c.in-Ok.ran.0 in
+    Told 0 _ (refl, reports (g.R.Runner.course c.args.runner.now) j tables a o.tasks.items o.sets (report_of j tables) c.in-Ok.ensures.left c.in-Ok.ensures.outcome)
+    (written_as _ _ _ c.report.ensures c.status_of.ensures.whole c.status_of.ensures.failed)
+
+pub returns-in-Err : goal.returns-in-Err
+returns-in-Err g c = Wanting c.told.ensures
