@@ -19,6 +19,7 @@ mod one_thread;
 mod order;
 mod programs;
 mod samples;
+mod services;
 mod serving;
 
 ghost use Rattle.std.specs.Prelude.{◌<◌};

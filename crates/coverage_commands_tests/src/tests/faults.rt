@@ -6,6 +6,7 @@ use super::marked::good;
 use super::marks_faults::{bad_files, bad_jobs, bad_shown};
 use super::notation::Part::Text;
 use super::notation::{Row, bytes_of, row_of};
+use super::services::behind_services;
 use super::serving::{USAGE, status_for};
 use cov_outside::{MemSink, MemSource, OpenGate};
 use coverage_commands::Status;
@@ -193,8 +194,9 @@ GO A\n\
 BAD SCHEDULE LINE 15\n";
 
 /// Words of each command, and words that are none.
-static WORDS: [&[&str]; 13] = [
+static WORDS: [&[&str]; 14] = [
     &["run"],
+    &["services", "run"],
     &["early"],
     &["exits"],
     &["count"],
@@ -402,6 +404,7 @@ fn tells_a_fault_at_each_read_and_write(rt: HostRuntime) -> Result<(), Fail> {
         unproved(),
         fields(),
         refuted(),
+        behind_services(),
     ] {
         check_faults(&rt, rt.alloc(), rows)?;
     }

@@ -48,7 +48,9 @@ pub const ALONE: &str = "TASK A 100000 16 100 0\nENDJOB\n";
 pub enum Part {
     /// Stands for itself.
     Text(&'static str),
-    /// The lines of a job up to phase P, with module M of these instructions.
+    /// The lines of a job up to the last of module M, which has these instructions.
+    Module(&'static str),
+    /// These, and phase P.
     Phase(&'static str),
     /// These, and session S over M.
     Code(&'static str),
@@ -216,10 +218,15 @@ fn add_module(text: &mut Growing, code: &str) {
     add_lines(text, list, None);
 }
 
-/// The lines of a job up to its phase.
-fn add_phase(text: &mut Growing, code: &str) {
+/// The lines of a job up to its module's last.
+fn add_front(text: &mut Growing, code: &str) {
     text.add("COVERJOB 1\n");
     add_module(text, code);
+}
+
+/// The lines of a job up to its phase.
+fn add_phase(text: &mut Growing, code: &str) {
+    add_front(text, code);
     text.add("PHASE P\n");
 }
 
@@ -343,6 +350,7 @@ pub fn bytes_of(alloc: Global, parts: &[Part]) -> Result<Vec<u8>, Fail> {
     for part in parts {
         match part {
             Part::Text(words) => text.add(words),
+            Part::Module(code) => add_front(&mut text, code),
             Part::Phase(code) => add_phase(&mut text, code),
             Part::Code(code) => add_code(&mut text, code),
             Part::Task(words) => add_task(&mut text, words),
@@ -366,7 +374,9 @@ fn sample(name: &str) -> &'static str {
 /// What a line stands for: a part where it begins with the part's kind, `%bare` for one without its LF, else itself.
 fn add_part(text: &mut Growing, line: &str) {
     let (kind, words) = line.split_once(' ').unwrap_or((line, ""));
-    if kind == "%phase" {
+    if kind == "%module" {
+        add_front(text, words);
+    } else if kind == "%phase" {
         add_phase(text, words);
     } else if kind == "%code" {
         add_code(text, words);
@@ -409,7 +419,8 @@ pub struct Row {
     pub output: Vec<u8>,
 }
 
-fn words_in(alloc: Global, words: &'static str) -> Result<Vec<&'static str>, Fail> {
+/// The words that the blanks part.
+pub fn words_in(alloc: Global, words: &'static str) -> Result<Vec<&'static str>, Fail> {
     let mut all = Vec::new(alloc);
     for word in words.split(' ') {
         all.push(word)?;

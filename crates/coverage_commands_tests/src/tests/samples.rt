@@ -134,7 +134,25 @@ ENDJOB\n\
 @sample NO_RETURN - BOTH without the return\n\
 %bytes 53333730434F5632 5320202020202020 00000001 0001 4D20202020202020 00100000 00000006 00000002 00000000 04 01 4610 06 00000004 02 00 07FE 00\n\
 @sample RETURN_LEFT - What two runs have shown, where neither has executed the return\n\
-%bytes 53333730434F5632 5320202020202020 00000002 0001 4D20202020202020 00100000 00000006 00000002 00000000 04 01 4610 06 00000004 02 00 07FE 00\n";
+%bytes 53333730434F5632 5320202020202020 00000002 0001 4D20202020202020 00100000 00000006 00000002 00000000 04 01 4610 06 00000004 02 00 07FE 00\n\
+@sample ROUTINE - Two calls in module M of a routine that stands in module R, which session S observes\n\
+%module 000000 0A0A SVC, 000002 0A0A SVC, 000004 07FE BR\n\
+MODULE R 100100 10\n\
+TEXT 12114780F0081B1107FE\n\
+LISTING 5\n\
+\x20 Loc  Object Code    Addr1 Addr2  Stmt   Source Statement\n\
+000000 1211                           1          LTR\n\
+000002 4780 F008                      2          BE\n\
+000006 1B11                           3          SR\n\
+000008 07FE                           4          BR\n\
+SERVICE 10 100100\n\
+PHASE P\n\
+SESSION S R\n\
+TASK A 100000 16 100 0\n\
+REG 1 00000001\n\
+ENDJOB\n\
+@sample ROUTINE_MARKS - Its run has shown all facts of R\n\
+%bytes 53333730434F5632 5320202020202020 00000001 0001 5220202020202020 00100100 0000000A 00000004 00000000 02 00 1211 01 00000002 04 01 4780 06 00000006 02 00 1B11 01 00000008 02 00 07FE 01\n";
 
 /// Each behind `@sample`: its name, what it is, and its lines.
 pub fn samples() -> &'static str {

@@ -17,7 +17,7 @@ const PLACES: &[u8] =
     b"COVERAGE TABLE\nMODULE M PLACES 2\nPLACE 000000 4 C 4610\nPLACE 000004 2 S 07FE\nEND\n";
 
 pub const USAGE: &[u8] =
-    b"USAGE: run | marks NAME | trial NUMBER TASKS | table | replay | combine | show NAME | early | count | exits | prove NAME | verify NAME | ends\n";
+    b"USAGE: run | marks NAME | trial NUMBER TASKS | table | replay | combine | show NAME | early | count | exits | prove NAME | verify NAME | ends | services COMMAND\n";
 
 /// What came of these words and this job, once served over areas and once without.
 #[derive(Drop)]

@@ -59,8 +59,14 @@ static CARDS: [(&[u8], u32); 50] = [
     (b"SERVICE 0 100004\n", 0),
     (b"SERVICE 6 100004\n", 0),
     (b"SERVICE 254 100004\n", 0),
-    (b"SERVICE 9 f00000\nSERVICE 10 fFFffC\nSERVICE 11 FFFFFE\n", 0),
-    (b"SERVICE 0 100003\nSERVICE 6 000000\nSERVICE 254 100003\n", 0),
+    (
+        b"SERVICE 9 f00000\nSERVICE 10 fFFffC\nSERVICE 11 FFFFFE\n",
+        0,
+    ),
+    (
+        b"SERVICE 0 100003\nSERVICE 6 000000\nSERVICE 254 100003\n",
+        0,
+    ),
     // the number
     (b"SERVICE 1 100004\n", 10),
     (b"SERVICE 2 100004\n", 10),
@@ -168,10 +174,8 @@ fn has_services(job: &Job, wanted: &[(u8, u32)]) -> bool {
         return false;
     };
     services.len() == wanted.len()
-        && services
-            .iter()
-            .zip(wanted.iter())
-            .all(|(service, wanted)| *wanted == (service.number, service.entry.get()))
+        && services.iter().zip(wanted.iter()).all(|(service, wanted)| *wanted
+            == (service.number, service.entry.get()))
 }
 
 /// Whether the job with these lines behind the modules is read with these services.
@@ -191,7 +195,13 @@ fn has_the_services_in_their_order(rt: HostRuntime) -> Result<(), Fail> {
     let a = rt.alloc();
     assert!(rt; reads(a, b"", &[])?);
     assert!(rt; reads(a, CARD, &[(10, 0x100004)])?);
-    assert!(rt; reads(a, b"SERVICE 0 fffffc\nSERVICE 254 100003\n", &[(0, 0xFFFFFC), (254, 0x100003)])?);
+    assert!(rt;
+        reads(
+            a,
+            b"SERVICE 0 fffffc\nSERVICE 254 100003\n",
+            &[(0, 0xFFFFFC), (254, 0x100003)]
+        )?
+    );
     Ok(())
 }
 
@@ -202,6 +212,12 @@ fn has_none_without_the_grammar(rt: HostRuntime) -> Result<(), Fail> {
         Ok(read) => assert!(rt; read.job.services().is_none()),
         Err(_) => assert!(rt; false),
     }
-    assert!(rt; bad_line(a, Grammar::Services, b"COVERJOB 1\nSERVICE 10 000006\nENDJOB\n") == 0);
+    assert!(rt;
+        bad_line(
+            a,
+            Grammar::Services,
+            b"COVERJOB 1\nSERVICE 10 000006\nENDJOB\n"
+        ) == 0
+    );
     Ok(())
 }
