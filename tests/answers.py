@@ -142,9 +142,9 @@ def facts_of(modules: list[model.Module], file: marks_model.File) -> marks_model
 # ---- the commands
 
 
-def listed(data: bytes, alone: bool, check: Callable[[model.Job], None] = lambda _: None) -> model.Job:
+def listed(data: bytes, alone: bool, check: Callable[[model.Job], None] = lambda _: None, has_services: bool = False) -> model.Job:
     """The job of the bytes, whose sessions are checked before its places are found."""
-    it = model.job_of(data, alone)
+    it = model.job_of(data, alone, has_services)
     check(it)
     model.read_listings(it)
     return it
@@ -171,20 +171,20 @@ def bounded(job: model.Job, runs: list[Run], session: tuple[bytes, bytes, list[m
     return Session(name, phase, modules, name in job.controllers, bounds(job, runs, name, phase))
 
 
-def report(word: bytes, data: bytes) -> Answer:
+def report(word: bytes, data: bytes, has_services: bool = False) -> Answer:
     """What `run`, `exits` and `early` write."""
-    job = listed(data, True)
+    job = listed(data, True, has_services=has_services)
     runs = Runner(job, word == b"exits").all()
     front = b"COVERAGE REPORT\n" + b"".join(it.lines() for it in runs)
     return Report(0, b"", front, [bounded(job, runs, it) for it in job.sessions], word == b"early")
 
 
-def count(data: bytes) -> Answer:
+def count(data: bytes, has_services: bool) -> Answer:
     def check(job: model.Job) -> None:
         for name in [it for it, _, _ in job.sessions if it in job.controllers][:1]:
             raise Refused(14, f"CONTROLLED {name.decode()}")
 
-    job = listed(data, True, check)
+    job = listed(data, True, check, has_services)
     runs = Runner(job).all()
     parts = [b"COVERAGE COUNT\n", *(it.lines() for it in runs)]
     for name, phase, modules in job.sessions:
@@ -193,8 +193,8 @@ def count(data: bytes) -> Answer:
     return Answer(0, b"".join([*parts, b"END\n"]))
 
 
-def marks(name: bytes, data: bytes) -> Answer:
-    job = listed(data, True, named(name, False))
+def marks(name: bytes, data: bytes, has_services: bool) -> Answer:
+    job = listed(data, True, named(name, False), has_services)
     it = bounded(job, Runner(job).all(), session_of(job, name))
     if it.has_controller:
         return Marks(0, b"", it)
@@ -205,14 +205,14 @@ def firsts_of(job: model.Job, phase: bytes) -> marks_model.Firsts:
     return union([it.shown for it in Runner(job).all() if it.phase == phase]).firsts
 
 
-def prove(name: bytes, data: bytes) -> Answer:
+def prove(name: bytes, data: bytes, _: bool) -> Answer:
     job = listed(data, True, named(name, True))
     _, phase, modules = session_of(job, name)
     return Answer(0, marks_model.evidence_of(modules, firsts_of(job, phase)))
 
 
-def show(name: bytes, data: bytes) -> Answer:
-    job = listed(data, False, named(name, False))
+def show(name: bytes, data: bytes, has_services: bool) -> Answer:
+    job = listed(data, False, named(name, False), has_services)
     _, phase, modules = session_of(job, name)
     file = marks_model.file_of(data[job.end :], 0)
     if job.end + file.end < len(data):
@@ -221,7 +221,7 @@ def show(name: bytes, data: bytes) -> Answer:
     return Answer(0, b"COVERAGE SHOW\n" + marks_model.session_part(name, phase, modules, facts_of(modules, file)) + b"END\n")
 
 
-def verify(name: bytes, data: bytes) -> Answer:
+def verify(name: bytes, data: bytes, _: bool) -> Answer:
     job = listed(data, False, named(name, True))
     _, phase, modules = session_of(job, name)
     file = marks_model.file_of(data[job.end :], 0)
@@ -247,14 +247,17 @@ def replay(data: bytes) -> Answer:
     raise Refused(9, f"BAD SCHEDULE LINE {job.lines + len(lines) + 1}")
 
 
-ALONE: dict[bytes, Callable[[bytes], Answer]] = {
-    b"run": lambda data: report(b"run", data), b"exits": lambda data: report(b"exits", data),
-    b"early": lambda data: report(b"early", data), b"count": count,
-    b"table": lambda data: Answer(0, marks_model.table_text(listed(data, True))),
-    b"ends": lambda data: Answer(0, ends_model.text(data)), b"combine": lambda data: Answer(0, marks_model.combined(data)),
-    b"replay": replay,
+# Of the commands without a name and of those with one what each makes of its input, whose job has services or not.
+ALONE: dict[bytes, Callable[[bytes, bool], Answer]] = {
+    b"run": lambda data, has_services: report(b"run", data, has_services), b"exits": lambda data, _: report(b"exits", data),
+    b"early": lambda data, _: report(b"early", data), b"count": count,
+    b"table": lambda data, has_services: Answer(0, marks_model.table_text(listed(data, True, has_services=has_services))),
+    b"ends": lambda data, has_services: Answer(0, ends_model.text(data, None, has_services)),
+    b"combine": lambda data, _: Answer(0, marks_model.combined(data)), b"replay": lambda data, _: replay(data),
 }
-NAMED = {b"marks": marks, b"show": show, b"prove": prove, b"verify": verify}
+NAMED: dict[bytes, Callable[[bytes, bytes, bool], Answer]] = {b"marks": marks, b"show": show, b"prove": prove, b"verify": verify}
+# The commands that the word `services` may stand before.
+SERVED = (b"run", b"marks", b"show", b"table", b"count", b"ends")
 
 
 def answer(words: list[str], data: bytes) -> Answer:
@@ -270,9 +273,11 @@ def answer_of(words: list[bytes], data: bytes) -> Answer:
         numbers = [int(it) if re.fullmatch(rb"0|[1-9][0-9]{0,9}", it) else 1 << 32 for it in words[1:]]
         if numbers[0] < 1 << 32 and 1 <= numbers[1] <= 64:
             return Answer(0, trial.summary(*numbers))
+    has_services = words[:1] == [b"services"] and len(words) > 1 and words[1] in SERVED
+    words = words[has_services:]
     is_named = len(words) == 2 and words[0] in NAMED and re.fullmatch(model.NAME, words[1])
     if not is_named and not (len(words) == 1 and words[0] in ALONE):
         return Answer(1, USAGE)
     if len(data) > model.LIMITS["INPUT"]:
         raise Refused(4, "TOO LARGE INPUT")
-    return NAMED[words[0]](words[1], data) if is_named else ALONE[words[0]](data)
+    return NAMED[words[0]](words[1], data, has_services) if is_named else ALONE[words[0]](data, has_services)

@@ -23,9 +23,9 @@ def there(job: model.Job, run: task_runs.Run) -> str:
     return f" {inside[0].name.decode()} {run.at - inside[0].base:06X}" if inside else ""
 
 
-def text(data: bytes, endings: Endings | None = None) -> bytes:
-    """What `ends` writes of a job; the first words of its tasks' endings are counted."""
-    job = model.job_of(data, True)
+def text(data: bytes, endings: Endings | None = None, has_services: bool = False) -> bytes:
+    """What `ends` writes of a job, with services or without them; the first words of its tasks' endings are counted."""
+    job = model.job_of(data, True, has_services)
     model.read_listings(job)
     lines = ["COVERAGE ENDS"]
     runs = task_runs.Runner(job).all()

@@ -7,7 +7,7 @@ from __future__ import annotations
 
 from typing import Callable
 
-from machine_task import RETURN, WORD, Ends, Operations, Task, compared, packed, sign_code, signed
+from machine_task import RETURN, WORD, Course, Ends, Operations, Task, compared, packed, sign_code, signed
 from machine_fields import FIELDS
 
 # Of the codes of RX the sizes of operands that are no words.
@@ -293,7 +293,12 @@ OPERATIONS: Operations = {
 }
 
 
-def run(task: Task, budget: int, behind: Callable[[int], None] = lambda _: None) -> tuple[str, int, int]:
+def leaving(task: Task, ending: str | None) -> str | None:
+    """The course by exits, which is that of a run where the task has none."""
+    return None if ending and task.leaves(ending) else ending
+
+
+def run(task: Task, budget: int, behind: Callable[[int], None] = lambda _: None, course: Course = leaving) -> tuple[str, int, int]:
     """Runs a task to its end: the ending, the count, and the address that `ends` tells. Behind each step that many were done before."""
     for done in range(budget + 1):
         if task.at == RETURN:
@@ -302,6 +307,7 @@ def run(task: Task, budget: int, behind: Callable[[int], None] = lambda _: None)
             break
         before, ending = task.at, task.step(OPERATIONS)
         behind(done)
-        if ending and not task.leaves(ending):
+        ending = course(task, ending)
+        if ending:
             return ending, done + 1, before
     return "SPENT", budget, task.at

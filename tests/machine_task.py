@@ -78,6 +78,8 @@ def packing(value: int, size: int, is_minus: bool) -> bytes:
 
 
 Operations = Mapping[int, Callable[["Task", bytes], Optional[str]]]
+# What a course makes of a task behind an instruction: how it ends the task, if it does, by how the instruction would.
+Course = Callable[["Task", Optional[str]], Optional[str]]
 
 
 def operation_of(operations: Operations, code: int) -> Callable[[Task, bytes], str | None]:

@@ -14,6 +14,7 @@ CARDS = {
     b"MODULE": rb"MODULE %s %s %s" % (NAME, ADDRESS, NUMBER),
     b"TEXT": rb"TEXT %s" % BYTES,
     b"LISTING": rb"LISTING %s" % NUMBER,
+    b"SERVICE": rb"SERVICE %s %s" % (NUMBER, ADDRESS),
     b"PHASE": rb"PHASE %s" % NAME,
     b"SESSION": rb"SESSION %s((?: %s)+)" % (NAME, NAME),
     b"TASK": rb"TASK %s %s %s %s %s" % (NAME, ADDRESS, NUMBER, NUMBER, NUMBER),
@@ -93,6 +94,8 @@ class Job:
     """A job, its cards with their fields, and how many bytes and lines these are."""
 
     modules: list[Module] = field(default_factory=list)
+    # Of each number of SVC that has one the entry of its service; none where the job is of the grammar without services.
+    services: dict[int, int] | None = None
     phases: list[bytes] = field(default_factory=list)
     # Of each session its name, its phase and its modules.
     sessions: list[tuple[bytes, bytes, list[Module]]] = field(default_factory=list)
@@ -120,8 +123,11 @@ def length_of(first: int) -> int:
 class Reader:
     """The lines of an input, card by card."""
 
-    def __init__(self, data: bytes) -> None:
+    def __init__(self, data: bytes, has_services: bool) -> None:
         self.data, self.at, self.number, self.job = data, 0, 0, Job()
+        # What stands behind the modules.
+        self.behind = (b"SERVICE", b"PHASE", b"ENDJOB") if has_services else (b"PHASE", b"ENDJOB")
+        self.job.services = {} if has_services else None
 
     def line(self) -> tuple[bytes, bool]:
         """The next line, and whether it ends with LF."""
@@ -158,9 +164,11 @@ class Reader:
     def read(self) -> Job:
         """Reads a job to its ENDJOB line."""
         self.card(b"COVERJOB")
-        kind, fields = self.card(b"MODULE", b"PHASE", b"ENDJOB")
+        kind, fields = self.card(b"MODULE", *self.behind)
         while kind == b"MODULE":
             kind, fields = self.module(fields)
+        while kind == b"SERVICE":
+            kind, fields = self.service(fields)
         while kind == b"PHASE":
             kind, fields = self.phase(fields[0])
         self.job.end, self.job.lines = self.at, self.number
@@ -178,11 +186,19 @@ class Reader:
         while len(it.text) < it.size:
             it.text += bytes.fromhex(self.card(b"TEXT")[1][0].decode())
             self.need(len(it.text) <= it.size)
-        kind, fields = self.card(b"LISTING", b"MODULE", b"PHASE", b"ENDJOB")
+        kind, fields = self.card(b"LISTING", b"MODULE", *self.behind)
         if kind == b"LISTING":
             it.listing = [self.listing_line() for _ in range(int(fields[0]))]
-            kind, fields = self.card(b"MODULE", b"PHASE", b"ENDJOB")
+            kind, fields = self.card(b"MODULE", *self.behind)
         return kind, fields
+
+    def service(self, fields: list[bytes]) -> tuple[bytes, list[bytes]]:
+        """A service; answers the card behind it."""
+        number, services = int(fields[0]), self.job.services
+        assert services is not None
+        self.need((number == 0 or 6 <= number <= 254) and all(it < number for it in services))
+        services[number] = int(fields[1], 16)
+        return self.card(*self.behind)
 
     def listing_line(self) -> bytes:
         text, ended = self.line()
@@ -243,9 +259,9 @@ def overlap(base: int, size: int, other: int, its: int) -> bool:
     return base < other + its and other < base + size
 
 
-def job_of(data: bytes, alone: bool) -> Job:
-    """The job that the first lines spell, or all lines, with the places of its listings."""
-    reader = Reader(data)
+def job_of(data: bytes, alone: bool, has_services: bool = False) -> Job:
+    """The job that the first lines spell, or all lines, with the places of its listings; with services or without them."""
+    reader = Reader(data, has_services)
     job = reader.read()
     if alone and job.end < len(data):
         raise Refused(2, f"BAD JOB LINE {job.lines + 1}")

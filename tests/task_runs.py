@@ -11,6 +11,7 @@ from dataclasses import dataclass, field, replace
 import machine_operations
 import marks_model
 import model
+import services_model
 from jobs import Result
 from machine_task import RETURN, Task, World
 
@@ -130,7 +131,9 @@ class Runner:
             elif task.called == 5 and open_:
                 run.closed[open_[0]], open_ = done + 1, None
 
-        ending, run.count, run.at = machine_operations.run(task, budget, behind)
+        services = self.job.services
+        course = machine_operations.leaving if services is None else services_model.Served(services)
+        ending, run.count, run.at = machine_operations.run(task, budget, behind, course)
         run.result = Result(
             ending, run.count, task.condition, dict(enumerate(task.registers)), task.output, rows_of(first, task.storage), name.decode(), entry,
         )
