@@ -103,6 +103,16 @@ def check_size(base: int, size: int) -> None:
         raise Broken(f"a module of {size} bytes at {base:06X} goes past {END_OF_MODULES:06X}")
 
 
+def check_service(number: int) -> None:
+    """Refuses the number of an SVC that no service can answer."""
+    if number > 255:
+        raise Broken(f"there is no SVC {number}; they are 0 to 255")
+    if 1 <= number <= 5:
+        raise Broken(f"SVC {number} is a call of the task's own, and no service answers it; those of services are 0 and 6 to 254")
+    if number == 255:
+        raise Broken("SVC 255 is the breakpoint's own, and no service answers it; those of services are 0 and 6 to 254")
+
+
 def check_limit(name: str, value: int, of: str) -> None:
     """Refuses a value past its limit."""
     if value > LIMITS[name]:
@@ -116,6 +126,11 @@ def check_module(place: str, base: int, size: int) -> None:
         check_limit("SIZE", size, "the size is")
     except Broken as broken:
         raise Fault(place, str(broken)) from None
+
+
+def service_cards(entries: dict[int, int]) -> bytes:
+    """The SERVICE cards of these entries by their numbers."""
+    return b"".join(f"SERVICE {number} {entry:06X}\n".encode() for number, entry in sorted(entries.items()))
 
 
 def module_cards(name: str, base: int, text: bytes, listing: Optional[list[bytes]]) -> bytes:

@@ -7,17 +7,19 @@ import sys
 from typing import Any, Iterator, Optional
 
 from cards import LIMITS, MOST_BYTES, Broken, number_of
-from command import Fault, UsageError, read_file, run, write_output
+from command import Fault, UsageError, read_file, run, take_options, write_output
 from data_forms import CARD as FORM
 from data_forms import bytes_of, data_cards, input_cards
 from job_rules import FIELDS, Place, Reader
 
 USAGE = """\
 usage: coverage job CARDS.. > JOB
-       coverage job --check [JOB]
+       coverage job --check [--services] [JOB]
 
 Writes COVERJOB 1, the cards of the files in their order, and ENDJOB. A file has cards of modules, as `coverage module`
-writes them, or of phases, sessions and tasks (docs/JOB.md); those of the modules stand first. - is standard input.
+writes them, or of phases, sessions and tasks (docs/JOB.md); those of the modules stand first. Behind the last module
+may stand SERVICE cards, as `coverage module` writes them behind its own with --services: a job that has them is for
+`coverage services` alone. - is standard input.
 
 In place of the hexadecimal digits of INPUT and DATA a file may have
 
@@ -35,7 +37,8 @@ within a listing.
 
 --check reads a whole job, of a file or of standard input, and writes nothing. The line that it refuses is the one that
 the program names as BAD JOB LINE or TOO LARGE. It doesn't look at what the lines of a listing say, which the program
-compares with the module (docs/LISTING.md), and takes nothing behind ENDJOB, as `run`. This script is not proved.
+compares with the module (docs/LISTING.md), and takes nothing behind ENDJOB, as `run`. With --services it is the line
+that the program names behind the word services, and without it a SERVICE card is refused. This script is not proved.
 """
 PIECE = 1 << 16
 DIGITS = rb"([0-9A-Fa-f]{2,%d})\n" % (2 * MOST_BYTES)
@@ -241,7 +244,7 @@ def end(reader: Reader) -> None:
 
 def put_together(paths: list[str]) -> bytes:
     """The job of the files' cards."""
-    reader = Reader()
+    reader = Reader(has_services=True)
     reader.card(Place("the job", 1), b"COVERJOB 1")
     parts = [b"COVERJOB 1\n"]
     for path in paths:
@@ -261,10 +264,10 @@ def check_input(path: str, data: bytes) -> None:
         raise Fault(path, f"{len(data)} bytes: the limit INPUT is {LIMITS['INPUT']}")
 
 
-def check(path: str, data: bytes) -> None:
-    """Refuses the first line that breaks a rule, where there is one."""
+def check(path: str, data: bytes, has_services: bool = False) -> None:
+    """Refuses the first line that breaks a rule of jobs with services, or of those without, where there is one."""
     check_input(path, data)
-    reader, lines = Reader(), Lines(path, data)
+    reader, lines = Reader(has_services), Lines(path, data)
     for _, place, line in single_lines(reader, lines):
         check_form(place, line)
         count = read_card(reader, place, line)
@@ -285,13 +288,14 @@ def check_form(place: Place, line: bytes) -> None:
 
 
 def main(words: list[str]) -> None:
-    is_check = words[:1] == ["--check"]
-    if not words or any(it.startswith("--") for it in words[is_check:]) or (is_check and len(words) > 2):
+    options, words = take_options(words, (), ("--check", "--services"))
+    is_check = "--check" in options
+    if (not is_check and (options or not words)) or (is_check and len(words) > 1) or any(it.startswith("--") for it in words):
         raise UsageError
     try:
         if is_check:
-            path = words[1] if len(words) == 2 else "-"
-            check(path, read_file(path))
+            path = words[0] if words else "-"
+            check(path, read_file(path), "--services" in options)
         else:
             write_output(put_together(words))
     except Refused as refused:

@@ -1,4 +1,4 @@
-"""The rules of a job, card by card (docs/JOB.md), each with the sentence that refuses what breaks it.
+"""The rules of a job, card by card (docs/JOB.md), each with the sentence that refuses what breaks it; with services or without them.
 
 A card that is refused here is the line that the program names, and the other way round: see tests/job_cases.py. What the
 lines of a listing say is not looked at.
@@ -8,11 +8,11 @@ from __future__ import annotations
 from dataclasses import dataclass
 from typing import NamedTuple, Optional
 
-from cards import Broken, address_of, base_of, check_bytes, check_limit, check_size, digits_of, name_of, number_of
+from cards import Broken, address_of, base_of, check_bytes, check_limit, check_service, check_size, digits_of, name_of, number_of
 
 # What stands behind the word of each card.
 FIELDS = {
-    "COVERJOB": "1", "MODULE": "name base size", "TEXT": "bytes", "LISTING": "n", "PHASE": "name", "SESSION": "name module ..",
+    "COVERJOB": "1", "MODULE": "name base size", "TEXT": "bytes", "LISTING": "n", "SERVICE": "number entry", "PHASE": "name", "SESSION": "name module ..",
     "TASK": "name entry private budget room", "REG": "n value", "DATA": "offset bytes", "INPUT": "bytes", "ENDJOB": "",
 }
 OF_TASKS = ("REG", "DATA", "INPUT")
@@ -92,10 +92,11 @@ def no_card(key: str) -> str:
 class Reader:
     """What the cards of a job have said so far."""
 
-    def __init__(self) -> None:
-        self.here = Place("", 0)
+    def __init__(self, has_services: bool = False) -> None:
+        self.here, self.has_services = Place("", 0), has_services
         self.begun = self.ended = False
         self.modules: dict[str, Module] = {}
+        self.services: dict[int, Place] = {}
         self.phases: dict[str, Place] = {}
         self.sessions: dict[str, Place] = {}
         self.tasks: dict[str, Place] = {}
@@ -148,6 +149,8 @@ class Reader:
             raise Broken(f"{self.lacking(self.module)}, and its other TEXT cards come first")
         elif key in ("MODULE", "LISTING"):
             self.stand_module(key)
+        elif key == "SERVICE":
+            self.stand_service()
         elif key not in ("PHASE", "ENDJOB"):
             self.stand_phase(key)
 
@@ -165,10 +168,21 @@ class Reader:
             what = "a module" if key == "MODULE" else "a listing"
             phase = f"the phase {self.phase} of {self.shown(self.phases[self.phase])}"
             raise Broken(f"{what} behind {phase}; modules stand before all phases")
+        if self.services:
+            what, number = "a module" if key == "MODULE" else "a listing", max(self.services)
+            service = f"the service {number} of {self.shown(self.services[number])}"
+            raise Broken(f"{what} behind {service}; modules stand before all services")
         if key == "LISTING" and self.module is None:
             raise Broken("LISTING stands behind the TEXT cards of a module, and there is none yet")
         if key == "LISTING" and self.module and self.module.has_listing:
             raise Broken(f"the module {self.module.name} has a listing already")
+
+    def stand_service(self) -> None:
+        if not self.has_services:
+            raise Broken("services are for the commands behind the word services alone, and job --check --services reads such a job")
+        if self.phase:
+            phase = f"the phase {self.phase} of {self.shown(self.phases[self.phase])}"
+            raise Broken(f"a service behind {phase}; services stand before all phases")
 
     def stand_phase(self, key: str) -> None:
         if not self.phase:
@@ -219,6 +233,15 @@ class Reader:
         if self.module:
             self.module.has_listing = True
         return count
+
+    def read_service(self, number_word: str, entry: str) -> None:
+        number = number_of(number_word, "number")
+        address_of(entry, "entry")
+        check_service(number)
+        last = max(self.services, default=-1)
+        if number <= last:
+            raise Broken(f"the service {number} behind {last}; the numbers of services rise")
+        self.services[number] = self.here
 
     def read_phase(self, name: str) -> None:
         name_of(name)

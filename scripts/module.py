@@ -3,16 +3,17 @@ from __future__ import annotations
 
 import re
 import sys
+from dataclasses import dataclass
 from typing import Callable, Optional, TypeVar
 
-from cards import Broken, base_of, check_module, module_cards, name_of
+from cards import Broken, base_of, check_module, check_service, module_cards, name_of, service_cards
 from command import BAD_INPUT, Fault, UsageError, complain, read_file, run, write_output
 from listing import is_listing, read_listing
 from listing_warnings import Ranges, warnings_of
-from object_deck import check_form, is_deck, ranges_of, read_deck, text_of
+from object_deck import check_form, exports_of, is_deck, ranges_of, read_deck, text_of
 
 USAGE = """\
-usage: coverage module [--strict] NAME BASE OBJECT [LISTING] [SYMBOL=ADDRESS ..] > CARDS
+usage: coverage module [--strict] NAME BASE OBJECT [LISTING] [SYMBOL=ADDRESS ..] [--services] > CARDS
 
 Writes the cards MODULE, TEXT and LISTING of a module.
 
@@ -35,28 +36,56 @@ jump, a missing END, bytes of the object that stand on no line, with what PRINT 
 instructions but whose columns are off, a section that begins at 0 again (docs/LISTING.md, "What module warns of").
 Coverage of such a listing is better than that of the program.
 
-  --strict  refuses the listing where there is something to warn of, with the status 2
+  --strict    refuses the listing where there is something to warn of, with the status 2
+  --services  writes behind them the SERVICE cards of the names that the deck exports, sections' and of ENTRY, and that
+              are SVC and three digits, as SVC010: the routines there answer these supervisor calls. They stand behind
+              the last module of a job, so this module is to be its last
 
 The program that reads the cards compares each instruction line with the bytes. This script is not proved.
 """
 
+SERVICE = re.compile("SVC[0-9]{3}")
 GIVEN = re.compile(r"([A-Z@#$_][A-Z@#$_0-9]{0,7})=([0-9A-Fa-f]{6})")
 WORDS = "the words are NAME BASE OBJECT LISTING"
 Value = TypeVar("Value")
 
 
-def text_from(path: str, data: bytes, base: int, given: dict[str, int]) -> tuple[bytes, Ranges]:
-    """The bytes of the module that an object is, or that its records say, and which of them are text."""
+@dataclass
+class Object:
+    """What an object is: the bytes of a module, which of them are text, and the addresses of the names that it exports."""
+
+    text: bytes
+    ranges: Ranges
+    exports: dict[str, int]
+
+
+def object_from(path: str, data: bytes, base: int, given: dict[str, int], wants_services: bool) -> Object:
+    """The module that the bytes are, or that their records say."""
     check_form(path, data)
     if is_deck(data):
         deck = read_deck(path, data)
         text = text_of(path, deck, base, given)
-        return text, ranges_of(deck)
+        return Object(text, ranges_of(deck), exports_of(deck, base, {}))
     check_no_text(path, data)
     if given:
         raise Fault(path, "no object deck, which alone has external references")
+    if wants_services:
+        raise Fault(path, "no object deck, which alone has names of services")
     check_module(path, base, len(data))
-    return data, [(0, len(data))]
+    return Object(data, [(0, len(data))], {})
+
+
+def services_of(path: str, exports: dict[str, int]) -> dict[int, int]:
+    """The entries of services among the addresses of names, by their numbers."""
+    found = {int(name[3:]): address for name, address in exports.items() if SERVICE.fullmatch(name)}
+    if not found:
+        raise Fault(path, "the deck exports no name of a service: these are SVC and three digits, as SVC010")
+    for number in sorted(found):
+        try:
+            check_service(number)
+        except Broken as broken:
+            raise Fault(path, f"the deck exports SVC{number:03}: {broken}") from None
+    return found
 
 
 def check_no_text(path: str, data: bytes) -> None:
@@ -112,18 +141,20 @@ def warn(path: str, warnings: list[str], is_strict: bool) -> None:
 
 def main(words: list[str]) -> None:
     is_strict = words[:1] == ["--strict"]
-    words = words[is_strict:]
+    wants_services = words[-1:] == ["--services"]
+    words = words[is_strict : len(words) - wants_services]
     if len(words) < 3 or any(it.startswith("--") for it in words):
         raise UsageError
     has_listing = len(words) > 3 and not GIVEN.fullmatch(words[3])
     given = addresses(words[4:] if has_listing else words[3:])
     name, base = value_of(name_of, words[0], "NAME", words[1]), value_of(base_of, words[1], "BASE", words[0])
-    text, ranges = text_from(words[2], read_file(words[2]), base, given)
+    it = object_from(words[2], read_file(words[2]), base, given, wants_services)
+    services = services_of(words[2], it.exports) if wants_services else {}
     listing: Optional[list[bytes]] = None
     if has_listing:
         listing = listing_from(words[3], read_file(words[3]))
-        warn(words[3], warnings_of(words[3], listing, text, ranges), is_strict)
-    write_output(module_cards(name, base, text, listing))
+        warn(words[3], warnings_of(words[3], listing, it.text, it.ranges), is_strict)
+    write_output(module_cards(name, base, it.text, listing) + service_cards(services))
 
 
 if __name__ == "__main__":

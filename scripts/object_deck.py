@@ -249,6 +249,12 @@ def addresses_of(deck: Deck, base: int, given: dict[str, int]) -> dict[int, int]
     for name in given:
         if name not in (it.name for it in deck.symbols.values() if it.kind in REFERENCES):
             raise Fault(f"{name}={given[name]:06X}", f"the deck has no external reference {name}")
+    defined = exports_of(deck, base, given)
+    return {of: address_of(symbol, defined, base) for of, symbol in deck.symbols.items()}
+
+
+def exports_of(deck: Deck, base: int, given: dict[str, int]) -> dict[str, int]:
+    """The addresses of the names of sections and labels, once the sections have their places, beside those that are given."""
     defined = dict(given)
     for symbol in deck.symbols.values():
         if symbol.kind in SECTIONS and symbol.name:
@@ -256,7 +262,7 @@ def addresses_of(deck: Deck, base: int, given: dict[str, int]) -> dict[int, int]
     for label in deck.labels:
         section = section_of(deck, label.place, label.section)
         define(defined, label, base + section.at + label.origin - section.origin)
-    return {of: address_of(symbol, defined, base) for of, symbol in deck.symbols.items()}
+    return defined
 
 
 def define(defined: dict[str, int], symbol: Symbol, address: int) -> None:

@@ -241,12 +241,12 @@ def bad_job(line: str, data: Optional[bytes], words: list[str]) -> list[str]:
         return [f"the input ends with line {number - 1}, before ENDJOB"]
     if b"ENDJOB" in lines[: number - 1]:
         return [f"line {number} stands behind ENDJOB, where {words[0]} takes nothing: {shown(lines[number - 1])}"]
-    return [f"line {number} of the input is {shown(lines[number - 1])}", *card_fault(data, number)]
+    return [f"line {number} of the input is {shown(lines[number - 1])}", *card_fault(data, number, words[0] == "services")]
 
 
-def card_fault(data: bytes, number: int) -> list[str]:
+def card_fault(data: bytes, number: int, has_services: bool) -> list[str]:
     """Which rule of cards the line breaks, the first that does."""
-    reader, lines, at = Reader(), data.split(b"\n"), 0
+    reader, lines, at = Reader(has_services), data.split(b"\n"), 0
     try:
         while at < number:
             at += 1 + reader.card(Place("", at + 1), lines[at])

@@ -18,6 +18,7 @@ import decks
 import endurance_inputs
 import marks_model
 import model
+import services_inputs
 from harness import PROGRAM, TOP, Ran, folder, run
 from jobs import HEADING, listing_of
 from operands import BASE
@@ -95,7 +96,7 @@ def is_job(front: bytes, end: bytes) -> Callable[[Ran, str], str | None]:
 
     def check(ran: Ran, _: str) -> str | None:
         try:
-            model.job_of(front + ran.output + end, True)
+            model.job_of(front + ran.output + end, True, True)
         except model.Refused as refused:
             return f"{refused} of {ran.output[:200]!r}"
         return None
@@ -109,6 +110,9 @@ def deck(draw: random.Random, text: bytes) -> bytes:
     cards = [decks.esd(1, decks.item("ONE", 0, 0, size))]
     for number in range(2, draw.choice((2, 2, 3, 4))):
         cards.append(decks.esd(number, decks.item(f"S{number}", draw.choice((0, 2, 4, 5)), 4096 * number, draw.choice((0, 4, 8)))))
+    if draw.random() < 0.3:
+        names = draw.sample(("SVC000", "SVC010", "SVC035", "SVC254", "SVC003", "SVC10"), 2)
+        cards.append(decks.esd(None, *(decks.item(it, 1, draw.choice((0, 2, size)), 1) for it in names)))
     cards += [decks.txt(1, at, text[at : at + 56].hex()) for at in range(0, size, 56)]
     if draw.random() < 0.3:
         cards.append(decks.rld(f"000100010C{draw.randrange(0, 16):06X}"))
@@ -129,12 +133,13 @@ def module_call(draw: random.Random) -> Call:
     base = draw.choice((f"{BASE:06X}", "180000", "FFE000", "100004", "FFEFF8", "0FFFF8", "1000"))
     words = ["module", *(["--strict"] if draw.random() < 0.2 else []), draw.choice(("M", "M", "ORDERS", "9X")), base, "object"]
     words += [*(["listing"] if draw.random() < 0.8 else []), *(["S2=180000"] if draw.random() < 0.2 else [])]
+    words += ["--services"] if draw.random() < 0.2 else []
     return Call(words, files, check=is_job(b"COVERJOB 1\n", b"ENDJOB\n"))
 
 
 def job_call(draw: random.Random) -> Call:
-    """`job` of the cards of a job in one file or two, with forms of data at times."""
-    lines = endurance_inputs.job(draw).split(b"\n")[1:]
+    """`job` of the cards of a job in one file or two, with services and with forms of data at times."""
+    lines = (services_inputs.job(draw) if draw.random() < 0.3 else endurance_inputs.job(draw)).split(b"\n")[1:]
     cut = draw.choice([n for n, it in enumerate(lines) if it.startswith((b"PHASE", b"ENDJOB"))] or [0])
     own = lines[: lines.index(b"ENDJOB")] if b"ENDJOB" in lines else lines
     if draw.random() < 0.4 and len(own) > 1:
@@ -147,13 +152,15 @@ def job_call(draw: random.Random) -> Call:
 
 def check_call(draw: random.Random) -> Call:
     """`job --check` of a job, whose first bad line is the program's."""
-    data = endurance_inputs.job(draw)
+    data = services_inputs.job(draw) if draw.random() < 0.3 else endurance_inputs.job(draw)
     data = endurance_inputs.damaged(draw, data) if draw.random() < 0.8 else data
+    has_services = draw.random() < 0.5
+    words = ["job", "--check", *["--services"][:has_services]]
     try:
-        model.job_of(data, True)
+        model.job_of(data, True, has_services)
     except model.Refused as refused:
-        return Call(["job", "--check"], data=data, status=2, error=f"line {refused.answer[1].split()[-1].decode()}")
-    return Call(["job", "--check"], data=data, status=0)
+        return Call(words, data=data, status=2, error=f"line {refused.answer[1].split()[-1].decode()}")
+    return Call(words, data=data, status=0)
 
 
 def united(files: dict[str, bytes]) -> tuple[int, str, bytes]:

@@ -89,7 +89,7 @@ def words_meant() -> list[Row]:
         meant(["RUN"], "did you mean ./coverage run < JOB > REPORT ?"),
         meant(["prov", "S"], "did you mean ./coverage prove NAME < JOB > EVIDENCE ?"),
         meant(["combin"], "did you mean ./coverage combine < MARKS-FILES > MARKS ?"),
-        meant(["modul"], "did you mean ./coverage module [--strict] NAME BASE OBJECT [LISTING] [SYMBOL=ADDRESS ..] > CARDS ?"),
+        meant(["modul"], "did you mean ./coverage module [--strict] NAME BASE OBJECT [LISTING] [SYMBOL=ADDRESS ..] [--services] > CARDS ?"),
         meant(["help"], "did you mean ./coverage --help ?"),
         meant(["xyzzy"]),
     ]

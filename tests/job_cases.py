@@ -23,6 +23,7 @@ NAME = "a name is 1 to 8 characters, the first of A to Z, @, #, $, the others of
 NUMBER = "a number is 1 to 9 decimal digits, without a leading zero but for 0 itself"
 BYTES = "bytes are an even number of hexadecimal digits, for 1 to 64 bytes"
 ADDRESS = "an address is six hexadecimal digits"
+SERVED = "those of services are 0 and 6 to 254"
 PARTED = "words are parted by exactly one blank"
 # A module of 8 bytes with a listing of a line; a phase with a session; a task.
 MODULE = "MODULE M 100000 8\nTEXT 411000051A1107FE\nLISTING 1\n\n"
@@ -61,6 +62,27 @@ def jobs() -> None:
         equal(well(coverage("job", "-", data=data)).output, b"COVERJOB 1\n" + data + b"ENDJOB\n")
 
 
+def services() -> None:
+    """job: SERVICE cards behind the last module, which --check refuses but with --services"""
+    cards, tasks = MODULE + "SERVICE 10 100004\nSERVICE 35 fffffc\n", PHASE + TASK
+    whole = f"COVERJOB 1\n{cards}{tasks}ENDJOB\n".encode()
+    with folder() as at:
+        for name, text in (("module", cards), ("tasks", tasks), ("job", whole.decode()), ("other", MODULE.replace(" M 1", " N 2"))):
+            with open(f"{at}/{name}", "w", encoding="ascii") as file:
+                file.write(text)
+        equal(well(coverage("job", "module", "tasks", cwd=at)).output, whole)
+        for words, redirect in ((["job"], ""), ([], "<job"), (["-"], "<job")):
+            equal(well(coverage("job", "--check", "--services", *words, redirect=redirect, cwd=at)).output, b"")
+            equal(well(coverage("job", "--services", "--check", *words, redirect=redirect, cwd=at)).output, b"")
+        ran = coverage("job", "--check", "job", cwd=at)
+        refused(ran, 2)
+        what = "services are for the commands behind the word services alone, and job --check --services reads such a job"
+        equal(ran.error, f"coverage: job: line 6: SERVICE: {what}\n")
+        ran = coverage("job", "module", "other", cwd=at)
+        refused(ran, 2)
+        equal(ran.error, "coverage: other: line 1: MODULE: a module behind the service 35 of module: line 6; modules stand before all services\n")
+
+
 # Each rule of docs/JOB.md, broken: the line of a text parted by /, and the whole message behind it.
 BROKEN = [
     # Lines and words.
@@ -72,7 +94,7 @@ BROKEN = [
     (2, "PHASE P/TASK\tA", f"no card: the line has a tab; {PARTED}"),
     (2, "PHASE P/* text", "no card: a job has no comments"),
     (2, "PHASE P/reg 1 00000001", "no card: reg is in lower case; the card is REG"),
-    (2, "PHASE P/TASKS A", "no card: TASKS is none of COVERJOB, MODULE, TEXT, LISTING, PHASE, SESSION, TASK, REG, DATA, INPUT, ENDJOB"),
+    (2, "PHASE P/TASKS A", "no card: TASKS is none of COVERJOB, MODULE, TEXT, LISTING, SERVICE, PHASE, SESSION, TASK, REG, DATA, INPUT, ENDJOB"),
     (2, "PHASE P/INPUT Ä", "INPUT: no card: the line has the byte X'C3', which is no character of ASCII"),
     (1, "\ufeffPHASE P", "no card: a byte order mark begins the line; a job is ASCII text"),
     (1, "PHASE", "PHASE: 0 words behind PHASE; the card is PHASE name"),
@@ -119,6 +141,25 @@ BROKEN = [
     (5, MODULE + "LISTING 0", "LISTING: the module M has a listing already"),
     (6, MODULE + "PHASE P/LISTING 0", "LISTING: a listing behind the phase P of line 5; modules stand before all phases"),
     (5, "MODULE M 100000 2/TEXT 07FE/LISTING 3/" + "x" * 150 + "/" + "x" * 151 + "/", "a listing line of 151 bytes: the limit LINE is 150"),
+    # SERVICE.
+    (1, "SERVICE 10", "SERVICE: 1 word behind SERVICE; the card is SERVICE number entry"),
+    (1, "SERVICE 10 100004 0", "SERVICE: 3 words behind SERVICE; the card is SERVICE number entry"),
+    (1, "SERVICE 010 100004", f"SERVICE: the number 010 has a leading zero; {NUMBER}"),
+    (1, "SERVICE -6 100004", f"SERVICE: the number -6 is no number; {NUMBER}"),
+    (1, "SERVICE 10 10000", f"SERVICE: the entry 10000 has 5 digits; {ADDRESS}"),
+    (1, "SERVICE 10 10000G", f"SERVICE: the entry 10000G has 'G', which is no hexadecimal digit; {ADDRESS}"),
+    *((1, f"SERVICE {it} 100004", f"SERVICE: SVC {it} is a call of the task's own, and no service answers it; {SERVED}") for it in (1, 2, 3, 4, 5)),
+    (1, "SERVICE 255 100004", f"SERVICE: SVC 255 is the breakpoint's own, and no service answers it; {SERVED}"),
+    (1, "SERVICE 256 100004", "SERVICE: there is no SVC 256; they are 0 to 255"),
+    (3, "SERVICE 0 fffffc/SERVICE 6 000001/SERVICE 6 100004", "SERVICE: the service 6 behind 6; the numbers of services rise"),
+    (2, "SERVICE 35 100004/SERVICE 10 100004", "SERVICE: the service 10 behind 35; the numbers of services rise"),
+    (3, "MODULE M 100000 4/TEXT 01/SERVICE 10 100004", "SERVICE: the module M of line 1 has 1 of its 4 bytes, and its other TEXT cards come first"),
+    (6, MODULE + "SERVICE 10 100004/MODULE N 180000 2", "MODULE: a module behind the service 10 of line 5; modules stand before all services"),
+    (4, "MODULE M 100000 2/TEXT 07FE/SERVICE 10 100004/LISTING 0", "LISTING: a listing behind the service 10 of line 3; modules stand before all services"),
+    (6, MODULE + "SERVICE 10 100004/TEXT 00", "TEXT: the module M of line 1 has 8 of its 8 bytes already"),
+    (2, "SERVICE 10 100004/TASK A 100000 16 100 0", "TASK: TASK stands behind PHASE, and there is none yet"),
+    (2, "PHASE P/SERVICE 10 100004", "SERVICE: a service behind the phase P of line 1; services stand before all phases"),
+    (2, "PHASE P/service 10 100004", "no card: service is in lower case; the card is SERVICE"),
     # PHASE.
     (2, "PHASE P/MODULE M 100000 2", "MODULE: a module behind the phase P of line 1; modules stand before all phases"),
     (2, "PHASE P/PHASE P", "PHASE: the phase of line 1 has the name P; names of one kind differ over the whole job"),
@@ -190,7 +231,7 @@ def bad_cards() -> None:
         at_end = text.startswith("MODULE: its TEXT") or "has no task" in text
         lines = cards.count("\n") + 1 - cards.endswith("\n")
         data = ("COVERJOB 1\n" + cards + ("" if cards.endswith("\n") else "\n") + "ENDJOB\n").encode()
-        equal(line_of(data)[0], lines + 2 if at_end else number + 1)
+        equal(line_of(data, True)[0], lines + 2 if at_end else number + 1)
 
 
 def files_of_a_job() -> None:
@@ -220,7 +261,10 @@ def files_of_a_job() -> None:
         refused(coverage("job", "a.cards", "empty", cwd=at), 2, "empty: No such file")
     refused(coverage("job", "-"), 2, "-: is empty")
     refused(coverage("job", "/no/such/file"), 2, "/no/such/file")
-    for words in ([], ["--check", "a", "b"], ["--checks", "a"], ["a", "--check"], ["--help", "a"]):
+    for words in (
+        [], ["--check", "a", "b"], ["--checks", "a"], ["a", "--check"], ["--help", "a"], ["--services"], ["--services", "a"],
+        ["--check", "a", "--services"], ["--check", "--check"], ["--check", "--services", "--services"],
+    ):
         refused(coverage("job", *words), 1, "usage: coverage job")
     refused(coverage("job", "-", redirect="</"), 5, "standard input")
     refused(coverage("job", "-", redirect="<&-"), 5, "standard input")
@@ -229,10 +273,10 @@ def files_of_a_job() -> None:
 # A whole job, and many.
 
 
-def line_of(data: bytes) -> tuple[int, str]:
+def line_of(data: bytes, has_services: bool = False) -> tuple[int, str]:
     """The line that job --check refuses, and the limit that it passes, where it does; 0 where it takes the job."""
     try:
-        job_script.check("-", data)
+        job_script.check("-", data, has_services)
     except job_script.Refused as refusal:
         return refusal.place.line, refusal.limit
     except Fault:
@@ -240,9 +284,10 @@ def line_of(data: bytes) -> tuple[int, str]:
     return 0, ""
 
 
-def program_line(data: bytes) -> tuple[int, str]:
+def program_line(data: bytes, has_services: bool = False) -> tuple[int, str]:
     """The same by the program, which goes on to the listings of a job that it takes."""
-    ran = subprocess.run([PROGRAM, "table"], input=data, capture_output=True, timeout=SECONDS, check=False)
+    words = [*["services"][: has_services], "table"]
+    ran = subprocess.run([PROGRAM, *words], input=data, capture_output=True, timeout=SECONDS, check=False)
     found = re.fullmatch(rb"BAD JOB LINE ([0-9]+)\n|TOO LARGE ([A-Z]+) LINE ([0-9]+)\n|TOO LARGE (INPUT)\n", ran.stdout)
     if not found or ran.returncode not in (2, 4):
         equal((ran.returncode in (0, 4, 12), ran.stdout[:8] != b"BAD JOB "), (True, True))
@@ -251,10 +296,10 @@ def program_line(data: bytes) -> tuple[int, str]:
     return (int(bad), "") if bad else (int(line), limit.decode()) if limit else (0, "INPUT")
 
 
-def model_line(data: bytes) -> tuple[int, str]:
+def model_line(data: bytes, has_services: bool = False) -> tuple[int, str]:
     """The same by tests/model.py."""
     try:
-        model.job_of(data, True)
+        model.job_of(data, True, has_services)
     except model.Refused as refusal:
         words = refusal.answer[1].split()
         return int(words[-1]), words[2].decode() if words[0] == b"TOO" else ""
@@ -293,6 +338,18 @@ def random_job(draw: random.Random) -> bytes:
     return ("\n".join([*lines, "ENDJOB"]) + draw.choice(["", "\n"])).encode()
 
 
+def with_services(draw: random.Random, data: bytes) -> bytes:
+    """The job with SERVICE cards, mostly where they may stand and in their order."""
+    lines = data.split(b"\n")
+    numbers = draw.sample((0, 6, 7, 10, 35, 254), draw.randrange(5))
+    numbers = sorted(numbers) if draw.random() < 0.9 else [*numbers, draw.choice((1, 5, 255, 10))]
+    ends = [at for at, it in enumerate(lines) if it == b"ENDJOB"]
+    at = next((at for at, it in enumerate(lines) if it.startswith(b"PHASE")), ends[-1])
+    at = at if draw.random() < 0.9 else draw.randrange(len(lines))
+    lines[at:at] = [f"SERVICE {it} {draw.choice(('100000', 'fffffc', 'F00001'))}".encode() for it in numbers]
+    return b"\n".join(lines)
+
+
 def damage(draw: random.Random, data: bytes) -> bytes:
     """The job with a byte changed, lines moved, doubled, left out or exchanged, a word changed, or cut."""
     lines = data.split(b"\n")
@@ -323,11 +380,12 @@ def damage(draw: random.Random, data: bytes) -> bytes:
     return b"\n".join(lines)
 
 
-def many() -> Iterator[bytes]:
-    """2,000 jobs of one seed: whole ones, and such with one and with two damages."""
+def many(jobs: int = 2000, has_services: bool = False) -> Iterator[bytes]:
+    """So many jobs of one seed: whole ones, and such with one and with two damages."""
     draw = random.Random(42)
-    for number in range(2000):
+    for number in range(jobs):
         data = random_job(draw)
+        data = with_services(draw, data) if has_services else data
         for _ in range(number % 4 and 1 + number % 2):
             data = damage(draw, data)
         yield data
@@ -343,6 +401,20 @@ def checked_jobs() -> None:
         equal((it, had, model_line(it)), (it, told, told))
     # Most are bad, in many ways, and many pass.
     assert 300 < own.count((0, "")) < 1500 and len({it[1] for it in own}) > 2, own[:20]
+
+
+def served_jobs() -> None:
+    """job --check --services: of 1,000 random and damaged jobs with services the line that the program names behind that word, and
+    without it"""
+    data = list(many(1000, True))
+    for has_services in (True, False):
+        own = [line_of(it, has_services) for it in data]
+        with ThreadPoolExecutor(os.cpu_count()) as pool:
+            wanted = list(pool.map(lambda it: program_line(it, has_services), data))
+        for it, had, told in zip(data, own, wanted):
+            equal((it, had, model_line(it, has_services)), (it, told, told))
+        passed = own.count((0, ""))
+        assert (150 if has_services else 30) < passed < 750, passed
 
 
 def limits() -> None:
@@ -417,4 +489,4 @@ def large_jobs() -> None:
             equal(line_of(front + middle + card * 2 + tail), (0, "INPUT"))
 
 
-CHECKS = [jobs, bad_cards, files_of_a_job, whole_jobs, limits, checked_jobs, large_jobs]
+CHECKS = [jobs, services, bad_cards, files_of_a_job, whole_jobs, limits, checked_jobs, served_jobs, large_jobs]

@@ -197,6 +197,28 @@ def labels() -> None:
 DECK = esd(1, item("A", SD, 0, 8))
 
 
+def services() -> None:
+    """module --services: a SERVICE card of each section and label whose name is SVC and three digits, by rising numbers"""
+    # Labels in the second section, which was assembled from 10 on and stands there; names that are none of services.
+    names = esd(1, item("SVC254", SD, 0, 8), item("B", SD, 0x10, 8)) + esd(None, item("SVC035", LD, 0x12, 2), item("SVC000", LD, 0x17, 2))
+    names += esd(None, item("SVC10", LD, 0x10, 2), item("SVCLIST", LD, 0x10, 2), item("SVC0100", LD, 0x10, 2)) + esd(3, item("SVC011", ER, 0, 0))
+    deck = names + txt(1, 0, "07FE") + txt(2, 0x10, "07FE") + END
+    given = ("SVC011=200000", "--services")
+    lines = well(module_of(deck, "180000", None, given)).output.decode().splitlines()
+    equal(lines[0], "MODULE M 180000 24")
+    equal(lines[2:], ["SERVICE 0 180017", "SERVICE 35 180012", "SERVICE 254 180000"])
+    plain = well(module_of(deck, "180000", None, given[:1])).output.decode().splitlines()
+    equal(plain, lines[:2])
+    refused(module_of(deck, "180000", None, given[::-1]), 1, "usage: coverage module")
+    refused(module_of(deck, "180000", None, (*given, "--services")), 1, "usage: coverage module")
+    refused(module_of(DECK + txt(1, 0, "07FE") + END, given=("--services",)), 2, "object: the deck exports no name of a service", "SVC010")
+    refused(module_of(bytes(8), given=("--services",)), 2, "object: no object deck")
+    for name, what in (("SVC003", "SVC 3 is a call of the task's own"), ("SVC255", "SVC 255 is the breakpoint's"), ("SVC256", "no SVC 256")):
+        bad = esd(1, item("A", SD, 0, 8)) + esd(None, item(name, LD, 0, 1), item("SVC010", LD, 0, 1)) + END
+        refused(module_of(bad, given=("--services",)), 2, f"object: the deck exports {name}: ", what)
+        well(module_of(bad))
+
+
 def bad_decks() -> None:
     """module: each bad deck is refused by its record"""
     text = txt(1, 0, "0102030400000000")
@@ -288,5 +310,5 @@ def exchanged() -> None:
 
 CHECKS = [
     raw_bytes, no_listing, listings, brackets, long_lines, bad_headings, other_columns, ends_within, sections, texts_again, given_addresses,
-    constants, labels, bad_decks, bad_modules, exchanged,
+    constants, labels, services, bad_decks, bad_modules, exchanged,
 ]

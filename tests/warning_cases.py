@@ -101,8 +101,8 @@ def bytes_of(listing: list[str]) -> bytes:
 
 def warns(listing: list[str], *texts: str, data: bytes = DECK) -> None:
     """Fails unless these are warned of and no others. The tables are tried without a process for each row; see said_by_module."""
-    text, ranges = module_script.text_from("object", data, 0x100000, {})
-    found = warnings_of(LISTED, module_script.listing_from(LISTED, bytes_of(listing)), text, ranges)
+    it = module_script.object_from("object", data, 0x100000, {}, False)
+    found = warnings_of(LISTED, module_script.listing_from(LISTED, bytes_of(listing)), it.text, it.ranges)
     equal(found, [f"{LISTED}: {it}" for it in texts])
 
 
