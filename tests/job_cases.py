@@ -445,8 +445,10 @@ def whole_jobs() -> None:
     """job --check: a whole job of a file or of standard input; what stands behind ENDJOB, an early end, the examples"""
     for name in sorted(os.listdir(EXAMPLES)):
         if name.endswith(".job"):
-            for ran in (coverage("job", "--check", f"{EXAMPLES}/{name}"), coverage("job", "--check", redirect=f"<{EXAMPLES}/{name}")):
-                equal(well(ran).output, b"")
+            for words, redirect in (([f"{EXAMPLES}/{name}"], ""), ([], f"<{EXAMPLES}/{name}")):
+                equal(well(coverage("job", "--check", "--services", *words, redirect=redirect)).output, b"")
+                ran = coverage("job", "--check", *words, redirect=redirect)
+                equal((ran.status, ran.output), (2 if name == "ledger.job" else 0, b""))
     whole = FIRST.job()
     for data, text in (
         (b"", "line 1: the input is empty; the first line of a job is COVERJOB 1"),

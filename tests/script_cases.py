@@ -54,20 +54,29 @@ def interrupted() -> None:
 
 def examples_are_made() -> None:
     """examples: the decks, the listings and the jobs are those of their sources"""
-    for name, module, base, *style in (
-        ("orders", "ORDERS", "100000", "ebcdic"), ("palindrome", "PALIN", "200000", "ascii"),
-        ("tariff", "TARIFF", "100000", "ascii", "wide"),
+    for name, *modules in (
+        ("orders", ("orders", "ORDERS", "100000", "ebcdic")), ("palindrome", ("palindrome", "PALIN", "200000", "ascii")),
+        ("tariff", ("tariff", "TARIFF", "100000", "ascii", "wide")),
+        ("ledger", ("ledger", "LEDGER", "100000", "ascii"), ("services", "SERVICES", "180000", "ascii")),
     ):
         with folder() as at:
-            words = ["python3", "-B", "scripts/assemble.py", f"examples/{name}.asm", f"{at}/object", f"{at}/listing", *style]
-            well(run(words))
-            for one, other in (("object", f"{name}.object"), ("listing", f"{name}.listing")):
-                with open(f"{at}/{one}", "rb") as made, open(f"{EXAMPLES}/{other}", "rb") as kept:
-                    equal(made.read() == kept.read(), True)
-            with open(f"{at}/cards", "wb") as file:
-                file.write(well(coverage("module", module, base, f"{at}/object", f"{at}/listing")).output)
+            for it in modules:
+                make_cards(at, *it)
+            cards = [f"{at}/{it[0]}.cards" for it in modules]
             with open(f"{EXAMPLES}/{name}.job", "rb") as file:
-                equal(well(coverage("job", f"{at}/cards", f"{EXAMPLES}/{name}.tasks")).output == file.read(), True)
+                equal(well(coverage("job", *cards, f"{EXAMPLES}/{name}.tasks")).output == file.read(), True)
+
+
+def make_cards(at: str, source: str, module: str, base: str, *style: str) -> None:
+    """Makes the cards of an example's module in a folder; those of the services too where it is their module."""
+    words = ["python3", "-B", "scripts/assemble.py", f"examples/{source}.asm", f"{at}/object", f"{at}/listing", *style]
+    well(run(words))
+    for one in ("object", "listing"):
+        with open(f"{at}/{one}", "rb") as made, open(f"{EXAMPLES}/{source}.{one}", "rb") as kept:
+            equal(made.read() == kept.read(), True)
+    words = ["module", module, base, f"{at}/object", f"{at}/listing", *["--services"][: source == "services"]]
+    with open(f"{at}/{source}.cards", "wb") as file:
+        file.write(well(coverage(*words)).output)
 
 
 def example_jobs() -> None:
@@ -77,7 +86,9 @@ def example_jobs() -> None:
     equal(sorted({os.path.splitext(it)[1] for it in found}), sorted(commands))
     for name in found:
         with open(f"{EXAMPLES}/{name}", "rb") as file:
-            ran = well(coverage(commands[os.path.splitext(name)[1]], data=file.read()))
+            data = file.read()
+        words = [*["services"][: b"\nSERVICE " in data], commands[os.path.splitext(name)[1]]]
+        ran = well(coverage(*words, data=data))
         well(coverage("page", data=ran.output))
 
 
