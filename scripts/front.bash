@@ -19,6 +19,7 @@ fits() {
   case ${1-} in
   run | exits | early | count | table | ends | replay | combine) [ $# = 1 ] ;;
   marks | show | prove | verify) [[ $# = 2 && $2 =~ $name ]] ;;
+  services) [ $# -gt 1 ] && [[ $2 =~ ^(run|count|table|ends|marks|show)$ ]] && fits "${@:2}" ;;
   trial) [[ $# = 3 && $2 =~ ^(0|[1-9][0-9]{0,9})$ && $3 =~ ^[1-9][0-9]?$ ]] ;;
   *) return 2 ;;
   esac
@@ -31,8 +32,8 @@ take_words() {
   for word in "$@"; do
     if [ "$word" = --must-return ]; then must_return=yes; else words+=("$word"); fi
   done
-  if [ -n "$must_return" ] && [[ ! ${words[*]} =~ ^(run|exits|early)$ ]]; then
-    say '--must-return stands behind run, exits or early alone, which tell how the tasks of a job ended'
+  if [ -n "$must_return" ] && [[ ! ${words[*]} =~ ^(run|exits|early|services run)$ ]]; then
+    say '--must-return stands behind run, exits, early or services run alone, which tell how the tasks of a job ended'
     exit 1
   fi
 }
@@ -74,6 +75,7 @@ hold() {
 
 # What bounds a command: its tasks and their budgets. The job is standard input, from where it stood on.
 bound() {
+  if [ "$1" = services ]; then shift; fi
   if [ "$1" = trial ]; then
     echo "; ${3-} tasks, each of fewer than 250000 instructions"
   elif [ -n "$from" ] && [[ ! $1 =~ ^(table|combine|show)$ ]]; then
@@ -100,15 +102,17 @@ in_background() {
 # From two seconds on says each second on the terminal that the command runs, until the pipe at a number ends. The line is
 # taken away then.
 watch() {
-  local ended=$1 since began=$SECONDS line spent bounds
+  local ended=$1 since began=$SECONDS line spent bounds name
   shift
+  name=$1
+  if [ "$1" = services ]; then name="$1 $2"; fi
   printf -v since '%(%H:%M:%S)T' -1
   trap '' HUP INT QUIT TERM USR1 USR2
   goes_on "$ended" 2 || return
   bounds=$(bound "$@")
   while
     spent=$((SECONDS - began))
-    printf -v line '%s, %d:%02d since %s%s' "$1" $((spent / 60)) $((spent % 60)) "$since" "$bounds"
+    printf -v line '%s, %d:%02d since %s%s' "$name" $((spent / 60)) $((spent % 60)) "$since" "$bounds"
     # The terminal cuts the line at its edge, so that it stays one.
     in_background || printf '\r\e[K\e[?7lcoverage: %s\e[?7h' "$line" >&2
     goes_on "$ended" 1

@@ -23,6 +23,8 @@ from job_rules import Place, Reader
 
 INPUT_LIMIT, SHOWN = 16_777_216, 3
 NAME = re.compile(r"[A-Z@#$][A-Z@#$0-9]{0,7}")
+# The commands that the word `services` may stand before.
+SERVED = ("run", "marks", "show", "table", "count", "ends")
 OTHER_TEXTS = ((b"COVERAGE ", "a report or another output of ./coverage"), (b"S370COV", "a marks file"), (b"S370EVD", "evidence"))
 
 
@@ -298,6 +300,8 @@ def no_session(_line: str, data: Optional[bytes], words: list[str]) -> list[str]
 
 def other_words(usages: dict[str, str], words: list[str]) -> list[str]:
     """The call that was meant, by the files among the words, by a word that is nearly a command, or by a name in small letters."""
+    front = words[:1] if words[:1] == ["services"] and words[1:2] and words[1] in SERVED else []
+    words = words[len(front) :]
     first = words[0] if words else ""
     if first not in usages:
         known = [*usages, "--help", "--version"]
@@ -309,12 +313,12 @@ def other_words(usages: dict[str, str], words: list[str]) -> list[str]:
     if names == ["NAME"]:
         others = [it.upper() for it in others]
     if files and " < " in usages[first]:
-        call = " ".join(["./coverage", first, *(others or names)])
+        call = " ".join(["./coverage", *front, first, *(others or names)])
         return [f"did you mean {call} < {files[0]} ?" if len(files) == 1 else f"did you mean cat {' '.join(files)} | {call} ?"]
     if len(words) == 2 and names == ["NAME"] and not NAME.fullmatch(words[1]):
         meant = f": did you mean {words[1].upper()}?" if NAME.fullmatch(words[1].upper()) else ""
         return [f"{words[1]} is no name: 1 to 8 of A to Z, @, #, $ and, behind the first, digits{meant}"]
-    return [f"its call is ./coverage {first}{usages[first]}"]
+    return [f"its call is ./coverage {' '.join([*front, first])}{usages[first]}"]
 
 
 REASONS: dict[int, Callable[[str, Optional[bytes], list[str]], list[str]]] = {

@@ -90,6 +90,13 @@ def words_meant() -> list[Row]:
         meant(["prov", "S"], "did you mean ./coverage prove NAME < JOB > EVIDENCE ?"),
         meant(["combin"], "did you mean ./coverage combine < MARKS-FILES > MARKS ?"),
         meant(["modul"], "did you mean ./coverage module [--strict] NAME BASE OBJECT [LISTING] [SYMBOL=ADDRESS ..] [--services] > CARDS ?"),
+        meant(["services"], "its call is ./coverage services COMMAND < INPUT > OUTPUT"),
+        meant(["services", "prove", "S"], "its call is ./coverage services COMMAND < INPUT > OUTPUT"),
+        meant(["services", "run", "cust.job"], "did you mean ./coverage services run < cust.job ?", files=job),
+        meant(["services", "show", "S", "cust.job", "a.marks"], "did you mean cat cust.job a.marks | ./coverage services show S ?", files=both),
+        meant(["services", "marks", "orders"], f"orders is no name: {name}: did you mean ORDERS?"),
+        meant(["services", "ends", "x"], "its call is ./coverage services ends < JOB > ENDS"),
+        meant(["service", "run"], "did you mean ./coverage services COMMAND < INPUT > OUTPUT ?"),
         meant(["help"], "did you mean ./coverage --help ?"),
         meant(["xyzzy"]),
     ]
@@ -112,6 +119,10 @@ def cards_refused() -> list[Row]:
             "no card: phase is in lower case; the card is PHASE"),
         bad("two blanks", job.replace(b"PHASE P", b"PHASE  P"), 9, "line 9 of the input is 'PHASE  P'",
             "two blanks stand in a row; words are parted by exactly one blank, and none stands behind the last"),
+        bad("a service of a plain command", job.replace(b"PHASE P", b"SERVICE 10 100004\nPHASE P"), 9, "line 9 of the input is 'SERVICE 10 100004'",
+            "services are for the commands behind the word services alone, and job --check --services reads such a job"),
+        bad("a service of a task call", job.replace(b"PHASE P", b"SERVICE 3 100004\nPHASE P"), 9, "line 9 of the input is 'SERVICE 3 100004'",
+            "SVC 3 is a call of the task's own, and no service answers it; those of services are 0 and 6 to 254", words=["services", "run"]),
         bad("a job without its end", "\n".join(lines[:-1]).encode() + b"\n", 12, "the input ends with line 11, before ENDJOB"),
         bad("a line behind the job", job + b"GO A\n", 13, "line 13 stands behind ENDJOB, where run takes nothing: 'GO A'"),
         of_job("a limit", ["run"], job.replace(b" 16 100 0", b" 16 50000001 0"), 4, "TOO LARGE BUDGET LINE 11",
@@ -251,7 +262,7 @@ def streams() -> None:
 
 def must_return() -> None:
     """coverage: --must-return tells which tasks ended otherwise than RETURNED, and ends with a status of its own"""
-    alone = "--must-return stands behind run, exits or early alone, which tell how the tasks of a job ended"
+    alone = "--must-return stands behind run, exits, early or services run alone, which tell how the tasks of a job ended"
     short = "TASK A 100000 16 2 0\n"
     spent = replace(FIRST_RESULT, ending="SPENT", count=2)
     named = Result("ABEND 5", 1, name="RETURNED", entry=0xF00000)

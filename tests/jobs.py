@@ -8,7 +8,7 @@ WIDE_HEADING = "  Loc    Object Code      Address1 Address2  Stmt   Source State
 FACTS = {"^": 0, ":": 1, ">": 1, "V": 1, "&": 2}
 CONDITIONAL = ("BCT", "BE")
 TASK = "TASK A 100000 16 100 0\n"
-USAGE = b"USAGE: run | marks NAME | trial NUMBER TASKS | table | replay | combine | show NAME | early | count | exits | prove NAME | verify NAME | ends\n"
+USAGE = b"USAGE: run | marks NAME | trial NUMBER TASKS | table | replay | combine | show NAME | early | count | exits | prove NAME | verify NAME | ends | services COMMAND\n"
 
 
 @dataclass
