@@ -25,6 +25,7 @@ FIRSTS_FROM_3: marks_model.Firsts = {0x100000: {2: (0, 0, 0), 4: (0, 2, 0)}, 0x1
 OPENING = "TASK C 000000 16 100 0\nREG 1 00100000\nREG 13 00FFFFFE\nDATA 0 0A0445E010000A050A040A0507FD\n"
 ITEMS = b"FETCH A\nMARK A\nDO A\nFETCH A\nMARK A\nLIFT A\nGO A\nENDSCHED\n"
 OTHER = Program.of("0 1A11 AR, 2 07FE BR")
+SERVED = Program.of("0 0A0A SVC, 2 07FE BR, 4 41100007 LA, 8 07FE BR")
 FILE = COUNTED.marks_file(4, 1)
 BOTH = COUNTED.marks_file(6, 1)
 EVIDENCE = bytes.fromhex("5333373045564431 00000000000000 00000000000100 00000000000200")
@@ -50,6 +51,11 @@ def two_sessions() -> bytes:
     return FIRST.job(OPENING).replace(b"SESSION S M\n", b"SESSION S1 BY C M\nSESSION S2 BY C M\n")
 
 
+def served() -> bytes:
+    """A job of a program that calls a service, and the service."""
+    return SERVED.job(TASK).replace(b"PHASE P", b"SERVICE 10 100004\nSERVICE 35 fffffc\nPHASE P")
+
+
 def three_modules() -> bytes:
     """A job of a module whose listing has print control characters, of one whose listing is wide too, and of one that has none."""
     cards = ["COVERJOB 1"]
@@ -69,6 +75,7 @@ def commands() -> list[Command]:
         Command(["marks", "S"], job()),
         Command(["table"], three_modules()),
         Command(["ends"], FIRST.job()),
+        Command(["services", "run"], served()),
         Command(["replay"], job() + ITEMS),
         Command(["combine"], FILE + COUNTED.marks_file(2, 0, version=1)),
         Command(["show", "S"], job() + BOTH),
@@ -149,6 +156,7 @@ def run_all(tally: Tally) -> None:
         for command in commands():
             inputs = list(damaged(command.input))
             faults = [it for it in pool.map(lambda it: fault_of(command, *it), inputs) if it]
-            tally.note(f"damaged input of {command.words[0]}", f"{len(faults)} of {len(inputs)}, {faults[0]}" if faults else None)
-            tried.append(f"{command.words[0]} {len(inputs)}")
+            name = " ".join(command.words)
+            tally.note(f"damaged input of {name}", f"{len(faults)} of {len(inputs)}, {faults[0]}" if faults else None)
+            tried.append(f"{name} {len(inputs)}")
     print(f"tests/command_line: damaged inputs: {', '.join(tried)}", flush=True)

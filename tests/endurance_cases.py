@@ -17,6 +17,7 @@ import marks_cases
 import program_cases
 import refusals
 import row_cases
+import services_rows
 from endurance_trials import Found, Trials
 from harness import PROGRAM, Case, Tally, equal, folder, run_checks
 
@@ -31,7 +32,7 @@ exit "${{PIPESTATUS[0]}}"
 
 def worked() -> list[Case]:
     """The worked rows of the program whose input is a text."""
-    tables = (row_cases, hostile_cases, marks_cases, ends_cases, program_cases)
+    tables = (row_cases, hostile_cases, marks_cases, ends_cases, services_rows, program_cases)
     found = [it for table in tables for it in table.cases() if it.command == PROGRAM]
     return [it for it in found if not it.redirect and it.before == ":"]
 

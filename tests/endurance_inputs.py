@@ -1,8 +1,8 @@
 """Random inputs of the program's commands, good, damaged and hostile, each with what must come of it.
 
-Jobs are drawn by tests/ends_model.py, tests/operands.py, tests/programs.py, tests/race_cases.py and tests/contention.py, or are
-those of the worked rows; damage falls on any of them, and tests/answers.py tells what comes. Schedules are drawn by
-tests/replay_cases.py.
+Jobs are drawn by tests/ends_model.py, tests/operands.py, tests/programs.py, tests/race_cases.py and tests/contention.py, those with
+services by tests/services_inputs.py, or are those of the worked rows; damage falls on any of them, and tests/answers.py tells what
+comes. Schedules are drawn by tests/replay_cases.py.
 """
 from __future__ import annotations
 
@@ -26,6 +26,7 @@ import programs
 import race_cases
 import replay_cases
 import row_cases
+import services_inputs
 import task_runs
 from harness import PROGRAM
 from jobs import HEADING, listing_of
@@ -43,6 +44,7 @@ BYTES = (b"\0", b"\xff", b" ", b"\n", b"\r", b"\r\n", b"0", b"F", b"f", b"A", b"
 CARDS = (
     b"COVERJOB 1", b"ENDJOB", b"PHASE P0", b"PHASE Z", b"MODULE M0 100000 8", b"MODULE Z 180000 2", b"TEXT 07FE", b"LISTING 1",
     b"TASK Z 100000 16 9 0", b"TASK T0 000000 0 1 0", b"REG 15 00000000", b"REG 0 FFFFFFFF", b"DATA 0 07FE", b"INPUT C1", b"",
+    b"SERVICE 10 100000", b"SERVICE 254 fffffc", b"SERVICE 0 000000",
     b"SESSION Z M0", b"SESSION S00 M0 M0", b"SESSION Z BY T0 M0", b"SESSION Z BY Z M1", b"GO T0", b"ENDSCHED",
 )
 
@@ -134,10 +136,10 @@ def file_like(draw: random.Random, file: marks_model.File, share: float) -> byte
     return b"S370COV1" + data[20:] if draw.random() < 0.2 else data
 
 
-def table_of(data: bytes, name: str) -> marks_model.File | None:
+def table_of(data: bytes, name: str, has_services: bool = False) -> marks_model.File | None:
     """The file of a job's session without a fact, where the job is good and has the session."""
     try:
-        it = answers.listed(data, False)
+        it = answers.listed(data, False, has_services=has_services)
         _, _, modules = answers.session_of(it, name.encode())
         return marks_model.session_file(name.encode(), modules, {})
     except (model.Refused, StopIteration):
@@ -156,12 +158,13 @@ def files(draw: random.Random) -> bytes:
     return found
 
 
-def behind(draw: random.Random, word: str, name: str, data: bytes) -> bytes:
+def behind(draw: random.Random, words: list[str], data: bytes) -> bytes:
     """What stands behind the job for `show` and `verify`: a file of its session, true, nearly or not, and evidence."""
-    table = table_of(data, name)
+    *front, word, name = words
+    table = table_of(data, name, bool(front))
     if table is None:
         return draw.choice((b"", damaged_cases.FILE + damaged_cases.EVIDENCE))
-    true = [answers.answer([it, name], data) for it in ("marks", "prove")]
+    true = [answers.answer([*front, it, name], data) for it in ("marks", "prove")]
     facts = true[0].output if true[0].status == 0 and true[0].output else table.data()
     file = file_like(draw, marks_model.file_of(facts, 0), 0.0 if draw.random() < 0.6 else 0.3)
     if draw.random() < 0.04:
@@ -234,11 +237,24 @@ def input_of(draw: random.Random, word: str) -> Input:
     else:
         data = contention.job(draw) if word == "early" and draw.random() < 0.5 else job(draw)
         words += [name_of(draw, data)] if word in NAMED else []
-        data += behind(draw, word, words[1], data) if word in ("show", "verify") else b""
+        data += behind(draw, words, data) if word in ("show", "verify") else b""
     if draw.random() < 0.45:
         data = damaged(draw, data)
     if draw.random() < 0.01:
         words = draw.choice((words + ["S"], words[:1] * 2, [it.lower() for it in words], [word[:-1]], [*words, ""], []))
+    return Input(words, data, answers.answer(words, data))
+
+
+def served_of(draw: random.Random) -> Input:
+    """Of a command behind the word `services` an input, at times of a job without services."""
+    word = draw.choice((*("run",) * 6, "count", "count", "ends", "ends", "marks", "marks", "show", "table"))
+    data = services_inputs.job(draw) if draw.random() < 0.95 else job(draw)
+    words = ["services", word, *([name_of(draw, data)] if word in NAMED else [])]
+    data += behind(draw, words, data) if word == "show" else b""
+    if draw.random() < 0.25:
+        data = damaged(draw, data)
+    if draw.random() < 0.02:
+        words = draw.choice((words[1:], words[:1], ["services", *words], [*words, "S"], ["services", "exits"], [it.upper() for it in words]))
     return Input(words, data, answers.answer(words, data))
 
 
@@ -276,13 +292,13 @@ def race_of(draw: random.Random) -> Input:
 
 def drawn(draw: random.Random) -> Input | None:
     """An input of any command, or none where it takes too long to tell what comes."""
-    others = ("table", "combine", "combine", "replay", "replay", "race", "race", "trial")
+    others = ("table", "combine", "combine", "replay", "replay", "race", "race", "trial", "services", "services", "services")
     word = draw.choice((*REPORTS, *NAMED, *REPORTS, *NAMED, *others))
     if word == "trial" and draw.random() < 0.8:
         word = "run"
     try:
-        if word in ("race", "replay", "trial"):
-            return {"race": race_of, "replay": replay_of, "trial": trial_of}[word](draw)
+        if word in ("race", "replay", "trial", "services"):
+            return {"race": race_of, "replay": replay_of, "trial": trial_of, "services": served_of}[word](draw)
         return input_of(draw, word)
     except task_runs.TooLong:
         return None

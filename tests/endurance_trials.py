@@ -132,7 +132,7 @@ class Trials:
 
 def name(it: Input) -> str:
     """The command as it is counted."""
-    return it.words[0] if it.words and it.answer.status != 1 else "no command"
+    return " ".join(it.words[: 1 + (it.words[0] == "services")]) if it.words and it.answer.status != 1 else "no command"
 
 
 def fault_in(it: Input, seen: refusals.Seen) -> str | None:

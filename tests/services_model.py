@@ -1,4 +1,4 @@
-"""The course of a task with services: what a supervisor call comes to that a routine of the job answers."""
+"""The course of a task with services, by docs/MACHINE.md: what a supervisor call comes to that a routine of the job answers."""
 from __future__ import annotations
 
 from dataclasses import dataclass

@@ -1,7 +1,4 @@
-"""services: jobs whose routines answer supervisor calls, refused cards and words, each with what must come of it; and the model on them.
-
-The program doesn't know the word yet: these rows are shown by the model alone.
-"""
+"""services: jobs whose routines answer supervisor calls, refused cards and words, each with what must come of it; and the model on them."""
 from __future__ import annotations
 
 from dataclasses import dataclass, replace
