@@ -83,7 +83,7 @@ def answered(ran: Ran, command: str) -> Ran:
 
 def words_of(usage: str) -> list[str]:
     """The words of a command by the program's line of usage."""
-    values = {"NAME": "S", "NUMBER": "7", "TASKS": "2"}
+    values = {"NAME": "S", "NUMBER": "7", "TASKS": "2", "COMMAND": "run"}
     return [values.get(it, it) for it in usage.split()]
 
 
