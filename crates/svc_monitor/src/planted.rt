@@ -1,9 +1,9 @@
 //! What looks on through the cells in which breakpoints stand.
 
 use crate::calls::answer;
-use crate::trap::settle;
+use crate::trap::{settle, settle_once};
 use brk_table::Tables;
-use cov_base::BREAKPOINT;
+use cov_base::{BREAKPOINT, Kind};
 use module_area::{Cells, Control, Plan};
 use observed_step::{Observer, Sight};
 use s370_branch::outcome;
@@ -42,8 +42,13 @@ impl<'a, C: Cells> Observer for Planted<'a, C> {
         };
         let cell = self.cells.fetch(pass, place);
         if cell.half == BREAKPOINT {
-            let fact = tables.place(place).kind.fact(outcome(cpu, code));
-            settle(self.cells, pass, tables, place, cell, fact);
+            match tables.place(place).kind {
+                Kind::Straight => settle_once(self.cells, pass, place, cell),
+                Kind::Conditional => {
+                    let fact = Kind::Conditional.fact(outcome(cpu, code));
+                    settle(self.cells, pass, Kind::Conditional, place, cell, fact);
+                }
+            }
         }
     }
 
