@@ -4,7 +4,7 @@ ghost use Rattle.shared_area.specs.Rule.{MayMark, Marked, Looked};
 
 use crate::cells::SharedCells;
 use crate::rule::{Addition, Look, Marking, NoSlot};
-use crate::words::{bit, facts, word_at};
+use crate::words::{bit, facts, kind_of, word_at};
 use atomic_table::Seat;
 use cov_base::{Bits, Fact, PlaceNo, SessNo};
 use module_area::View;
@@ -28,7 +28,7 @@ impl SharedCells {
     {
         let at = word_at(&self.plan, s, place);
         let found = self.table.shared.load::<Look<K>>(seat, at);
-        facts(self.plan.kind(place), place, found)
+        facts(kind_of(fact), place, found)
     }
 
     /// Adds the fact by one fetch_or of its bit, and answers the set as it was. It is called a few times for each place, so

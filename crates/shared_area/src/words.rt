@@ -1,5 +1,7 @@
 //! How a cell, the sets of facts and a task's number lie in words, and where the words lie.
-ghost use Rattle.std.specs.Prelude.{◌≡◌, ◌*◌, ◌/◌, ◌^◌, ◌<◌, ◌≤◌, true, length};
+ghost use Rattle.std.specs.Prelude.{◌≡◌, ◌+◌, ◌*◌, ◌/◌, ◌%◌, ◌^◌, ◌<◌, ◌≤◌, true, nat_eq, length};
+ghost use Rattle.cov_base.specs.FactKind.{is_of_kind};
+ghost use Rattle.cov_base.specs.declared.facts.Kind.{Kind as Kinds};
 ghost use Rattle.module_area.specs.Rule.{IsPlan, has_task};
 ghost use Rattle.shared_area.specs.Words.{cell_of, has_bit, facts_of, bit_of, word_of, closed_word_of, session_words, set_word, base_of, word_count, position, task_word};
 
@@ -51,25 +53,37 @@ pub(crate) fn bit(place: PlaceNo, fact: Fact) -> u64
     1 << bit_number(place, fact)
 }
 
-fn has(word: u64, bit: u32) -> bool
-    requires { bit < 64 }
-    ensures { result ≡ has_bit word bit }
+/// The word from the place's first bit on.
+fn own_bits(place: PlaceNo, word: u64) -> u64
+    ensures first { nat_eq (result % 2) 1 ≡ has_bit word (2 * (place.0 % 32)) }
+    ensures second { nat_eq (result / 2 % 2) 1 ≡ has_bit word (2 * (place.0 % 32) + 1) }
 {
-    (word >> bit) % 2 == 1
+    word >> (2 * (place.0 % 32))
 }
 
 /// The set of facts at a place of the kind, in the word of its session and its 32 places.
 pub(crate) fn facts(kind: Kind, place: PlaceNo, word: u64) -> Bits
     ensures { result ≡ facts_of kind place.0 word }
 {
+    let own = own_bits(place, word);
     let mut set = Bits::empty();
-    if has(word, bit_number(place, kind.fact(true))) {
+    if own % 2 == 1 {
         set = set.with(kind.fact(true));
     }
-    if has(word, bit_number(place, Fact::Stayed)) {
+    if own / 2 % 2 == 1 {
         set = set.with(Fact::Stayed);
     }
     set
+}
+
+/// The kind of the places that have the fact.
+pub(crate) fn kind_of(fact: Fact) -> Kind
+    ensures { (k : Kinds) → is_of_kind k fact ≡ true → result ≡ k }
+{
+    match fact {
+        Fact::Ran => Kind::Straight,
+        _ => Kind::Conditional,
+    }
 }
 
 /// How many words the sets of one session take.
