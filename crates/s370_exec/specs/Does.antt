@@ -21,6 +21,12 @@ pub record Does {S : Type 0} (memory_of : S → Memory) (bytes_of : S → List �
 abbrev pub Executes : {S : Type 0} → (S → Memory) → (S → List ℕ) → Code → Option ℕ → CpuView → S → IoView → CpuView → S → IoView → Told → Ending → Type 0
 Executes memory_of bytes_of c x cpu space io cpu' space' io' told end = Does memory_of bytes_of (executed c x) cpu space io cpu' space' io' (next_of told end)
 
+-- processor, storage, input and output are as they were
+pub record IsUntouched {S : Type 0} (cpu : CpuView) (space : S) (io : IoView) (cpu' : CpuView) (space' : S) (io' : IoView) : Type 0 where
+  pub same_cpu : cpu' ≡ cpu
+  pub same_space : space' ≡ space
+  pub same_io : io' ≡ io
+
 -- the same of an operation that neither input and output nor the length code concern; to is the updated address
 pub record CarriesOut {S : Type 0} (memory_of : S → Memory) (bytes_of : S → List ℕ) (c : Code) (op : Op) (to : ℕ)
     (cpu : CpuView) (space : S) (cpu' : CpuView) (space' : S) (told : Told) (end : Ending) : Type 0 where

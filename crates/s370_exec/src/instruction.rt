@@ -1,13 +1,13 @@
 //! The effect of an instruction that was fetched whole.
-ghost use Rattle.std.specs.Prelude.{◌≡◌, ℕ, ◌*◌, ◌/◌, ◌<◌, ◌≤◌, List, false};
+ghost use Rattle.std.specs.Prelude.{◌≡◌, ℕ, ◌*◌, ◌/◌, ◌<◌, ◌≤◌, List, true, false, IfSome, IsSome, IfNone};
 ghost use Rattle.std.specs.declared.option.Option.TheVariants.{Some, None};
 ghost use Rattle.cov_base.specs.Meaning.{Memory, IoView};
 ghost use Rattle.s370_state.specs.Meaning.{machine_of};
 ghost use Rattle.s370_decode.specs.Meaning.{first_half, i2, op_of};
 ghost use Rattle.s370_decode.specs.Groups.{group_of};
-ghost use Rattle.s370_exec.specs.Does.{Does, Executes, CarriesOut, Branches, GoesOnward};
+ghost use Rattle.s370_exec.specs.Does.{Does, Executes, CarriesOut, Branches, GoesOnward, IsUntouched};
 ghost use Rattle.s370_exec.specs.Meaning.{effect, is_completed, updated, link_code, is_execute};
-ghost use Rattle.s370_exec.specs.Effects.{effect_of, next_of, executed};
+ghost use Rattle.s370_exec.specs.Effects.{effect_of, next_of, executed, is_plain};
 
 use crate::calls::task_call;
 use crate::fields::{
@@ -38,7 +38,7 @@ use s370_storage::storage;
 
 /// Whether a task goes on. Unlike `Next` it fits a register: how the task has ended is told beside it.
 #[derive(Clone, Copy)]
-pub(crate) enum Told {
+pub enum Told {
     GoesOn,
     HasEnded,
 }
@@ -53,14 +53,13 @@ fn is_completed(e: &Ending) -> bool
     }
 }
 
-/// The task has ended, where need be at the updated address: `end` tells how. Out of line, so that the loop stays short.
+/// The task has ended so, where need be at the updated address. Out of line, so that the loop stays short.
 #[cold]
 #[inline(never)]
-fn stop(cpu: &mut Cpu, to: Addr, e: Ending, end: &mut Ending)
-    ensures { GoesOnward to (Next.Ended e) cpu.old cpu.new (Next.Ended end.new) }
+fn stop(cpu: &mut Cpu, to: Addr, end: &Ending)
+    ensures { GoesOnward to (Next.Ended end.now) cpu.old cpu.new (Next.Ended end.now) }
 {
-    *end = e;
-    if is_completed(&e) {
+    if is_completed(end) {
         cpu.go(to);
     }
 }
@@ -76,7 +75,8 @@ pub(crate) fn onward(cpu: &mut Cpu, to: Addr, next: Next, end: &mut Ending) -> T
             Told::GoesOn
         }
         Next::Ended(e) => {
-            stop(cpu, to, e, end);
+            *end = e;
+            stop(cpu, to, end);
             Told::HasEnded
         }
     }
@@ -238,141 +238,109 @@ fn carry_out_apart<P: Space>(
     }
 }
 
-/// Carries out an instruction of two bytes, of which the frequent ones have their steps here.
+/// Executes an instruction of a frequent operation, with the updated address; one of another operation it leaves as it is.
+/// The frequent ones have their steps here or in a call of their own. Where the task has ended `end` tells how.
 #[inline(always)]
-fn carry_out_short<P: Space>(
+pub fn execute_frequent<P: Space>(
     cpu: &mut Cpu,
     space: &mut P,
     io: &mut TaskIo,
     code: &Code,
+    op: Op,
     next: Addr,
     end: &mut Ending,
-) -> Told
+) -> Option<Told>
+    requires op { op ≡ op_of (first_half code.now) }
     requires next { next ≡ updated code.now None }
-    ensures { Executes P.memory P.bytes code.now None cpu.old space.old io.old cpu.new space.new io.new result end.new }
+    ensures frequent { IfSome result (λ told. Executes P.memory P.bytes code.now None cpu.old space.old io.old cpu.new space.new io.new told end.new) }
+    ensures plain { IsSome result → is_plain op ≡ true }
+    ensures other { IfNone result (IsUntouched cpu.old space.old io.old cpu.new space.new io.new) }
 {
-    match op_of(code.first_half()) {
+    match op {
         Op::LR => {
             let n = load_register(cpu, space, code);
-            onward(cpu, next, n, end)
+            Some(onward(cpu, next, n, end))
         }
         Op::LTR => {
             let n = load_and_test(cpu, space, code);
-            onward(cpu, next, n, end)
+            Some(onward(cpu, next, n, end))
         }
         Op::LCR => {
             let n = load_complement(cpu, space, code);
-            onward(cpu, next, n, end)
+            Some(onward(cpu, next, n, end))
         }
         Op::AR => {
             let n = add_register(cpu, space, code);
-            onward(cpu, next, n, end)
+            Some(onward(cpu, next, n, end))
         }
         Op::SR => {
             let n = subtract_register(cpu, space, code);
-            onward(cpu, next, n, end)
+            Some(onward(cpu, next, n, end))
         }
         Op::CR => {
             let n = compare_register(cpu, space, code);
-            onward(cpu, next, n, end)
+            Some(onward(cpu, next, n, end))
         }
         Op::BCR => {
             branch_on_condition_register(cpu, code, next);
-            Told::GoesOn
+            Some(Told::GoesOn)
         }
         Op::BCTR => {
             branch_on_count_register(cpu, code, next);
-            Told::GoesOn
+            Some(Told::GoesOn)
         }
         Op::BALR => {
             branch_and_link_register(cpu, code, next, link_code(code, &None));
-            Told::GoesOn
+            Some(Told::GoesOn)
         }
-        _ => carry_out_apart(cpu, space, io, code, None, end),
-    }
-}
-
-/// Carries out an instruction of four bytes; the frequent ones have their steps here or in a call of their own.
-#[inline(always)]
-fn carry_out_long<P: Space>(
-    cpu: &mut Cpu,
-    space: &mut P,
-    io: &mut TaskIo,
-    code: &Code,
-    next: Addr,
-    end: &mut Ending,
-) -> Told
-    requires next { next ≡ updated code.now None }
-    ensures { Executes P.memory P.bytes code.now None cpu.old space.old io.old cpu.new space.new io.new result end.new }
-{
-    match op_of(code.first_half()) {
         Op::LA => {
             let n = load_address(cpu, space, code);
-            onward(cpu, next, n, end)
+            Some(onward(cpu, next, n, end))
         }
         Op::L => {
             let n = load_word(cpu, space, code);
-            onward(cpu, next, n, end)
+            Some(onward(cpu, next, n, end))
         }
         Op::ST => {
             let n = store_word(cpu, space, code);
-            onward(cpu, next, n, end)
+            Some(onward(cpu, next, n, end))
         }
-        Op::LH => load_half_apart(cpu, space, code, next, end),
-        Op::STH => store_half_apart(cpu, space, code, next, end),
-        Op::A => add_word_apart(cpu, space, code, next, end),
-        Op::AH => add_half_apart(cpu, space, code, next, end),
-        Op::S => subtract_word_apart(cpu, space, code, next, end),
-        Op::SH => subtract_half_apart(cpu, space, code, next, end),
-        Op::AL => add_logical_word_apart(cpu, space, code, next, end),
-        Op::SL => subtract_logical_word_apart(cpu, space, code, next, end),
-        Op::C => compare_word_apart(cpu, space, code, next, end),
-        Op::CH => compare_half_apart(cpu, space, code, next, end),
-        Op::LM => load_multiple_apart(cpu, space, code, next, end),
-        Op::STM => store_multiple_apart(cpu, space, code, next, end),
-        Op::IC => insert_character_apart(cpu, space, code, next, end),
-        Op::STC => store_character_apart(cpu, space, code, next, end),
-        Op::MVI => move_immediate_apart(cpu, space, code, next, end),
-        Op::CLI => compare_immediate_apart(cpu, space, code, next, end),
-        Op::TM => test_under_mask_apart(cpu, space, code, next, end),
+        Op::LH => Some(load_half_apart(cpu, space, code, next, end)),
+        Op::STH => Some(store_half_apart(cpu, space, code, next, end)),
+        Op::A => Some(add_word_apart(cpu, space, code, next, end)),
+        Op::AH => Some(add_half_apart(cpu, space, code, next, end)),
+        Op::S => Some(subtract_word_apart(cpu, space, code, next, end)),
+        Op::SH => Some(subtract_half_apart(cpu, space, code, next, end)),
+        Op::AL => Some(add_logical_word_apart(cpu, space, code, next, end)),
+        Op::SL => Some(subtract_logical_word_apart(cpu, space, code, next, end)),
+        Op::C => Some(compare_word_apart(cpu, space, code, next, end)),
+        Op::CH => Some(compare_half_apart(cpu, space, code, next, end)),
+        Op::LM => Some(load_multiple_apart(cpu, space, code, next, end)),
+        Op::STM => Some(store_multiple_apart(cpu, space, code, next, end)),
+        Op::IC => Some(insert_character_apart(cpu, space, code, next, end)),
+        Op::STC => Some(store_character_apart(cpu, space, code, next, end)),
+        Op::MVI => Some(move_immediate_apart(cpu, space, code, next, end)),
+        Op::CLI => Some(compare_immediate_apart(cpu, space, code, next, end)),
+        Op::TM => Some(test_under_mask_apart(cpu, space, code, next, end)),
         Op::BC => {
             branch_on_condition(cpu, code, next);
-            Told::GoesOn
+            Some(Told::GoesOn)
         }
         Op::BCT => {
             branch_on_count(cpu, code, next);
-            Told::GoesOn
+            Some(Told::GoesOn)
         }
         Op::BAL => {
             branch_and_link(cpu, code, next, link_code(code, &None));
-            Told::GoesOn
+            Some(Told::GoesOn)
         }
-        _ => carry_out_apart(cpu, space, io, code, None, end),
+        Op::MVC => Some(move_characters_apart(cpu, space, code, next, end)),
+        Op::CLC => Some(compare_fields_apart(cpu, space, code, next, end)),
+        _ => None,
     }
 }
 
-/// Carries out an instruction of six bytes; the frequent ones have a call of their own.
-#[inline(always)]
-fn carry_out_longest<P: Space>(
-    cpu: &mut Cpu,
-    space: &mut P,
-    io: &mut TaskIo,
-    code: &Code,
-    next: Addr,
-    end: &mut Ending,
-) -> Told
-    requires next { next ≡ updated code.now None }
-    ensures { Executes P.memory P.bytes code.now None cpu.old space.old io.old cpu.new space.new io.new result end.new }
-{
-    match op_of(code.first_half()) {
-        Op::MVC => move_characters_apart(cpu, space, code, next, end),
-        Op::CLC => compare_fields_apart(cpu, space, code, next, end),
-        _ => carry_out_apart(cpu, space, io, code, None, end),
-    }
-}
-
-/// Carries out an instruction that no EX executes. Where the task has ended `end` tells how. The updated address is found from
-/// the address and a number that is known here, so that it needn't wait for the instruction to be loaded.
+/// Carries out an instruction that no EX executes. Where the task has ended `end` tells how.
 #[inline(always)]
 fn carry_out<P: Space>(
     cpu: &mut Cpu,
@@ -383,17 +351,22 @@ fn carry_out<P: Space>(
 ) -> Told
     ensures { Executes P.memory P.bytes code.now None cpu.old space.old io.old cpu.new space.new io.new result end.new }
 {
-    let at = cpu.at();
-    if code.at != at {
-        carry_out_apart(cpu, space, io, code, None, end)
-    } else if code.len == 2 {
-        carry_out_short(cpu, space, io, code, at.plus(2), end)
-    } else if code.len == 4 {
-        carry_out_long(cpu, space, io, code, at.plus(4), end)
-    } else if code.len == 6 {
-        carry_out_longest(cpu, space, io, code, at.plus(6), end)
-    } else {
-        carry_out_apart(cpu, space, io, code, None, end)
+    let op = op_of(code.first_half());
+    let next = updated(code, &None);
+    match execute_frequent(cpu, space, io, code, op, next, end) {
+        Some(told) => told,
+        None => carry_out_apart(cpu, space, io, code, None, end),
+    }
+}
+
+/// How a task goes on that was told so; where it has ended `end` tells how.
+#[inline(always)]
+pub fn next_of(told: Told, end: &Ending) -> Next
+    ensures { result ≡ next_of told end.now }
+{
+    match told {
+        Told::GoesOn => Next::On,
+        Told::HasEnded => Next::Ended(*end),
     }
 }
 

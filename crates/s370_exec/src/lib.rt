@@ -11,6 +11,6 @@ mod stored;
 mod subject;
 
 pub use fetch::{fetch_first, fetch_rest};
-pub use instruction::execute;
+pub use instruction::{Told, execute, execute_frequent, next_of};
 pub use solo::{has_returned, instruction_went, step, subject_seen, supervisor_call};
 pub use subject::{fetch_subject, is_execute, merge, subject_address};
