@@ -1,5 +1,5 @@
 -- What contracts say of old and new: processor, storage, input and output, and how the task goes on.
-use Rattle.std.specs.Prelude.{◌≡◌, ℕ, ◌+◌, Bool, List, ◌∷◌, Option}
+use Rattle.std.specs.Prelude.{◌≡◌, ℕ, ◌+◌, Bool, List, ◌∷◌, Option, Some, None}
 use Rattle.cov_base.specs.Meaning.{CpuView, Machine, IoView, State, Visit, Memory}
 use Rattle.s370_state.specs.Meaning.{machine_of}
 use Rattle.s370_state.specs.declared.endings.Ending.{Ending}
@@ -26,6 +26,11 @@ pub record IsUntouched {S : Type 0} (cpu : CpuView) (space : S) (io : IoView) (c
   pub same_cpu : cpu' ≡ cpu
   pub same_space : space' ≡ space
   pub same_io : io' ≡ io
+
+-- it carries out the instruction, under no EX, where it has told how the task goes on, and else leaves everything as it was
+abbrev pub Tries : {S : Type 0} → (S → Memory) → (S → List ℕ) → Code → CpuView → S → IoView → CpuView → S → IoView → Option Told → Ending → Type 0
+Tries memory_of bytes_of c cpu space io cpu' space' io' (Some told) end = Executes memory_of bytes_of c None cpu space io cpu' space' io' told end
+Tries memory_of bytes_of c cpu space io cpu' space' io' None end = IsUntouched cpu space io cpu' space' io'
 
 -- the same of an operation that neither input and output nor the length code concern; to is the updated address
 pub record CarriesOut {S : Type 0} (memory_of : S → Memory) (bytes_of : S → List ℕ) (c : Code) (op : Op) (to : ℕ)

@@ -1,11 +1,11 @@
 //! The effect of an instruction that was fetched whole.
-ghost use Rattle.std.specs.Prelude.{◌≡◌, ℕ, ◌*◌, ◌/◌, ◌<◌, ◌≤◌, List, true, false, IfSome, IsSome, IfNone};
+ghost use Rattle.std.specs.Prelude.{◌≡◌, ℕ, ◌*◌, ◌/◌, ◌<◌, ◌≤◌, List, true, false, IsSome};
 ghost use Rattle.std.specs.declared.option.Option.TheVariants.{Some, None};
 ghost use Rattle.cov_base.specs.Meaning.{Memory, IoView};
 ghost use Rattle.s370_state.specs.Meaning.{machine_of};
 ghost use Rattle.s370_decode.specs.Meaning.{first_half, i2, op_of};
 ghost use Rattle.s370_decode.specs.Groups.{group_of};
-ghost use Rattle.s370_exec.specs.Does.{Does, Executes, CarriesOut, Branches, GoesOnward, IsUntouched};
+ghost use Rattle.s370_exec.specs.Does.{Does, Executes, CarriesOut, Branches, GoesOnward, Tries};
 ghost use Rattle.s370_exec.specs.Meaning.{effect, is_completed, updated, link_code, is_execute};
 ghost use Rattle.s370_exec.specs.Effects.{effect_of, next_of, executed, is_plain};
 
@@ -252,9 +252,8 @@ pub fn execute_frequent<P: Space>(
 ) -> Option<Told>
     requires op { op ≡ op_of (first_half code.now) }
     requires next { next ≡ updated code.now None }
-    ensures frequent { IfSome result (λ told. Executes P.memory P.bytes code.now None cpu.old space.old io.old cpu.new space.new io.new told end.new) }
+    ensures tries { Tries P.memory P.bytes code.now cpu.old space.old io.old cpu.new space.new io.new result end.new }
     ensures plain { IsSome result → is_plain op ≡ true }
-    ensures other { IfNone result (IsUntouched cpu.old space.old io.old cpu.new space.new io.new) }
 {
     match op {
         Op::LR => {

@@ -2,62 +2,62 @@ use Rattle.std.proofs.Common.{rules, None}
 use Rattle.s370_exec.specs.Meaning.{effect, link_code}
 use Rattle.s370_exec.proofs.instruction.execute_frequent.Goals as goal
 
-pub returns-in-LR-clause-frequent : goal.returns-in-LR-clause-frequent
+pub returns-in-LR-clause-tries : goal.returns-in-LR-clause-tries
 unfolding effect
-returns-in-LR-clause-frequent g c = record { memory = search rules; effect = search rules }
+returns-in-LR-clause-tries g c = record { memory = search rules; effect = search rules }
 
-pub returns-in-LTR-clause-frequent : goal.returns-in-LTR-clause-frequent
+pub returns-in-LTR-clause-tries : goal.returns-in-LTR-clause-tries
 unfolding effect
-returns-in-LTR-clause-frequent g c = record { memory = search rules; effect = search rules }
+returns-in-LTR-clause-tries g c = record { memory = search rules; effect = search rules }
 
-pub returns-in-LCR-clause-frequent : goal.returns-in-LCR-clause-frequent
+pub returns-in-LCR-clause-tries : goal.returns-in-LCR-clause-tries
 unfolding effect
-returns-in-LCR-clause-frequent g c = record { memory = search rules; effect = search rules }
+returns-in-LCR-clause-tries g c = record { memory = search rules; effect = search rules }
 
-pub returns-in-AR-clause-frequent : goal.returns-in-AR-clause-frequent
+pub returns-in-AR-clause-tries : goal.returns-in-AR-clause-tries
 unfolding effect
-returns-in-AR-clause-frequent g c = record { memory = search rules; effect = search rules }
+returns-in-AR-clause-tries g c = record { memory = search rules; effect = search rules }
 
-pub returns-in-SR-clause-frequent : goal.returns-in-SR-clause-frequent
+pub returns-in-SR-clause-tries : goal.returns-in-SR-clause-tries
 unfolding effect
-returns-in-SR-clause-frequent g c = record { memory = search rules; effect = search rules }
+returns-in-SR-clause-tries g c = record { memory = search rules; effect = search rules }
 
-pub returns-in-CR-clause-frequent : goal.returns-in-CR-clause-frequent
+pub returns-in-CR-clause-tries : goal.returns-in-CR-clause-tries
 unfolding effect
-returns-in-CR-clause-frequent g c = record { memory = search rules; effect = search rules }
+returns-in-CR-clause-tries g c = record { memory = search rules; effect = search rules }
 
-pub returns-in-BCR-clause-frequent : goal.returns-in-BCR-clause-frequent
+pub returns-in-BCR-clause-tries : goal.returns-in-BCR-clause-tries
 unfolding effect
-returns-in-BCR-clause-frequent g c = let to = c.branch_on_condition_register.ensures (link_code c.args.code.now None) in record { memory = search rules; effect = search (rules, to) }
+returns-in-BCR-clause-tries g c = let to = c.branch_on_condition_register.ensures (link_code c.args.code.now None) in record { memory = search rules; effect = search (rules, to) }
 
-pub returns-in-BCTR-clause-frequent : goal.returns-in-BCTR-clause-frequent
+pub returns-in-BCTR-clause-tries : goal.returns-in-BCTR-clause-tries
 unfolding effect
-returns-in-BCTR-clause-frequent g c = let to = c.branch_on_count_register.ensures (link_code c.args.code.now None) in record { memory = search rules; effect = search (rules, to) }
+returns-in-BCTR-clause-tries g c = let to = c.branch_on_count_register.ensures (link_code c.args.code.now None) in record { memory = search rules; effect = search (rules, to) }
 
-pub returns-in-BALR-clause-frequent : goal.returns-in-BALR-clause-frequent
+pub returns-in-BALR-clause-tries : goal.returns-in-BALR-clause-tries
 unfolding effect
-returns-in-BALR-clause-frequent g c = record { memory = search rules; effect = search rules }
+returns-in-BALR-clause-tries g c = record { memory = search rules; effect = search rules }
 
-pub returns-in-LA-clause-frequent : goal.returns-in-LA-clause-frequent
+pub returns-in-LA-clause-tries : goal.returns-in-LA-clause-tries
 unfolding effect
-returns-in-LA-clause-frequent g c = record { memory = search rules; effect = search rules }
+returns-in-LA-clause-tries g c = record { memory = search rules; effect = search rules }
 
-pub returns-in-L-clause-frequent : goal.returns-in-L-clause-frequent
+pub returns-in-L-clause-tries : goal.returns-in-L-clause-tries
 unfolding effect
-returns-in-L-clause-frequent g c = record { memory = search rules; effect = search rules }
+returns-in-L-clause-tries g c = record { memory = search rules; effect = search rules }
 
-pub returns-in-ST-clause-frequent : goal.returns-in-ST-clause-frequent
+pub returns-in-ST-clause-tries : goal.returns-in-ST-clause-tries
 unfolding effect
-returns-in-ST-clause-frequent g c = record { memory = search rules; effect = search rules }
+returns-in-ST-clause-tries g c = record { memory = search rules; effect = search rules }
 
-pub returns-in-BC-clause-frequent : goal.returns-in-BC-clause-frequent
+pub returns-in-BC-clause-tries : goal.returns-in-BC-clause-tries
 unfolding effect
-returns-in-BC-clause-frequent g c = let to = c.branch_on_condition.ensures (link_code c.args.code.now None) in record { memory = search rules; effect = search (rules, to) }
+returns-in-BC-clause-tries g c = let to = c.branch_on_condition.ensures (link_code c.args.code.now None) in record { memory = search rules; effect = search (rules, to) }
 
-pub returns-in-BCT-clause-frequent : goal.returns-in-BCT-clause-frequent
+pub returns-in-BCT-clause-tries : goal.returns-in-BCT-clause-tries
 unfolding effect
-returns-in-BCT-clause-frequent g c = let to = c.branch_on_count.ensures (link_code c.args.code.now None) in record { memory = search rules; effect = search (rules, to) }
+returns-in-BCT-clause-tries g c = let to = c.branch_on_count.ensures (link_code c.args.code.now None) in record { memory = search rules; effect = search (rules, to) }
 
-pub returns-in-BAL-clause-frequent : goal.returns-in-BAL-clause-frequent
+pub returns-in-BAL-clause-tries : goal.returns-in-BAL-clause-tries
 unfolding effect
-returns-in-BAL-clause-frequent g c = record { memory = search rules; effect = search rules }
+returns-in-BAL-clause-tries g c = record { memory = search rules; effect = search rules }
