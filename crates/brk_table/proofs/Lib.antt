@@ -14,3 +14,4 @@ pub mod FarPlaces
 pub mod OneModule
 pub mod NumberLemmas
 pub mod CodeLemmas
+pub mod UnpackedLemmas

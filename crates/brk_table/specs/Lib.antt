@@ -1,7 +1,9 @@
 pub mod Build
 pub mod Cover
 pub mod Kept
+pub mod Keys
 pub mod Map
 pub mod Meaning
 pub mod Places
 pub mod Together
+pub mod Unpacked

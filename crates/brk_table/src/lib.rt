@@ -6,12 +6,15 @@ mod codes;
 mod cover;
 mod fault;
 mod faults;
+mod kept;
 mod line_places;
 mod map;
 mod places;
 mod tables;
+mod unpacking;
 
 pub use builder::build;
 pub use faults::BuildFault;
+pub use kept::Kept;
 pub use line_places::LinePlaces;
 pub use tables::{Table, Tables};

@@ -1,5 +1,5 @@
 //! The places of a module, and of all monitored modules.
-ghost use Rattle.std.specs.Prelude.{◌≡◌, ◌↔◌, ℕ, ◌<◌, ◌≤◌, true, false, length, get_or, IfSome, IfOk, IsNone, All, AllPairs};
+ghost use Rattle.std.specs.Prelude.{◌≡◌, ◌≢◌, ◌↔◌, ℕ, ◌<◌, ◌≤◌, true, false, length, get_or, IfSome, IfOk, IsNone, IsSome, All, AllPairs};
 ghost use Rattle.module_area.specs.Meaning.{place_of, is_place};
 ghost use Rattle.std.specs.Prelude.{◌+◌, nat_eq, option_map};
 ghost use Rattle.brk_table.specs.Kept.{AreCodes};
@@ -9,9 +9,11 @@ ghost use Rattle.brk_table.specs.Places.{IsIn, HasItsPlaces, HasRisingPlaces};
 ghost use Rattle.cov_base.specs.declared.numbers.PlaceNo.{PlaceNo as Number};
 
 use crate::codes::codes_of;
+use crate::kept::Kept;
 use crate::line_places::LinePlaces;
 use crate::map::{enter_all, entry_at};
-use cov_base::{Addr, NoMemory, PLACE_LIMIT, PlaceNo};
+use crate::unpacking::unpack;
+use cov_base::{Addr, NoMemory, PLACE_LIMIT, PlaceNo, RETURN_ADDRESS};
 use module_area::{Images, Place};
 use s370_decode::Code;
 use std::alloc::Global;
@@ -41,6 +43,8 @@ pub struct Tables {
     places: Vec<Place>,
     // of each place its whole instruction, where the modules were given
     codes: Vec<Code>,
+    // the same, unpacked
+    kept: Vec<Kept>,
     // for each page of 4 KB the number of its 2,048 entries, one for each halfword: its place's number and 1, or 0
     pages: Vec<u32>,
     entries: Vec<u32>,
@@ -53,12 +57,13 @@ impl Model for Tables {
     ghost use Rattle.brk_table.specs.Places.{ArePlaces, HasItsPlaces, HasRisingPlaces};
     ghost use Rattle.std.specs.Prelude.{length};
     ghost use Rattle.brk_table.specs.Map.{IsMap};
+    ghost use Rattle.brk_table.specs.Unpacked.{AreUnpacked};
 
     ghost Value = { TablesView };
 
     ghost view = { λ t. record { tables = t.tables.items; places = t.places.items; codes = t.codes.items } };
 
-    ghost invariant = { λ t. (t.places.items ≡ all_places t.tables.items) × ArePlaces t.places.items × All HasItsPlaces t.tables.items × All HasRisingPlaces t.tables.items × IsMap t.pages.items t.entries.items t.places.items (length t.places.items) };
+    ghost invariant = { λ t. (t.places.items ≡ all_places t.tables.items) × ArePlaces t.places.items × All HasItsPlaces t.tables.items × All HasRisingPlaces t.tables.items × IsMap t.pages.items t.entries.items t.places.items (length t.places.items) × AreUnpacked t.codes.items t.kept.items };
 }
 
 impl Table {
@@ -102,6 +107,7 @@ impl Table {
 impl Tables {
     ghost use Rattle.brk_table.specs.Meaning.{all_places};
     ghost use Rattle.brk_table.specs.Places.{ArePlaces};
+    ghost use Rattle.brk_table.specs.Unpacked.{AreAtPlaces};
 
     /// Numbers the places of tables that `build` gave for different modules in rising order, whose modules share no
     /// byte, with at most 65,536 places together.
@@ -119,10 +125,12 @@ impl Tables {
         let mut pages = vec![in alloc; 0u32; 4096]?;
         let mut entries = vec![in alloc; 0u32; 2048]?;
         enter_all(&mut pages, &mut entries, &places)?;
+        let kept = unpack(alloc, &[])?;
         Ok(Tables {
             tables,
             places,
             codes: Vec::new(alloc),
+            kept,
             pages,
             entries,
         })
@@ -140,7 +148,12 @@ impl Tables {
     {
         let numbered = Tables::of(alloc, tables)?;
         let codes = codes_of(alloc, images, &numbered.places)?;
-        Ok(Tables { codes, ..numbered })
+        let kept = unpack(alloc, &codes)?;
+        Ok(Tables {
+            codes,
+            kept,
+            ..numbered
+        })
     }
 
     /// The place that begins at the address; none exactly where no place begins there.
@@ -159,6 +172,25 @@ impl Tables {
         Some(PlaceNo(entry - 1))
     }
 
+    /// The place behind the last one where it begins at the address, unless a task returns there, which executes nothing. Found by
+    /// one load: it is mostly the next one that a task comes to.
+    #[inline(always)]
+    pub fn next_at(&self, last: u32, a: Addr) -> Option<PlaceNo>
+        requires codes { AreAtPlaces self.now }
+        requires last { last ≤ length self.now.places }
+        ensures exists { IfSome result (λ n. n.0 < length self.now.places) }
+        ensures begins { IfSome result (λ n. (place_of self.now.places n.0).at ≡ a) }
+        ensures goes_on { IsSome result → a ≢ RETURN_ADDRESS }
+        ensures places { ArePlaces self.now.places }
+    {
+        let next = last as usize + 1;
+        if self.kept[next].key == a.get() {
+            Some(PlaceNo(next as u32))
+        } else {
+            None
+        }
+    }
+
     /// The place of an existing number.
     pub fn place(&self, n: PlaceNo) -> &Place
         requires { n.0 < length self.now.places }
@@ -175,6 +207,15 @@ impl Tables {
         ensures places { ArePlaces self.now.places }
     {
         &self.codes[n.0 as usize]
+    }
+
+    /// The same, unpacked.
+    pub fn kept(&self, n: PlaceNo) -> &Kept
+        requires { n.0 < length self.now.codes }
+        ensures value { (d : Instruction) → result.now.code ≡ get_or self.now.codes n.0 d }
+        ensures places { ArePlaces self.now.places }
+    {
+        &self.kept[n.0 as usize]
     }
 
     /// The number of places.

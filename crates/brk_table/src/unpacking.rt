@@ -1,0 +1,32 @@
+//! The instructions of the places, unpacked.
+ghost use Rattle.std.specs.Prelude.{◌≡◌, IfOk};
+ghost use Rattle.brk_table.specs.Unpacked.{AreUnpacked};
+
+use crate::kept::{Kept, unpacked};
+use cov_base::{Addr, NoMemory, RETURN_ADDRESS};
+use s370_decode::Code;
+use std::alloc::Global;
+
+/// What stands behind the last instruction, and is never found.
+fn no_instruction() -> Kept
+    ensures { result.key ≡ 16777216 }
+{
+    unpacked(Code {
+        at: Addr::of(RETURN_ADDRESS),
+        bytes: [0, 0, 0, 0, 0, 0],
+        len: 2,
+    })
+}
+
+/// Each of the instructions, and behind them twice none.
+pub fn unpack(alloc: Global, codes: &[Code]) -> Result<Vec<Kept>, NoMemory>
+    ensures { IfOk result (λ kept. AreUnpacked codes.now kept.items) }
+{
+    let mut kept = Vec::with_capacity(alloc, codes.len())?;
+    for i in 0..codes.len() {
+        kept.push(unpacked(codes[i]))?;
+    }
+    kept.push(no_instruction())?;
+    kept.push(no_instruction())?;
+    Ok(kept)
+}
