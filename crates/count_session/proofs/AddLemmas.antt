@@ -8,11 +8,11 @@ use Rattle.cov_base.specs.declared.facts.Fact.TheVariants.{Ran, Went, Stayed}
 use Rattle.cov_base.specs.declared.numbers.PlaceNo.{PlaceNo}
 use Rattle.module_area.specs.declared.cells.Cell.{Cell}
 use Rattle.module_area.specs.declared.places.Place.{Place}
-use Rattle.module_area.specs.Meaning.{executes, PlanView, place_of, no_place, kind_at, window_at, original_at}
+use Rattle.module_area.specs.Meaning.{executes, shows, PlanView, place_of, no_place, kind_at, window_at, original_at}
 use Rattle.brk_table.specs.Places.{ArePlaces, IsPlace}
 use Rattle.observed_step.specs.Sights.{BeginsAt, IsPlaced}
 use Rattle.count_session.specs.Notes.{CountNotes, after_add, after_fetch, cell_at, is_same}
-use Rattle.count_session.specs.Meaning.{gives, count_at}
+use Rattle.count_session.specs.Meaning.{count_at}
 use Rattle.count_session.specs.Counting.{planted_count, Adds}
 
 abbrev one_of : Bool → ℕ
@@ -31,7 +31,7 @@ turned Stayed Stayed = refl
 
 -- a visit that isn't at the place, or wasn't begun, gives no fact there
 gives_not : (place : Place) (f : Fact) (v : Visit) → executes place v ≡ false → count_at place f (v ∷ []) ≡ 0
-gives_not place f v no_run = let e : gives place f v ≡ false = ap (λ b. b && same_fact (fact_of place.kind v.went) f) no_run in ap (λ b. one_of b + 0) e
+gives_not place f v no_run = let e : shows place f v ≡ false = ap (λ b. b && same_fact (fact_of place.kind v.went) f) no_run in ap (λ b. one_of b + 0) e
 
 not_there : (begun : Bool) (a b : ℕ) → a ≢ b → (begun && (a == b)) ≡ false
 not_there true a b n = ne_eqb a b n
@@ -118,7 +118,7 @@ module _ (plan : PlanView) (old mid : CountNotes) (p : ℕ) (v : Visit) (cell : 
           let test : one_of (is_same p (fact_at plan p v.went) q f) ≡ one_of (same_fact f (fact_at plan p v.went)) = ap (λ b. one_of (b && same_fact f (fact_at plan p v.went))) (eq-eqb q p same) in
           let at : (place_of plan.places q).at ≡ v.at = ap (λ k. (place_of plan.places k).at) same ∙ begins.begins in
           let runs : executes (place_of plan.places q) v ≡ true = ap (λ b. b && (v.at == (place_of plan.places q).at)) begun ∙ eq-eqb v.at (place_of plan.places q).at (sym at) in
-          let shown : gives (place_of plan.places q) f v ≡ same_fact f (fact_at plan p v.went) =
+          let shown : shows (place_of plan.places q) f v ≡ same_fact f (fact_at plan p v.went) =
           ap (λ b. b && same_fact (fact_at plan q v.went) f) runs ∙ (ap (λ k. same_fact (fact_at plan k v.went) f) same ∙ turned (fact_at plan p v.went) f) in
           let count : planted_count plan old q f (v ∷ []) ≡ one_of (same_fact f (fact_at plan p v.went)) + 0 =
           ap (λ b. if b then count_at (place_of plan.places q) f (v ∷ []) else 0) (ap old.planted same ∙ here) ∙ ap (λ b. one_of b + 0) shown in

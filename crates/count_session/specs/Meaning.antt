@@ -1,31 +1,25 @@
 -- What the claim of the program says by this crate's clauses.
 use Rattle.std.specs.Prelude.{ℕ, ◌+◌, Bool, ◌&&◌, if◌then◌else◌, List, [], ◌∷◌}
-use Rattle.cov_base.specs.Meaning.{same_fact, fact_of, Visit}
+use Rattle.cov_base.specs.Meaning.{Visit}
 use Rattle.cov_base.specs.declared.facts.Fact.{Fact}
 use Rattle.module_area.specs.declared.places.Place.{Place}
-use Rattle.module_area.specs.Meaning.{executes, place_of}
+use Rattle.module_area.specs.Meaning.{shows, place_of}
 use Rattle.task_services.specs.Meaning.{course_of}
 use Rattle.session_book.specs.Meaning.{JobView, session_of, observes, traces_from}
 use Rattle.job_run.specs.Meaning.{trace_by}
 
--- How often traces give a fact at a place, and what a pass has added of some visits.
-
--- a begun visit at the place that gives the fact
-abbrev pub gives : Place → Fact → Visit → Bool
-gives place f v = executes place v && same_fact (fact_of place.kind v.went) f
+-- How often traces give a fact at a place.
 
 abbrev pub count_at : Place → Fact → List Visit → ℕ
 count_at place f [] = 0
-count_at place f (v ∷ vs) = (if gives place f v then 1 else 0) + count_at place f vs
+count_at place f (v ∷ vs) = (if shows place f v then 1 else 0) + count_at place f vs
 
 -- the counts of several traces together
 abbrev pub count_of_all : Place → Fact → List (List Visit) → ℕ
 count_of_all place f [] = 0
 count_of_all place f (trace ∷ traces) = count_at place f trace + count_of_all place f traces
 
--- The passes of a phase, and what the counts of a phase come to.
-
--- ---- what a job's counts are
+-- What a job's counts are.
 
 -- The count of a fact at a place in a session: how many begun visits of the session's executions there give it. A whole
 -- session's executions are the visits of the traces of its phase's tasks at its modules' places.

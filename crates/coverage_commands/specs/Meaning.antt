@@ -72,7 +72,7 @@ areas_change ledger finals made old new = record {
   after = record { ledger = ledger new; finals = finals new; made = made new };
 }
 
--- The words of a command, what it reads and makes, and the lines that a refusal is told by.
+-- What a command reads and makes.
 
 -- what a command reads and makes
 pub record Way : Type 0 where

@@ -9,7 +9,7 @@ use Rattle.report_text.specs.Meaning.{session_part, job_lines, text_of}
 use Rattle.module_area.specs.Meaning.{ControlView, control_after}
 use Rattle.task_run.specs.Meaning.{is_opened}
 
--- Drains: how a pass learns that a session that it has closed gets no fact any more.
+-- The tasks of a phase but one.
 
 -- the tasks but this one
 abbrev pub others : List TaskNo → ℕ → List TaskNo
@@ -30,7 +30,7 @@ early_part job tables sets drained s =
 abbrev pub early_of : JobView → TablesView → (ℕ → ResultView) → (ℕ → ℕ → FactSet) → (ℕ → Option ℕ) → List ℕ
 early_of job tables results sets drained = text_of (codes "COVERAGE REPORT" ∷ job_lines job results (early_part job tables sets drained))
 
--- What the drains of a controller's sessions tell once it has run.
+-- When a run closes a session.
 
 -- the call closes the session: it is SVC 5 while the session is open
 abbrev pub closes : ControlView → Option ℕ → ℕ → Bool

@@ -2,10 +2,10 @@
 use Rattle.std.specs.Prelude.{ℕ, ◌+◌, Bool, ◌&&◌, nat_eq, if◌then◌else◌, Option, None, option_map, List, [], ◌∷◌, Some, ◌++◌, codes, true, false, length, take, drop, zero, suc, nat_le, nat_lt, slice_index, ◌≡◌}
 use Rattle.std.specs.List.{find, flat_map, range_with_len}
 use Rattle.std.specs.Option.{option_or}
-use Rattle.cov_base.specs.Meaning.{FactSet, fact_of, same_fact, Visit}
+use Rattle.cov_base.specs.Meaning.{FactSet, Visit}
 use Rattle.cov_base.specs.declared.facts.Fact.{Fact}
 use Rattle.s370_exec.specs.Meaning.{solo_run}
-use Rattle.module_area.specs.Meaning.{executes, place_of, fact_count}
+use Rattle.module_area.specs.Meaning.{shows, place_of, fact_count}
 use Rattle.module_area.specs.declared.places.Place.{Place}
 use Rattle.brk_table.specs.Meaning.{TablesView, first_place, place_count}
 use Rattle.session_book.specs.Meaning.{JobView, TaskView, task_memory, task_of, session_of, first_state, session_set}
@@ -23,10 +23,6 @@ use Rattle.session_marks.specs.Meaning.{session_marks}
 -- the visits of a task's run alone, over modules that were never planted
 abbrev pub trace_of : JobView → List Place → ℕ → List Visit
 trace_of j places t = (solo_run (task_memory j places t) (task_of j t).budget (first_state (task_of j t))).trace
-
--- the visit executes the instruction at the place, and shows this fact
-abbrev pub shows : Place → Fact → Visit → Bool
-shows place f v = executes place v && same_fact (fact_of place.kind v.went) f
 
 -- the first of task t's visits that shows it
 abbrev pub first_in : Place → Fact → ℕ → List Visit → Option First

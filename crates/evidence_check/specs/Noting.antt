@@ -6,9 +6,9 @@ use Rattle.std.proofs.Common.{refl, sym, ◌∙◌, ap}
 use Rattle.std.proofs.lemmas.List.Folds.{find-append}
 use Rattle.cov_base.specs.Meaning.{Visit}
 use Rattle.cov_base.specs.declared.facts.Fact.{Fact}
-use Rattle.module_area.specs.Meaning.{place_of}
+use Rattle.module_area.specs.Meaning.{shows, place_of}
 use Rattle.module_area.specs.declared.places.Place.{Place}
-use Rattle.evidence_check.specs.Meaning.{shows, first_in}
+use Rattle.evidence_check.specs.Meaning.{first_in}
 use Rattle.evidence_check.specs.Found.{found_at, Notes}
 use Rattle.evidence_check.specs.declared.firsts.First.{First}
 use Rattle.evidence_check.specs.declared.firsts.Found.{Found}

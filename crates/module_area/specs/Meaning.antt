@@ -3,12 +3,13 @@ use Rattle.std.specs.Prelude.{ℕ, List, get_or, Bool, ◌&&◌, ◌||◌, nat_e
 use Rattle.module_area.specs.declared.cells.Cell.{Cell}
 use Rattle.module_area.specs.declared.places.Place.{Place}
 use Rattle.std.specs.List.{list_any, filter}
+use Rattle.cov_base.specs.declared.facts.Fact.{Fact}
 use Rattle.cov_base.specs.declared.facts.Kind.{Kind}
 use Rattle.cov_base.specs.declared.facts.Kind.TheVariants.{Straight}
 use Rattle.cov_base.specs.declared.numbers.TaskNo.{TaskNo}
 use Rattle.cov_base.specs.declared.numbers.PlaceNo.{PlaceNo}
 use Rattle.cov_base.specs.declared.numbers.SessNo.{SessNo}
-use Rattle.cov_base.specs.Meaning.{FactSet, no_facts, is_full, with_fact, union, fact_of, Visit}
+use Rattle.cov_base.specs.Meaning.{FactSet, no_facts, is_full, with_fact, union, fact_of, same_fact, Visit}
 
 -- A list of cells, one for each place.
 
@@ -159,6 +160,10 @@ full_pairs plan finals = count_pairs (λ s p. is_full (kind_at plan p) (set_at f
 -- the visit executes the instruction at the place
 abbrev pub executes : Place → Visit → Bool
 executes place v = v.begun && (v.at == place.at)
+
+-- and shows this fact
+abbrev pub shows : Place → Fact → Visit → Bool
+shows place f v = executes place v && same_fact (fact_of place.kind v.went) f
 
 -- the facts of the begun visits at the place
 abbrev pub facts_at : Place → List Visit → FactSet

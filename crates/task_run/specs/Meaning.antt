@@ -12,7 +12,7 @@ use Rattle.module_area.specs.declared.places.Place.{Place}
 
 -- The supervisor calls of a run, and what they make of the sessions that the task controls.
 
--- the control after these calls, and what the pass has planted and closed by them
+-- the control after these calls
 abbrev pub control_by : ControlView → List (Option ℕ) → ControlView
 control_by c [] = c
 control_by c (k ∷ ks) = control_by (control_after c k) ks
