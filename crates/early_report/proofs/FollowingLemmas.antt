@@ -10,7 +10,7 @@ use Rattle.module_area.specs.Notes.{Notes, after_boundary, bearer, is_working, o
 use Rattle.module_area.specs.Tied.{IsTied}
 use Rattle.observed_step.specs.Meaning.{Turn, calls_of}
 use Rattle.observed_step.specs.Hooks.{Way}
-use Rattle.observed_step.specs.Runs.{EndsAs, Goes, GoesAs, Stand, Takes, course_of, stand}
+use Rattle.observed_step.specs.Runs.{EndsAs, Goes, Stand, Takes, course_of, stand}
 use Rattle.observed_step.specs.declared.bench.Bench.{Bench}
 use Rattle.observed_step.specs.declared.task.TaskEnd.{TaskEnd}
 use Rattle.svc_monitor.specs.Answered.{Turns}
@@ -134,7 +134,8 @@ module _ {O P : Type 0} (makes : O → TablesView → P → List Visit → P →
     (plan : PlanView) (is : IsPlan plan) (notes : P → Notes) (budget : ℕ) (h g : Following) (p q : P) (old new : Bench) (end : TaskEnd) where
   pub stood_all :
       ((i : ℕ) (turn : Turn) (v w : Stand Following P) → Takes makes answers way.Aside o t i turn v w → DrainsTurn plan (notes v.pass) v.control v.hook i turn (notes w.pass) w.control w.hook) →
-      is_working (notes p) ≡ true → h.opened ≡ old.control.opened → h.drains.items ≡ first_drains plan (bearer (notes p)) → EndsAs way h budget old new end → GoesAs makes answers way o t budget h p old g q new →
+      is_working (notes p) ≡ true → h.opened ≡ old.control.opened → h.drains.items ≡ first_drains plan (bearer (notes p)) → EndsAs way h budget old new end →
+      Goes (Takes makes answers way.Aside o t) 0 (course_of way h budget old).turns (stand h p old) (stand g q new) →
       StandSo plan old.control (map (λ (d : DrainView). d.session) h.drains.items) (notes q) new.control g end.done (calls_of (course_of way h budget old).turns)
   stood_all each working opened first ends goes =
       let tour = course_of way h budget old in

@@ -1,18 +1,18 @@
 -- The instruction that the tables have for a place is the one that is fetched there.
-use Rattle.std.proofs.Common.{◌≡◌, ℕ, Bool, None, List, get_or, refl, sym, ap, ◌∙◌}
+use Rattle.std.proofs.Common.{◌≡◌, ℕ, ◌<◌, None, List, [], length, get_or, refl, sym, ap, ◌∙◌}
 use Rattle.cov_base.specs.Meaning.{length_of, Memory, half_at}
 use Rattle.module_area.specs.Meaning.{no_place, place_of}
 use Rattle.module_area.specs.declared.places.Place.{Place}
 use Rattle.s370_decode.specs.declared.code.Code.{Code}
-use Rattle.brk_table.specs.Kept.{IsKept, later_half}
+use Rattle.brk_table.specs.Kept.{AreKept, IsKept, later_half}
 use Rattle.brk_table.specs.Meaning.{TablesView}
+use Rattle.brk_table.specs.Unpacked.{AreAtPlaces}
 use Rattle.brk_table.specs.Places.{IsPlace, ArePlaces, IsSeen, AreSeen}
-use Rattle.s370_decode.specs.Meaning.{first_half}
-use Rattle.s370_exec.specs.Meaning.{is_execute, first_tests, rest_tests, code_at}
+use Rattle.s370_exec.specs.Meaning.{first_tests, rest_tests, code_at}
 use Rattle.s370_exec.proofs.Fetching.{rest_none, code_at-halves}
-use Rattle.s370_exec.proofs.Subjects.{first_half-code_at}
 use Rattle.observed_step.specs.declared.bench.Bench.{Bench}
 use Rattle.observed_step.specs.Sights.{BeginsAt}
+use Rattle.observed_step.proofs.PlaceLemmas.{begins_at}
 use Rattle.observed_step.specs.Steps.{IsShown, IsFetched, memory_at}
 
 half_there : (m : Memory) (places : List Place) (bytes : List ℕ) (a p h : ℕ) → AreSeen m places → BeginsAt places a p → h ≡ half_at m bytes a → h ≡ (place_of places p).original
@@ -43,17 +43,16 @@ kept_first m places a p are seen begins =
     let even = is.even in
     rw (sym begins.begins, even, there.reached) refl
 
-pub fetched_kept : (b : Bench) (tables : TablesView) (p : ℕ) (c : Code) → ArePlaces tables.places → IsShown (memory_at b) tables → BeginsAt tables.places b.cpu.ia p → c ≡ get_or tables.codes p c → IsFetched b c
-fetched_kept b tables p c are shown begins e = record {
-  first = kept_first (memory_at b) tables.places b.cpu.ia p are shown.seen begins;
-  rest = kept_rest (memory_at b) tables b.space.bytes b.cpu.ia p (half_at (memory_at b) b.space.bytes b.cpu.ia) are shown begins refl;
-  is = kept_code (memory_at b) tables b.space.bytes b.cpu.ia p (half_at (memory_at b) b.space.bytes b.cpu.ia) c are shown begins refl e;
-}
+pub placed_code : (b : Bench) (tables : TablesView) (p : ℕ) (c : Code) → ArePlaces tables.places → IsShown (memory_at b) tables → p < length tables.places → (place_of tables.places p).at ≡ b.cpu.ia →
+    ((d : Code) → c ≡ get_or tables.codes p d) → IsFetched b c
+placed_code b tables p c are shown exists at kept =
+    let begins = begins_at tables.places b.cpu.ia p are exists at in
+    record {
+      first = kept_first (memory_at b) tables.places b.cpu.ia p are shown.seen begins;
+      rest = kept_rest (memory_at b) tables b.space.bytes b.cpu.ia p (half_at (memory_at b) b.space.bytes b.cpu.ia) are shown begins refl;
+      is = kept_code (memory_at b) tables b.space.bytes b.cpu.ia p (half_at (memory_at b) b.space.bytes b.cpu.ia) c are shown begins refl (kept c);
+    }
 
--- the first halfword of an instruction is the one that was fetched
-
-pub first_fetched : (b : Bench) (c : Code) → IsFetched b c → first_half c ≡ half_at (memory_at b) b.space.bytes b.cpu.ia
-first_fetched b c fetched = ap first_half fetched.is ∙ first_half-code_at (memory_at b) b.space.bytes b.cpu.ia (half_at (memory_at b) b.space.bytes b.cpu.ia)
-
-pub execute_fetched : (b : Bench) (c : Code) (x : ℕ) (is : Bool) → IsFetched b c → x ≡ first_half c → is_execute x ≡ is → is_execute (half_at (memory_at b) b.space.bytes b.cpu.ia) ≡ is
-execute_fetched b c x is fetched e h = rw (sym (first_fetched b c fetched), sym e) h
+-- the instructions that are kept stand where their places begin
+pub at_places : (m : Memory) (tables : TablesView) → AreKept m tables → AreAtPlaces tables
+at_places m tables kept = record { count = kept.count; each = λ n c l. ap (λ (x : Code). x.at) ((kept.each n c l).code []) }

@@ -1,10 +1,12 @@
 pub mod CallLemmas
 pub mod CourseLemmas
+pub mod FetchedLemmas
 pub mod GoesLemmas
 pub mod HookLemmas
 pub mod InstanceLemmas
 pub mod KeptCode
 pub mod PlaceLemmas
+pub mod PlainLemmas
 pub mod RunLemmas
 pub mod SoloLemmas
 pub mod SvcLemmas

@@ -7,6 +7,7 @@ use Rattle.observed_step.specs.Meaning.{Tour, Turn, course_on}
 use Rattle.observed_step.specs.Hooks.{Way}
 use Rattle.observed_step.specs.Steps.{memory_at, stands}
 use Rattle.observed_step.specs.declared.bench.Bench.{Bench}
+use Rattle.observed_step.specs.declared.observer.Observer as observer
 use Rattle.observed_step.specs.declared.task.TaskEnd.{TaskEnd}
 
 -- hook, pass and control between two instructions
@@ -46,6 +47,5 @@ pub record EndsAs {H O P : Type 0} (way : Way H O P) (h : H) (budget : ℕ) (old
   pub most : end.done ≤ budget
 
 -- and hook, pass and control have gone through the turns of it
-abbrev pub GoesAs : {H O P : Type 0} → (O → TablesView → P → List Visit → P → Type 0) → (O → P → ControlView → Option ℕ → P → ControlView → Type 0) → Way H O P →
-    O → TablesView → ℕ → H → P → Bench → H → P → Bench → Type 0
-GoesAs makes answers way o t budget h p old g q new = Goes (Takes makes answers way.Aside o t) 0 (course_of way h budget old).turns (stand h p old) (stand g q new)
+abbrev pub GoesAs : {H O P : Type 0} → observer.Ghosts O P → Way H O P → O → TablesView → ℕ → H → P → Bench → H → P → Bench → Type 0
+GoesAs by way o t budget h p old g q new = Goes (Takes by.Makes by.Answers way.Aside o t) 0 (course_of way h budget old).turns (stand h p old) (stand g q new)

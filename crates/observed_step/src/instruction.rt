@@ -5,14 +5,17 @@ ghost use Rattle.module_area.specs.Meaning.{is_place, place_of};
 ghost use Rattle.s370_exec.specs.Meaning.{first_tests};
 ghost use Rattle.space_map.specs.Space.{memory_of_space};
 ghost use Rattle.observed_step.specs.Sights.{IsPlaced};
-ghost use Rattle.observed_step.specs.Steps.{CanStep, IsFetched, IsShown, StepsAs, StepsOn, GoesOn};
+ghost use Rattle.observed_step.specs.Steps.{CanStep, IsFetched, IsShown, StepsAs, StepsAsTold, StepsOn, GoesOn, GoesOnTold};
 
 use crate::bench::Bench;
 use crate::observer::{Observer, Sight};
-use brk_table::Tables;
+use brk_table::{Kept, Tables};
 use cov_base::{Addr, PlaceNo};
 use s370_decode::Code;
-use s370_exec::{execute, fetch_first, fetch_rest, fetch_subject, is_execute, subject_address};
+use s370_exec::{
+    Told, execute, execute_frequent, fetch_first, fetch_rest, fetch_subject, is_execute, next_of,
+    subject_address,
+};
 use s370_state::{Ending, Next};
 use space_map::TaskSpace;
 
@@ -119,7 +122,7 @@ fn carry_on<O: Observer>(
     requires fetched { IsFetched bench.old code.now }
     requires can { CanStep O.IsReady O.IsTied observer.now tables.now pass.old bench.old done 1 }
     ensures can { CanStep O.IsReady O.IsTied observer.now tables.now pass.new bench.new (done + 1) 0 }
-    ensures carries { GoesOn O.Observer code.now observer.now tables.now pass.old bench.old done pass.new bench.new result }
+    ensures goes { GoesOn O.Observer observer.now tables.now pass.old bench.old done pass.new bench.new result }
 {
     let half = code.first_half();
     if is_execute(half) {
@@ -127,6 +130,62 @@ fn carry_on<O: Observer>(
     }
     observer.called(pass, tables, &mut bench.control, done, half);
     execute(&mut bench.cpu, &mut bench.space, &mut bench.io, code, None)
+}
+
+/// The same in a call of its own, out of the loop over places. Where the task has ended `end` tells how.
+#[inline(never)]
+fn carry_on_apart<O: Observer>(
+    observer: &O,
+    pass: &mut O::Pass,
+    tables: &Tables,
+    bench: &mut Bench<'_>,
+    done: u32,
+    code: &Code,
+    end: &mut Ending,
+) -> Told
+    requires fetched { IsFetched bench.old code.now }
+    requires can { CanStep O.IsReady O.IsTied observer.now tables.now pass.old bench.old done 1 }
+    ensures can { CanStep O.IsReady O.IsTied observer.now tables.now pass.new bench.new (done + 1) 0 }
+    ensures goes { GoesOnTold O.Observer observer.now tables.now pass.old bench.old done pass.new bench.new result end.new }
+{
+    match carry_on(observer, pass, tables, bench, done, code) {
+        Next::On => Told::GoesOn,
+        Next::Ended(e) => {
+            *end = e;
+            Told::HasEnded
+        }
+    }
+}
+
+/// Carries on an instruction that is kept and was shown to the observer: a frequent one is no EX and no call. Where the task has
+/// ended `end` tells how.
+#[inline(always)]
+fn carry_on_kept<O: Observer>(
+    observer: &O,
+    pass: &mut O::Pass,
+    tables: &Tables,
+    bench: &mut Bench<'_>,
+    done: u32,
+    kept: &Kept,
+    end: &mut Ending,
+) -> Told
+    requires fetched { IsFetched bench.old kept.now.code }
+    requires can { CanStep O.IsReady O.IsTied observer.now tables.now pass.old bench.old done 1 }
+    ensures can { CanStep O.IsReady O.IsTied observer.now tables.now pass.new bench.new (done + 1) 0 }
+    ensures goes { GoesOnTold O.Observer observer.now tables.now pass.old bench.old done pass.new bench.new result end.new }
+{
+    match execute_frequent(
+        &mut bench.cpu,
+        &mut bench.space,
+        &mut bench.io,
+        &kept.code,
+        kept.op,
+        kept.next,
+        end,
+    ) {
+        Some(told) => told,
+        None => carry_on_apart(observer, pass, tables, bench, done, &kept.code, end),
+    }
 }
 
 /// One instruction where no place begins. Out of line, so that the loop over places stays short.
@@ -137,16 +196,20 @@ fn step_far<O: Observer>(
     tables: &Tables,
     bench: &mut Bench<'_>,
     done: u32,
-) -> Next
+    end: &mut Ending,
+) -> Told
     requires can { CanStep O.IsReady O.IsTied observer.now tables.now pass.old bench.old done 0 }
     requires no_place { is_place tables.now.places bench.old.cpu.ia ≡ false }
     ensures can { CanStep O.IsReady O.IsTied observer.now tables.now pass.new bench.new (done + 1) 0 }
-    ensures steps { StepsAs O.Makes O.Answers observer.now tables.now pass.old bench.old done pass.new bench.new result }
+    ensures steps { StepsAsTold O.Observer observer.now tables.now pass.old bench.old done pass.new bench.new result end.new }
 {
     let at = bench.cpu.at();
     let half = match fetch_first(&bench.space, at) {
         Ok(half) => half,
-        Err(e) => return Next::Ended(e),
+        Err(e) => {
+            *end = e;
+            return Told::HasEnded;
+        }
     };
     let sight = Sight {
         done,
@@ -158,28 +221,12 @@ fn step_far<O: Observer>(
         Ok(code) => code,
         Err(e) => {
             observer.refused(pass, tables, sight);
-            return Next::Ended(e);
+            *end = e;
+            return Told::HasEnded;
         }
     };
     observer.begun(pass, tables, &bench.cpu, &code, sight);
-    carry_on(observer, pass, tables, bench, done, &code)
-}
-
-/// The same in the place where it is called, so that the room of its answer is not cleared at places.
-#[inline(always)]
-fn step_far_here<O: Observer>(
-    observer: &O,
-    pass: &mut O::Pass,
-    tables: &Tables,
-    bench: &mut Bench<'_>,
-    done: u32,
-) -> Next
-    requires can { CanStep O.IsReady O.IsTied observer.now tables.now pass.old bench.old done 0 }
-    requires no_place { is_place tables.now.places bench.old.cpu.ia ≡ false }
-    ensures can { CanStep O.IsReady O.IsTied observer.now tables.now pass.new bench.new (done + 1) 0 }
-    ensures steps { StepsAs O.Makes O.Answers observer.now tables.now pass.old bench.old done pass.new bench.new result }
-{
-    step_far(observer, pass, tables, bench, done)
+    carry_on_apart(observer, pass, tables, bench, done, &code, end)
 }
 
 /// One instruction where the place begins. The instruction is read where it is kept: a copy would wait for the parts that were
@@ -192,12 +239,13 @@ fn step_placed<O: Observer>(
     bench: &mut Bench<'_>,
     done: u32,
     place: PlaceNo,
-) -> Next
+    end: &mut Ending,
+) -> Told
     requires can { CanStep O.IsReady O.IsTied observer.now tables.now pass.old bench.old done 0 }
     requires place { place.0 < length tables.now.places }
     requires begins { (place_of tables.now.places place.0).at ≡ bench.old.cpu.ia }
     ensures can { CanStep O.IsReady O.IsTied observer.now tables.now pass.new bench.new (done + 1) 0 }
-    ensures steps { StepsAs O.Makes O.Answers observer.now tables.now pass.old bench.old done pass.new bench.new result }
+    ensures steps { StepsAsTold O.Observer observer.now tables.now pass.old bench.old done pass.new bench.new result end.new }
 {
     let sight = Sight {
         done,
@@ -205,14 +253,36 @@ fn step_placed<O: Observer>(
         place: Some(place),
         subject: false,
     };
-    let code = tables.code(place);
-    observer.begun(pass, tables, &bench.cpu, code, sight);
-    carry_on(observer, pass, tables, bench, done, code)
+    let kept = tables.kept(place);
+    observer.begun(pass, tables, &bench.cpu, &kept.code, sight);
+    carry_on_kept(observer, pass, tables, bench, done, kept, end)
 }
 
-/// One instruction of the task, which has done so many before, and of which neither budget nor return address is tested: it
-/// ends or goes on as over modules that were never planted, and the observer is shown its visits, and then its supervisor
-/// call, before what the instruction does.
+/// One instruction, with the place that begins there, if one does. Where the task has ended `end` tells how.
+#[inline(always)]
+fn step_told<O: Observer>(
+    observer: &O,
+    pass: &mut O::Pass,
+    tables: &Tables,
+    bench: &mut Bench<'_>,
+    done: u32,
+    place: Option<PlaceNo>,
+    end: &mut Ending,
+) -> Told
+    requires can { CanStep O.IsReady O.IsTied observer.now tables.now pass.old bench.old done 0 }
+    requires placed { IsPlaced tables.now.places bench.old.cpu.ia place }
+    ensures can { CanStep O.IsReady O.IsTied observer.now tables.now pass.new bench.new (done + 1) 0 }
+    ensures steps { StepsAsTold O.Observer observer.now tables.now pass.old bench.old done pass.new bench.new result end.new }
+{
+    match place {
+        Some(place) => step_placed(observer, pass, tables, bench, done, place, end),
+        None => step_far(observer, pass, tables, bench, done, end),
+    }
+}
+
+/// One instruction of the task, which has done so many before, and of which neither budget nor return address is tested, with
+/// the place that begins there, if one does: it ends or goes on as over modules that were never planted, and the observer is
+/// shown its visits, and then its supervisor call, before what the instruction does. Where the task ends `end` is changed.
 #[inline(always)]
 pub fn step<O: Observer>(
     observer: &O,
@@ -220,13 +290,14 @@ pub fn step<O: Observer>(
     tables: &Tables,
     bench: &mut Bench<'_>,
     done: u32,
+    place: Option<PlaceNo>,
+    end: &mut Ending,
 ) -> Next
     requires can { CanStep O.IsReady O.IsTied observer.now tables.now pass.old bench.old done 0 }
+    requires placed { IsPlaced tables.now.places bench.old.cpu.ia place }
     ensures can { CanStep O.IsReady O.IsTied observer.now tables.now pass.new bench.new (done + 1) 0 }
     ensures steps { StepsAs O.Makes O.Answers observer.now tables.now pass.old bench.old done pass.new bench.new result }
 {
-    match tables.at(bench.cpu.at()) {
-        Some(place) => step_placed(observer, pass, tables, bench, done, place),
-        None => step_far_here(observer, pass, tables, bench, done),
-    }
+    let told = step_told(observer, pass, tables, bench, done, place, end);
+    next_of(told, end)
 }

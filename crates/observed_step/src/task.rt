@@ -1,7 +1,9 @@
 //! The run of a task.
-ghost use Rattle.std.specs.Prelude.{◌≡◌, ◌==◌, if◌then◌else◌};
+ghost use Rattle.std.specs.Prelude.{◌≡◌, ℕ, ◌==◌, ◌≤◌, true, false, if◌then◌else◌, length, IsNone, IsSome, IfSome};
 ghost use Rattle.s370_exec.specs.Meaning.{return_address};
 ghost use Rattle.s370_state.specs.declared.endings.Ending.TheVariants.{Returned, Spent};
+ghost use Rattle.brk_table.specs.Unpacked.{AreAtPlaces};
+ghost use Rattle.observed_step.specs.Sights.{IsPlaced};
 ghost use Rattle.observed_step.specs.Runs.{EndsAs, GoesAs};
 ghost use Rattle.observed_step.specs.Steps.{CanStep, memory_at};
 
@@ -10,7 +12,7 @@ use crate::hook::Hook;
 use crate::instruction::step;
 use crate::observer::Observer;
 use brk_table::Tables;
-use cov_base::Addr;
+use cov_base::{Addr, PlaceNo};
 use s370_exec::has_returned;
 use s370_state::{Cpu, Ending, Next};
 
@@ -34,6 +36,38 @@ fn spent(cpu: &Cpu) -> Ending
     }
 }
 
+/// The place that begins at the instruction address, if one does: mostly the one behind the last. None exactly where the task
+/// has returned.
+#[inline(always)]
+fn comes_to(tables: &Tables, last: u32, cpu: &Cpu) -> Option<Option<PlaceNo>>
+    requires codes { AreAtPlaces tables.now }
+    requires last { last ≤ length tables.now.places }
+    ensures returned { IsNone result → (cpu.now.ia == return_address) ≡ true }
+    ensures goes_on { IsSome result → (cpu.now.ia == return_address) ≡ false }
+    ensures placed { IfSome result (IsPlaced tables.now.places cpu.now.ia) }
+{
+    let at = cpu.at();
+    if let Some(next) = tables.next_at(last, at) {
+        return Some(Some(next));
+    }
+    if has_returned(cpu) {
+        return None;
+    }
+    let place = tables.at(at);
+    Some(place)
+}
+
+/// The number of the place, or else the other one.
+#[inline(always)]
+fn number_or(place: Option<PlaceNo>, other: u32) -> u32
+    ensures { (n : ℕ) → other ≤ n → IfSome place (λ p. p.0 ≤ n) → result ≤ n }
+{
+    match place {
+        Some(p) => p.0,
+        None => other,
+    }
+}
+
 /// Runs the task until it ends: before each instruction it ends Returned at X'FFFFFE', else Spent where it has done as
 /// many instructions as its budget. The observer is shown each instruction, and behind that the hook does what it does.
 /// Ending, state and count are those of the task's course over modules that were never planted.
@@ -51,18 +85,21 @@ pub fn run<O: Observer, H: Hook<O>>(
     ensures set { H.way.IsSet hook.new observer.now pass.new bench.new.control result.done }
     ensures memory { memory_at bench.new ≡ memory_at bench.old }
     ensures ends { EndsAs H.way hook.old budget bench.old bench.new result }
-    ensures goes { GoesAs O.Makes O.Answers H.way observer.now tables.now budget hook.old pass.old bench.old hook.new pass.new bench.new }
+    ensures goes { GoesAs O.Observer H.way observer.now tables.now budget hook.old pass.old bench.old hook.new pass.new bench.new }
 {
+    let mut last = 0;
+    let mut end = Ending::Spent;
     for done in 0..budget {
         let at = bench.cpu.at();
-        if has_returned(&bench.cpu) {
+        let Some(place) = comes_to(tables, last, &bench.cpu) else {
             return TaskEnd {
                 ending: Ending::Returned,
                 done,
                 at,
             };
-        }
-        let next = step(observer, pass, tables, bench, done);
+        };
+        last = number_or(place, last);
+        let next = step(observer, pass, tables, bench, done, place, &mut end);
         if let Next::Ended(ending) = hook.behind(observer, pass, tables, bench, done + 1, next) {
             return TaskEnd {
                 ending,

@@ -8,7 +8,7 @@ use Rattle.observed_step.proofs.CourseLemmas.{course-returned, course-none, cour
 use Rattle.observed_step.specs.Meaning.{After, Tour, Turn, calls_of, course_on, step_behind, turn_of, visits_of, with_cpu}
 use Rattle.brk_table.specs.Meaning.{TablesView}
 use Rattle.observed_step.specs.Hooks.{Way}
-use Rattle.observed_step.specs.Runs.{EndsAs, Goes, GoesAs, Stand, Takes, course_of, stand}
+use Rattle.observed_step.specs.Runs.{EndsAs, Goes, Stand, Takes, course_of, stand}
 use Rattle.observed_step.specs.Steps.{memory_at, stands}
 use Rattle.observed_step.specs.declared.bench.Bench.{Bench}
 use Rattle.observed_step.specs.declared.task.TaskEnd.{TaskEnd}
@@ -86,7 +86,7 @@ module _ {H O P : Type 0} (makes : O → TablesView → P → List Visit → P �
     (plan : PlanView) (is : IsPlan plan) (notes : P → Notes) (budget : ℕ) (h g : H) (p q : P) (old new : Bench) (end : TaskEnd) where
   pub made_all :
       ((i : ℕ) (turn : Turn) (v w : Stand H P) → Takes makes answers way.Aside o t i turn v w → NotesTurn plan (notes v.pass) v.control turn (notes w.pass) w.control) →
-      EndsAs way h budget old new end → GoesAs makes answers way o t budget h p old g q new →
+      EndsAs way h budget old new end → Goes (Takes makes answers way.Aside o t) 0 (course_of way h budget old).turns (stand h p old) (stand g q new) →
       Made plan (notes p) (notes q) old.control new.control end.done (visits_of (course_of way h budget old).turns) (calls_of (course_of way h budget old).turns)
   made_all so ends goes =
       let tour = course_of way h budget old in

@@ -1,7 +1,9 @@
-use Rattle.std.proofs.Common.{◌≡◌, false, None, [], ◌∷◌, refl}
+use Rattle.std.proofs.Common.{◌≡◌, false, None, [], ◌∷◌, refl, subst, rules}
 use Rattle.s370_exec.specs.Meaning.{call_of, solo_step, ended, visit}
 use Rattle.s370_exec.proofs.StepLemmas.{solo_step-refused, solo_step-rest_refused}
-use Rattle.observed_step.specs.Steps.{memory_at, stands}
+use Rattle.observed_step.specs.Steps.{IsFetched, memory_at, stands}
+use Rattle.cov_base.specs.Meaning.{Visit}
+use Rattle.observed_step.proofs.FetchedLemmas.{own_begun}
 use Rattle.observed_step.proofs.CallLemmas.{call_of-refused, call_of-rest_refused}
 use Rattle.observed_step.proofs.instruction.step_far.Given as given
 use Rattle.observed_step.proofs.instruction.step_far.Goals as goal
@@ -46,3 +48,13 @@ returns-in-Err-fetch_rest-clause-steps g c = record {
     answered = g.met.O.Observer.no_call c.args.observer.now c.refused.new.pass c.args.bench.now.control;
   });
 }
+
+pub returns-clause-steps : goal.returns-clause-steps
+returns-clause-steps g c =
+    let goes = c.carry_on_apart.ensures.goes in
+    let fetched : IsFetched c.args.bench.now c.in-Ok-fetch_rest.code = search rules in
+    let own = own_begun c.args.bench.now c.args.done c.in-Ok-fetch_rest.code fetched c.at-at.result None c.at-at.ensures in
+    record {
+      memory = goes.memory;
+      does = goes.does c.args.pass.now (subst (λ (v : Visit). g.O.Observer.Makes c.args.observer.now c.args.tables.now c.args.pass.now (v ∷ []) c.begun.new.pass) own c.begun.ensures.makes);
+    }

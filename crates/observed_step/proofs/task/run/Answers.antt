@@ -1,24 +1,31 @@
-use Rattle.std.proofs.Common.{◌≡◌, ◌+◌, sym, ◌∙◌, arith}
+use Rattle.std.proofs.Common.{◌≡◌, ◌+◌, length, refl, sym, ◌∙◌, arith}
 use Rattle.s370_state.specs.declared.endings.Ending.TheVariants.{Returned}
 use Rattle.observed_step.specs.Runs.{Takes, course_of, stand}
-use Rattle.observed_step.specs.Steps.{stands}
+use Rattle.observed_step.specs.Steps.{memory_at, stands}
 use Rattle.observed_step.proofs.HookLemmas.{hooked_memory, hooked_turn, hooked_step, hooked_state}
+use Rattle.observed_step.proofs.KeptCode.{at_places}
+use Rattle.observed_step.proofs.PlaceLemmas.{exists_at_most}
 use Rattle.observed_step.proofs.RunLemmas.{Ran, LedTo-more, Ran-ended, Ran-returned, Ran-all}
 use Rattle.observed_step.proofs.task.run.Given as given
 use Rattle.observed_step.proofs.task.run.Goals as goal
+
+pub comes_to-requires-clause-codes : goal.comes_to-requires-clause-codes
+comes_to-requires-clause-codes g c = at_places (memory_at c.loop-done.bench) c.args.tables.now c.loop-done.invariant.can.places.kept
 
 pub loop-done-preserved : goal.loop-done-preserved
 loop-done-preserved g c =
     let same = c.loop-done.invariant.memory in
     let steps = c.step-next.ensures.steps in
     let does = c.behind.ensures.does in
+    let places = c.args.tables.now.places in
     record {
       can = c.behind.ensures.can;
       set = does.set;
       memory = hooked_memory steps does ∙ same;
+      last = c.number_or-last.ensures (length places) c.loop-done.invariant.last (exists_at_most places c.loop-done.bench.cpu.ia c.in-Some.place c.in-Some.ensures.placed);
       run = LedTo-more _ _ (Takes g.O.Observer.Makes g.O.Observer.Answers g.H.Hook.way.Aside c.args.observer.now c.args.tables.now)
           _ _ _ _ c.loop-done.done _ (stands c.loop-done.bench c.loop-done.done) _ (stand c.loop-done.hook c.loop-done.pass c.loop-done.bench) _ _
-          c.loop-done.invariant.run c.loop-done-test.true (sym c.if-has_returned.ensures) (rw same at (hooked_step steps does)) c.in_default.is (rw same at (hooked_state steps does))
+          c.loop-done.invariant.run c.loop-done-test.true (c.in-Some.ensures.goes_on refl) (rw same at (hooked_step steps does)) c.in_default-behind.is (rw same at (hooked_state steps does))
           (rw same at (hooked_turn steps does));
     }
 
@@ -31,7 +38,7 @@ ended g c =
     let steps = c.step-next.ensures.steps in
     let does = c.behind.ensures.does in
     Ran-ended _ _ (Takes g.O.Observer.Makes g.O.Observer.Answers g.H.Hook.way.Aside c.args.observer.now c.args.tables.now) _ _ _ _ c.loop-done.done _ (stands c.loop-done.bench c.loop-done.done) _ (stand c.loop-done.hook c.loop-done.pass c.loop-done.bench) _ _ _ _
-    c.loop-done.invariant.run c.loop-done-test.true (sym c.if-has_returned.ensures) (rw same at (hooked_step steps does)) c.in-Ended.is (rw same at (hooked_state steps does))
+    c.loop-done.invariant.run c.loop-done-test.true (c.in-Some.ensures.goes_on refl) (rw same at (hooked_step steps does)) c.in-Ended.is (rw same at (hooked_state steps does))
     (rw same at (hooked_turn steps does)) (sym c.at-at.ensures)
 
 pub returns-in-Ended-clause-ends : goal.returns-in-Ended-clause-ends
@@ -46,14 +53,14 @@ returns-in-Ended-clause-ends g c = let r = ended g c in record {
 pub returns-in-Ended-clause-goes : goal.returns-in-Ended-clause-goes
 returns-in-Ended-clause-goes g c = (ended g c).goes
 
-returned : (g : given.Over) (c : goal.Then-has_returned g) →
+returned : (g : given.Over) (c : goal.In_default g) →
     Ran (Takes g.O.Observer.Makes g.O.Observer.Answers g.H.Hook.way.Aside c.args.observer.now c.args.tables.now) (course_of g.H.Hook.way c.args.hook.now c.args.budget c.args.bench.now)
     (stand c.args.hook.now c.args.pass.now c.args.bench.now) (stand c.loop-done.hook c.loop-done.pass c.loop-done.bench)
     Returned (stands c.loop-done.bench c.loop-done.done) c.at-at.result c.loop-done.done
-returned g c = Ran-returned _ _ (Takes g.O.Observer.Makes g.O.Observer.Answers g.H.Hook.way.Aside c.args.observer.now c.args.tables.now) _ _ _ _ c.loop-done.done _ (stands c.loop-done.bench c.loop-done.done) _ _ c.loop-done.invariant.run (sym c.if-has_returned.ensures) (sym c.at-at.ensures)
+returned g c = Ran-returned _ _ (Takes g.O.Observer.Makes g.O.Observer.Answers g.H.Hook.way.Aside c.args.observer.now c.args.tables.now) _ _ _ _ c.loop-done.done _ (stands c.loop-done.bench c.loop-done.done) _ _ c.loop-done.invariant.run (c.in_default.ensures.returned refl) (sym c.at-at.ensures)
 
-pub returns-then-has_returned-clause-ends : goal.returns-then-has_returned-clause-ends
-returns-then-has_returned-clause-ends g c = let r = returned g c in record {
+pub returns-in_default-clause-ends : goal.returns-in_default-clause-ends
+returns-in_default-clause-ends g c = let r = returned g c in record {
   ending = r.ending;
   state = r.state;
   address = r.address;
@@ -61,8 +68,8 @@ returns-then-has_returned-clause-ends g c = let r = returned g c in record {
   most = let lt = c.loop-done-test.true in omega (arith, lt);
 }
 
-pub returns-then-has_returned-clause-goes : goal.returns-then-has_returned-clause-goes
-returns-then-has_returned-clause-goes g c = (returned g c).goes
+pub returns-in_default-clause-goes : goal.returns-in_default-clause-goes
+returns-in_default-clause-goes g c = (returned g c).goes
 
 all : (g : given.Over) (c : goal.After-at g) →
     Ran (Takes g.O.Observer.Makes g.O.Observer.Answers g.H.Hook.way.Aside c.args.observer.now c.args.tables.now) (course_of g.H.Hook.way c.args.hook.now c.args.budget c.args.bench.now)
