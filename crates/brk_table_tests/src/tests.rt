@@ -1,15 +1,16 @@
 //! A small module's listing, with one line changed at a time, the instructions kept of another, and the map of many places
 //! beside a search.
-ghost use Rattle.std.specs.Prelude.{◌≡◌, ◌≢◌, ◌+◌, ◌*◌, ◌/◌, ◌%◌, ◌<◌, length, IfOk, IfSome};
+ghost use Rattle.std.specs.Prelude.{◌≡◌, ◌≢◌, ◌+◌, ◌*◌, ◌/◌, ◌%◌, ◌<◌, IfOk, IfSome};
 ghost use Rattle.cov_base.specs.Meaning.{breakpoint};
 ghost use Rattle.brk_table.specs.Places.{IsPlace};
+ghost use Rattle.brk_table.specs.Unpacked.{AreAtPlaces};
 
 use brk_table::{BuildFault, LinePlaces, Table, Tables, build};
 use cov_base::{Addr, Kind, LINE_LIMIT, Name, NoMemory, PlaceNo};
 use listing_lines::ListingLines;
 use listing_reader::read_listing;
 use module_area::{Image, Images, Place};
-use s370_decode::{kind, length};
+use s370_decode::{kind, length, op_of};
 use std::alloc::Global;
 use std::test::Fail;
 
@@ -160,18 +161,31 @@ fn puts_the_places_in_order_of_address(rt: HostRuntime) -> Result<(), Fail> {
     Ok(())
 }
 
-/// The tables of a module and its listing, with the instructions of the places.
-fn kept_of(alloc: Global, texts: &[&[u8]], code: &[u8]) -> Result<Option<Tables>, NoMemory>
-    ensures { IfOk result (λ tables. IfSome tables (λ t. length t.codes ≡ length t.places)) }
+const KEPT: [&[u8]; 6] = [
+    HEADING,
+    LOAD,
+    b"000004 1A11                           2          AR",
+    b"000006 D203 1000 2004                 3          MVC",
+    b"00000C 1A11                           4          AR",
+    b"00000E 07FE                           5          BR",
+];
+
+const KEPT_BYTES: [u8; 16] = [
+    0x41, 0x10, 0x00, 0x05, 0x1A, 0x11, 0xD2, 0x03, 0x10, 0x00, 0x20, 0x04, 0x1A, 0x11, 0x07, 0xFE,
+];
+
+/// The tables of that module and its listing, with the instructions of the places.
+fn kept_tables(alloc: Global) -> Result<Option<Tables>, NoMemory>
+    ensures { IfOk result (λ tables. IfSome tables AreAtPlaces) }
 {
     let mut lines = ListingLines::new(alloc);
-    for text in texts {
+    for text in &KEPT {
         if text.len() <= LINE_LIMIT {
             lines.push(text)?;
         }
     }
-    let bytes = code.to_vec(alloc)?;
-    if lines.len() > 100 || bytes.len() != 14 {
+    let bytes = KEPT_BYTES.to_vec(alloc)?;
+    if lines.len() > 100 || bytes.len() != 16 {
         return Ok(None);
     }
     match (Name::read(b"M"), read_listing(alloc, &lines)) {
@@ -195,30 +209,45 @@ fn kept_of(alloc: Global, texts: &[&[u8]], code: &[u8]) -> Result<Option<Tables>
 
 #[test]
 fn keeps_the_instruction_of_each_place(rt: HostRuntime) -> Result<(), Fail> {
-    let page: [&[u8]; 5] = [
-        HEADING,
-        LOAD,
-        b"000004 1A11                           2          AR",
-        b"000006 D203 1000 2004                 3          MVC",
-        b"00000C 07FE                           4          BR",
-    ];
-    let bytes = [
-        0x41, 0x10, 0x00, 0x05, 0x1A, 0x11, 0xD2, 0x03, 0x10, 0x00, 0x20, 0x04, 0x07, 0xFE,
-    ];
-    if let Some(tables) = kept_of(rt.alloc(), &page, &bytes)? {
+    if let Some(tables) = kept_tables(rt.alloc())? {
         let codes = [
             (0x100000, [0x41, 0x10, 0x00, 0x05, 0, 0], 4),
             (0x100004, [0x1A, 0x11, 0, 0, 0, 0], 2),
             (0x100006, [0xD2, 0x03, 0x10, 0x00, 0x20, 0x04], 6),
-            (0x10000C, [0x07, 0xFE, 0, 0, 0, 0], 2),
+            (0x10000C, [0x1A, 0x11, 0, 0, 0, 0], 2),
+            (0x10000E, [0x07, 0xFE, 0, 0, 0, 0], 2),
         ];
-        assert_eq!(rt; tables.len(), 4);
+        assert_eq!(rt; tables.len(), 5);
         for (n, (at, bytes, len)) in codes.iter().enumerate() {
             if n < tables.len() as usize {
                 let code = tables.code(PlaceNo(n as u32));
                 assert_eq!(rt; code.at.get(), *at);
                 assert_eq!(rt; code.bytes, *bytes);
                 assert_eq!(rt; code.len, *len);
+            }
+        }
+        return Ok(());
+    }
+    assert!(rt; false);
+    Ok(())
+}
+
+#[test]
+fn unpacks_the_instruction_of_each_place_and_finds_the_next(rt: HostRuntime) -> Result<(), Fail> {
+    if let Some(tables) = kept_tables(rt.alloc())? {
+        assert_eq!(rt; tables.len(), 5);
+        for n in 0..tables.len() {
+            let code = tables.code(PlaceNo(n));
+            let kept = tables.kept(PlaceNo(n));
+            assert_eq!(rt; kept.code.at.get(), code.at.get());
+            assert_eq!(rt; kept.code.bytes, code.bytes);
+            assert_eq!(rt; kept.code.len, code.len);
+            assert!(rt; kept.op == op_of(code.first_half()));
+            assert_eq!(rt; kept.next.get(), code.at.plus(u32::from(code.len)).get());
+            for k in 0..tables.len() {
+                let at = tables.place(PlaceNo(k)).at;
+                let next = if k == n + 1 { tables.at(at) } else { None };
+                assert!(rt; tables.next_at(n, at) == next);
             }
         }
         return Ok(());
