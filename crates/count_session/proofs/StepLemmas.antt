@@ -7,13 +7,14 @@ use native.Mathlib.Decide.{ℕ_discrete}
 use lib.ListN.{get_elem?}
 use Rattle.atomic_table.specs.Table.{State, Me, keeps, Allows, Splits, Joins}
 use Rattle.cov_base.specs.Meaning.{breakpoint}
-use Rattle.module_area.specs.Rule.{total}
+use Rattle.module_area.specs.Rule.{total, has_number}
 use Rattle.module_area.specs.Meaning.{PlanView, original_at, window_at}
 use Rattle.module_area.proofs.PartyLemmas.{at_put, set_else, at_longer, all_set, all_snoc, all_two, total-set, total_two}
 use Rattle.count_session.specs.declared.rule.NoSlot.{NoSlot}
 use Rattle.count_session.specs.declared.rule.CountView.{CountView}
-use Rattle.count_session.specs.Words.{cell_of, planted_word, word_count}
-use Rattle.count_session.specs.Rule.{has_number, times, spent_view, planting, fetching, adding, giving, newcomer, joining, cell_word, IsView, IsRoot, IsCounting, Fetched}
+use Rattle.module_area.specs.Words.{cell_of}
+use Rattle.count_session.specs.Words.{planted_word, word_count}
+use Rattle.count_session.specs.Rule.{times, spent_view, planting, fetching, adding, giving, newcomer, joining, cell_word, IsView, IsRoot, IsCounting, Fetched}
 use Rattle.count_session.proofs.WordLemmas.{cell_there}
 use Rattle.count_session.proofs.ViewLemmas.{total_end, at_below, times-append, sum_most}
 

@@ -4,16 +4,13 @@ use mathlib.Core.Option.{some}
 use lib.ListN.{get_elem?}
 use Rattle.atomic_table.specs.Table.{State}
 use Rattle.cov_base.specs.FactKind.{is_of_kind}
-use Rattle.module_area.specs.Rule.{total, IsPlan}
+use Rattle.module_area.specs.Rule.{total, IsPlan, has_number}
 use Rattle.module_area.specs.Meaning.{PlanView, original_at, kind_at, window_at}
 use Rattle.count_session.specs.declared.rule.NoSlot.{NoSlot}
 use Rattle.count_session.specs.declared.rule.CountView.{CountView}
 use Rattle.count_session.specs.Notes.{CountNotes, cell_at}
-use Rattle.count_session.specs.Words.{cell_of, planted_word, count_word, word_count}
-
-abbrev pub has_number : ℕ → List ℕ → Bool
-has_number p [] = false
-has_number p (q ∷ qs) = has_number p qs || nat_eq p q
+use Rattle.module_area.specs.Words.{cell_of}
+use Rattle.count_session.specs.Words.{planted_word, count_word, word_count}
 
 -- how often the number stands in the list
 abbrev pub times : ℕ → List ℕ → ℕ

@@ -7,10 +7,6 @@ use Rattle.module_area.specs.declared.cells.Cell.{Cell}
 use Rattle.module_area.specs.declared.places.Place.{Place}
 use Rattle.module_area.specs.Meaning.{PlanView}
 
--- the tag above the halfword
-abbrev pub cell_of : ℕ → Cell
-cell_of w = record { tag = w / 65536; half = w % 65536 }
-
 -- the word of the breakpoint of session s
 abbrev pub planted_word : ℕ → ℕ
 planted_word s = (2 * s - 1) * 65536 + breakpoint
@@ -31,10 +27,3 @@ words_of n = if nat_eq n 0 then 1 else 3 * n
 
 abbrev pub word_count : PlanView → ℕ
 word_count plan = words_of (length plan.places)
-
-abbrev pub original_of : Place → ℕ
-original_of p = p.original
-
--- nothing is planted, nothing counted
-abbrev pub starting : PlanView → List ℕ
-starting plan = map original_of plan.places ++ replicate (word_count plan - length plan.places) 0

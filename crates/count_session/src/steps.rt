@@ -7,9 +7,9 @@ ghost use Rattle.count_session.specs.Passes.{IsPassOf, notes_of, plan_in};
 
 use crate::cells::CountCells;
 use crate::pass::CountPass;
-use crate::words::{cell, count_word, planted_word};
+use crate::words::{count_word, planted_word};
 use cov_base::{Fact, PlaceNo};
-use module_area::Cell;
+use module_area::{Cell, cell};
 use std::marker::Brand;
 
 impl CountCells {

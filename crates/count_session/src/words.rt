@@ -1,21 +1,10 @@
 //! How a cell lies in its word, and where the counts lie.
 ghost use Rattle.std.specs.Prelude.{◌≡◌, ◌*◌, ◌/◌, ◌^◌, ◌<◌, ◌≤◌, length};
 ghost use Rattle.module_area.specs.Rule.{IsPlan};
-ghost use Rattle.count_session.specs.Words.{cell_of, planted_word, count_index, count_word, word_count};
+ghost use Rattle.count_session.specs.Words.{planted_word, count_index, count_word, word_count};
 
 use cov_base::{BREAKPOINT, Fact, PlaceNo};
-use module_area::{Cell, Plan};
-
-/// The cell of a word.
-pub(crate) fn cell(word: u64) -> Cell
-    requires { word / 65536 < 2 ^ 32 }
-    ensures { result ≡ cell_of word }
-{
-    Cell {
-        tag: (word / 65536) as u32,
-        half: (word % 65536) as u16,
-    }
-}
+use module_area::Plan;
 
 /// The word of a session's breakpoint.
 pub(crate) fn planted_word(session: u32) -> u64

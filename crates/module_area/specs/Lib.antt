@@ -10,3 +10,4 @@ pub mod PlanView
 pub mod Rule
 pub mod Standing
 pub mod Tied
+pub mod Words

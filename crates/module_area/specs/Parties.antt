@@ -1,5 +1,5 @@
 -- What a party has done and knows, as lists, and what each kind of step adds to them.
-use Rattle.std.specs.Prelude.{ℕ, ◌+◌, ◌-◌, ◌*◌, Bool, not, nat_eq, None, List, [], ◌∷◌, ◌++◌}
+use Rattle.std.specs.Prelude.{ℕ, ◌*◌, Bool, not, nat_eq, None, List, [], ◌∷◌, ◌++◌}
 use Rattle.cov_base.specs.Meaning.{FactSet}
 use Rattle.module_area.specs.declared.parties.Role.{Role}
 use Rattle.module_area.specs.declared.parties.Role.TheVariants.{Task}

@@ -1,5 +1,5 @@
 -- The rule of an area: what holds of its cells, its sets and all parties' notes at every moment.
-use Rattle.std.specs.Prelude.{◌≡◌, ◌≢◌, ℕ, ◌<◌, ◌≤◌, Bool, true, ◌&&◌, nat_eq, List, [], length, AllPairs, All, Contains, ◌⊎◌, ◌+◌, ◌-◌, ◌*◌, ◌%◌, false, not, if◌then◌else◌, Some, None, ◌∷◌, ◌++◌}
+use Rattle.std.specs.Prelude.{◌≡◌, ◌≢◌, ℕ, ◌<◌, ◌≤◌, Bool, true, ◌&&◌, ◌||◌, nat_eq, List, [], length, AllPairs, All, Contains, ◌⊎◌, ◌+◌, ◌-◌, ◌*◌, ◌%◌, false, if◌then◌else◌, Some, None, ◌∷◌, ◌++◌}
 use Rattle.std.specs.List.{list_any}
 use Rattle.cov_base.specs.Meaning.{breakpoint, kind_of, FactSet, with_fact, is_full, has_fact}
 use Rattle.cov_base.specs.declared.limits.TheConstants.{PLACE_LIMIT, SESSION_LIMIT}
@@ -59,6 +59,10 @@ Has x (y ∷ ys) = (y ≡ x) ⊎ Has x ys
 abbrev pub add_if : {X : Type 0} → Bool → X → List X → List X
 add_if true x xs = x ∷ xs
 add_if false x xs = xs
+
+abbrev pub has_number : ℕ → List ℕ → Bool
+has_number i [] = false
+has_number i (j ∷ js) = has_number i js || nat_eq i j
 
 -- how often the pair stands in the list
 abbrev pub times : ℕ → ℕ → List (ℕ × ℕ) → ℕ

@@ -12,6 +12,7 @@ mod places;
 mod plan;
 mod tallies;
 mod traits;
+mod words;
 
 pub use areas::Areas;
 pub use cells::Cell;
@@ -23,3 +24,4 @@ pub use places::Place;
 pub use plan::{Controlled, Plan};
 pub use tallies::Tally;
 pub use traits::{Cells, Drains, Forks};
+pub use words::{cell, first_words};

@@ -1,5 +1,5 @@
 -- The words of a new area keep the rule, and how the sets are read in the end.
-use Rattle.std.proofs.Common.{◌≡◌, ℕ, zero, suc, ◌+◌, ◌-◌, ◌*◌, ◌/◌, ◌%◌, ◌<◌, ◌≤◌, Bool, true, false, nat_eq, if◌then◌else◌, List, [], ◌∷◌, ◌++◌, map, length, replicate, get_or, take, sym, refl, ap, ◌∙◌, subst, arith, length-append, suc-mul}
+use Rattle.std.proofs.Common.{◌≡◌, ℕ, zero, suc, ◌+◌, ◌-◌, ◌*◌, ◌/◌, ◌%◌, ◌<◌, Bool, true, false, nat_eq, if◌then◌else◌, List, [], ◌∷◌, ◌++◌, length, get_or, take, sym, refl, ap, ◌∙◌, subst, arith, length-append, suc-mul}
 use mathlib.Core.Logic.{dite}
 use mathlib.Core.Option.{some, some-injective, some-ne-none}
 use native.Mathlib.Decide.{ℕ_discrete}
@@ -7,7 +7,7 @@ use lib.ListN.{get_elem?}
 use Rattle.std.proofs.Math.Seq.{get_or-append_seam}
 use Rattle.std.proofs.lemmas.Nat.{div-mul-add, mod-mul-add}
 use Rattle.std.proofs.lemmas.Nat.Bits.{bit_at-zero}
-use Rattle.std.proofs.lemmas.List.{get_or-map, get_or-take, get_or-append_right, get_or_append_left, length-map, length-replicate}
+use Rattle.std.proofs.lemmas.List.{get_or-take, get_or_append_left}
 use Rattle.atomic_table.specs.Table.{opening}
 use Rattle.cov_base.specs.declared.facts.Fact.{Fact}
 use Rattle.cov_base.specs.declared.facts.Fact.TheVariants.{Ran, Went, Stayed}
@@ -15,18 +15,15 @@ use Rattle.cov_base.specs.declared.facts.Kind.{Kind}
 use Rattle.cov_base.specs.declared.facts.Kind.TheVariants.{Straight, Conditional}
 use Rattle.cov_base.specs.Meaning.{FactSet, has_fact, no_facts}
 use Rattle.module_area.specs.declared.parties.Role.TheVariants.{Root}
-use Rattle.module_area.specs.Meaning.{PlanView, original_at, kind_at, no_place}
+use Rattle.module_area.specs.Meaning.{PlanView, original_at, kind_at}
 use Rattle.module_area.specs.Rule.{IsPlan, has_task, blank, untouched}
 use Rattle.module_area.proofs.BeginLemmas.{begins, begins_drained}
-use Rattle.shared_area.specs.Words.{cell_of, bit_of, has_bit, facts_of, set_word, base_of, word_count, front, task_word, cells_in, sets_in, numbers_in}
-use Rattle.shared_area.specs.Begin.{original_of, starting, AllFit, AreSets}
+use Rattle.module_area.proofs.WordLemmas.{first_cell, zero_behind, starting_count}
+use Rattle.module_area.specs.Words.{cell_of, starting, AllFit}
+use Rattle.shared_area.specs.Words.{bit_of, has_bit, facts_of, set_word, base_of, word_count, front, task_word, cells_in, sets_in, numbers_in}
+use Rattle.shared_area.specs.Sets.{AreSets}
 use Rattle.shared_area.specs.Rule.{IsArea}
 use Rattle.shared_area.proofs.WordLemmas.{same_cell, cell_front, words_enough}
-
-zeroes : (n i : ℕ) → ◌≡◌ {A = ℕ} (get_or (replicate n 0) i 0) 0
-zeroes zero i = refl
-zeroes (suc n) zero = refl
-zeroes (suc n) (suc i) = zeroes n i
 
 -- a word that is 0 is so among the first ones, and none stands behind these
 zero_front : (n i : ℕ) (xs : List ℕ) → ◌≡◌ {A = ℕ} (get_or xs i 0) 0 → ◌≡◌ {A = ℕ} (get_or (take n xs) i 0) 0
@@ -47,34 +44,25 @@ nothing Conditional p Went h = no_bit (bit_of p Went) h
 nothing Conditional p Stayed h = no_bit (bit_of p Stayed) h
 
 module _ (plan : PlanView) (ok : IsPlan plan) (fits : AllFit plan (length plan.places)) where
-  abbrev idle : List ℕ
-  idle = replicate (word_count plan - length plan.places) 0
+  abbrev words : List ℕ
+  words = starting plan (word_count plan)
 
-  first_cell : (p : ℕ) → p < length plan.places → get_or (starting plan) p 0 ≡ original_at plan p
-  first_cell p l = get_or_append_left (map original_of plan.places) idle 0 p (let e = length-map plan.places original_of in omega arith) ∙ get_or-map original_of plan.places p no_place 0 l
+  first_set : (s p : ℕ) → get_or (front plan words) (set_word (length plan.places) s p) 0 ≡ 0
+  first_set s p = zero_front (base_of plan) (set_word (length plan.places) s p) words (zero_behind plan (word_count plan) (set_word (length plan.places) s p) (omega arith))
 
-  -- no word behind the cells has a bit
-  rest_zero : (i : ℕ) → length plan.places ≤ i → get_or (starting plan) i 0 ≡ 0
-  rest_zero i past = get_or-append_right (map original_of plan.places) idle (length plan.places) i 0 (length-map plan.places original_of) past
-      ∙ zeroes (word_count plan - length plan.places) (i - length plan.places)
+  plain : (p : ℕ) → p < length plan.places → cells_in (front plan words) p ≡ untouched (original_at plan p)
+  plain p l = let f = fits p l in ap cell_of (get_or-take (base_of plan) words p 0 (cell_front plan p l) ∙ first_cell plan (word_count plan) p l) ∙ same_cell (cell_of (original_at plan p)) (untouched (original_at plan p)) (omega arith) (omega arith)
 
-  first_set : (s p : ℕ) → get_or (front plan (starting plan)) (set_word (length plan.places) s p) 0 ≡ 0
-  first_set s p = zero_front (base_of plan) (set_word (length plan.places) s p) (starting plan) (rest_zero (set_word (length plan.places) s p) (omega arith))
-
-  plain : (p : ℕ) → p < length plan.places → cells_in (front plan (starting plan)) p ≡ untouched (original_at plan p)
-  plain p l = let f = fits p l in ap cell_of (get_or-take (base_of plan) (starting plan) p 0 (cell_front plan p l) ∙ first_cell p l) ∙ same_cell (cell_of (original_at plan p)) (untouched (original_at plan p)) (omega arith) (omega arith)
-
-  no_number : (t : ℕ) (b : Bool) → (if b then get_or (starting plan) (task_word plan t) 0 else 0) ≡ 0
-  no_number t true = rest_zero (task_word plan t) (omega arith)
+  no_number : (t : ℕ) (b : Bool) → (if b then get_or words (task_word plan t) 0 else 0) ≡ 0
+  no_number t true = zero_behind plan (word_count plan) (task_word plan t) (omega arith)
   no_number t false = refl
 
-  pub begins_area : IsArea plan (opening (starting plan) [] (blank Root))
-  begins_area = let F : List ℕ = front plan (starting plan) in record {
-    wide = let a = length-append (map original_of plan.places) idle in let b = length-map plan.places original_of in let c = length-replicate (word_count plan - length plan.places) zero in
-        let d = words_enough plan in omega (arith, a, b, c, d);
+  pub begins_area : IsArea plan (opening words [] (blank Root))
+  begins_area = let F : List ℕ = front plan words in record {
+    wide = let d = words_enough plan in let n = starting_count plan (word_count plan) (omega (arith, d)) in omega (arith, n, d);
     rooted = (blank Root, refl, refl);
     held = begins plan (cells_in F) (sets_in plan F) ok plain (λ s p f _ _ h. nothing (kind_at plan p) p f (subst (λ w. has_fact (facts_of (kind_at plan p) p w) f ≡ true) (first_set s p) h));
-    drained = begins_drained plan (cells_in F) (sets_in plan F) (numbers_in plan (starting plan)) (λ t. no_number t (has_task plan.tasks t));
+    drained = begins_drained plan (cells_in F) (sets_in plan F) (numbers_in plan words) (λ t. no_number t (has_task plan.tasks t));
   }
 
 -- ---- the sets as they are read in the end

@@ -16,7 +16,8 @@ use Rattle.module_area.specs.Notes.{own_number, is_working}
 use Rattle.module_area.specs.Parties.{giving, role_task}
 use Rattle.shared_area.specs.declared.rule.NoSlot.{NoSlot}
 use Rattle.shared_area.specs.declared.cells.SharedCells.{SharedCells}
-use Rattle.shared_area.specs.Words.{cell_of, word_of, closed_word_of, bit_of, facts_of, set_word, task_word}
+use Rattle.module_area.specs.Words.{cell_of}
+use Rattle.shared_area.specs.Words.{word_of, closed_word_of, bit_of, facts_of, set_word, task_word}
 use Rattle.shared_area.specs.Told.{is_given, bears_as, notes_in}
 use Rattle.shared_area.specs.Rule.{IsArea, MayFetch, Fetched, MayMark, Marked, Looked, Lifted, SetRead}
 use Rattle.shared_area.proofs.Picked.{Tagged, Bounded, WordNoted, tag_in, session_in, task_at}

@@ -14,15 +14,15 @@ use Rattle.module_area.specs.declared.parties.View.{View}
 use Rattle.module_area.specs.declared.parties.Role.TheVariants.{Root}
 use Rattle.module_area.specs.declared.tallies.Tally.{Tally}
 use Rattle.module_area.specs.Meaning.{PlanView, kind_at, window_at, FinalsView, set_at}
-use Rattle.module_area.specs.Rule.{Has, last_tag, Held}
+use Rattle.module_area.specs.Rule.{Has, last_tag, Held, has_number}
 use Rattle.module_area.specs.Drained.{Drained}
 use Rattle.module_area.specs.Ended.{AreSettled, HasSets, HasTally}
 use Rattle.module_area.proofs.Indices.{index_below, same_tests}
 use Rattle.module_area.proofs.CountLemmas.{count_same}
 use Rattle.shared_area.specs.declared.rule.NoSlot.{NoSlot}
 use Rattle.shared_area.specs.Words.{facts_of, set_word, base_of, front, cells_in, sets_in, numbers_in}
-use Rattle.shared_area.specs.Begin.{AreSets}
-use Rattle.shared_area.specs.Told.{has_mark, has_number, notes_in}
+use Rattle.shared_area.specs.Sets.{AreSets}
+use Rattle.shared_area.specs.Told.{has_mark, notes_in}
 use Rattle.shared_area.specs.Rule.{IsArea}
 use Rattle.shared_area.proofs.NoteLemmas.{seen_most, settled_there, mark_there, mark_shown, pair_there, pair_shown, number_there, number_shown}
 use Rattle.shared_area.proofs.WordLemmas.{set_front}

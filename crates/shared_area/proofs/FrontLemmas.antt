@@ -23,7 +23,8 @@ use Rattle.module_area.specs.Drained.{Drained}
 use Rattle.module_area.proofs.ForkLemmas.{splits, joins}
 use Rattle.module_area.proofs.DrainLemmas.{mark_drained, cell_drained, fetch_drained, split_drained, join_drained}
 use Rattle.shared_area.specs.declared.rule.NoSlot.{NoSlot}
-use Rattle.shared_area.specs.Words.{cell_of, word_of, closed_word_of, bit_of, facts_of, set_word, cells_in, sets_in, base_of, front, task_word, numbers_in}
+use Rattle.module_area.specs.Words.{cell_of}
+use Rattle.shared_area.specs.Words.{word_of, closed_word_of, bit_of, facts_of, set_word, cells_in, sets_in, base_of, front, task_word, numbers_in}
 use Rattle.shared_area.specs.Rule.{IsArea, Fetched, MayMark, Marked, Looked, Lifted}
 use Rattle.shared_area.proofs.Picked.{IsFront, Tagged}
 use Rattle.shared_area.proofs.WordLemmas.{cell_of-word_of, cell_of-closed_word_of, cell_front, set_front}

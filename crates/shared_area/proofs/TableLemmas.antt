@@ -18,7 +18,8 @@ use Rattle.module_area.specs.Parties.{closing}
 use Rattle.module_area.proofs.CellLemmas.{lifts, plants, closes}
 use Rattle.module_area.proofs.StepLemmas.{fetches, marks}
 use Rattle.shared_area.specs.declared.rule.NoSlot.{NoSlot}
-use Rattle.shared_area.specs.Words.{cell_of, word_of, closed_word_of, bit_of, facts_of, set_word, base_of, cells_in, sets_in}
+use Rattle.module_area.specs.Words.{cell_of}
+use Rattle.shared_area.specs.Words.{word_of, closed_word_of, bit_of, facts_of, set_word, base_of, cells_in, sets_in}
 use Rattle.shared_area.specs.Rule.{Fetched, MayMark, Marked, Looked, Lifted}
 use Rattle.shared_area.proofs.Picked.{IsFront, Tagged}
 use Rattle.shared_area.proofs.NoteLemmas.{pair_there}

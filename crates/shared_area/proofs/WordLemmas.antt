@@ -13,7 +13,8 @@ use Rattle.cov_base.specs.FactKind.{is_of_kind}
 use Rattle.module_area.specs.declared.cells.Cell.{Cell}
 use Rattle.module_area.specs.Rule.{lifted, closed, has_task, window_tag}
 use Rattle.module_area.specs.Meaning.{PlanView, tag_session}
-use Rattle.shared_area.specs.Words.{cell_of, word_of, closed_word_of, bit_of, has_bit, facts_of, session_words, set_word, base_of, word_count, position, task_word}
+use Rattle.module_area.specs.Words.{cell_of}
+use Rattle.shared_area.specs.Words.{word_of, closed_word_of, bit_of, has_bit, facts_of, session_words, set_word, base_of, word_count, position, task_word}
 use Rattle.shared_area.proofs.Picked.{tag_in, session_in, no_task, task_at}
 
 pub same_cell : (c d : Cell) → c.tag ≡ d.tag → c.half ≡ d.half → c ≡ d

@@ -1,6 +1,6 @@
-pub mod Begin
 pub mod Late
 pub mod Passes
 pub mod Rule
+pub mod Sets
 pub mod Told
 pub mod Words

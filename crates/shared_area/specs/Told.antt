@@ -5,7 +5,7 @@ use Rattle.cov_base.specs.Meaning.{FactSet, same_fact}
 use Rattle.module_area.specs.declared.parties.Role.{Role}
 use Rattle.module_area.specs.declared.parties.Role.TheVariants.{Task}
 use Rattle.module_area.specs.declared.parties.View.{View}
-use Rattle.module_area.specs.Rule.{last_tag}
+use Rattle.module_area.specs.Rule.{last_tag, has_number}
 use Rattle.module_area.specs.declared.tallies.Tally.{Tally}
 use Rattle.module_area.specs.Notes.{Notes, NotedView, same_set}
 
@@ -20,10 +20,6 @@ has_pair s p (x ∷ xs) = has_pair s p xs || (nat_eq s x.0 && nat_eq p x.1)
 abbrev pub has_settled : ℕ → ℕ → FactSet → List (ℕ × ℕ × FactSet) → Bool
 has_settled s p x [] = false
 has_settled s p x (y ∷ ys) = has_settled s p x ys || (nat_eq s y.0 && nat_eq p y.1 && same_set y.2 x)
-
-abbrev pub has_number : ℕ → List ℕ → Bool
-has_number t [] = false
-has_number t (u ∷ us) = has_number t us || nat_eq t u
 
 -- the highest tag at the place
 abbrev pub seen_at : ℕ → List (ℕ × ℕ) → ℕ

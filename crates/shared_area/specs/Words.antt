@@ -10,10 +10,7 @@ use Rattle.cov_base.specs.declared.numbers.TaskNo.{TaskNo}
 use Rattle.module_area.specs.declared.cells.Cell.{Cell}
 use Rattle.module_area.specs.Meaning.{PlanView, kind_at}
 use Rattle.module_area.specs.Rule.{has_task}
-
--- the tag above the halfword
-abbrev pub cell_of : ℕ → Cell
-cell_of w = record { tag = w / 65536; half = w % 65536 }
+use Rattle.module_area.specs.Words.{cell_of}
 
 -- the word of a cell under the tag of session s's window
 abbrev pub word_of : ℕ → ℕ → ℕ

@@ -6,13 +6,14 @@ ghost use Rattle.module_area.specs.Meaning.{set_at};
 ghost use Rattle.module_area.specs.Ended.{AreSettled, HasSets, HasTally};
 ghost use Rattle.shared_area.specs.Passes.{notes_of, IsPassOf};
 
-use crate::begin::{first_words, last_sets};
 use crate::cells::SharedCells;
 use crate::forks::NO_TALLY;
 use crate::pass::SharedPass;
+use crate::sets::last_sets;
+use crate::words::count;
 use atomic_table::Table;
 use cov_base::NoMemory;
-use module_area::{Areas, Finals, Plan, Tally};
+use module_area::{Areas, Finals, Plan, Tally, first_words};
 use std::alloc::Global;
 use std::marker::Model;
 use std::snapshot::Snapshot;
@@ -60,7 +61,7 @@ fn new_area(alloc: Global, plan: &Plan) -> Result<(SharedCells, SharedPass), NoM
     ensures root { IfOk result (λ a. notes_of a.1 ≡ root_notes) }
 {
     let plan = plan.to_plan(alloc)?;
-    let words = first_words(alloc, &plan)?;
+    let words = first_words(alloc, &plan, count(&plan))?;
     let key = Snapshot::of(&plan);
     let (table, seat) = Table::of_words(alloc, words.as_slice(), &key)?;
     let root = SharedPass {

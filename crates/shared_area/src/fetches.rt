@@ -4,10 +4,9 @@ ghost use Rattle.shared_area.specs.Rule.{MayFetch, Fetched};
 
 use crate::cells::SharedCells;
 use crate::rule::{Fetch, Fetching, NoSlot};
-use crate::words::cell;
 use atomic_table::Seat;
 use cov_base::PlaceNo;
-use module_area::{Cell, View};
+use module_area::{Cell, View, cell};
 
 impl SharedCells {
     /// The cell as the load finds it.

@@ -3,7 +3,6 @@
 #![tactic(auto)]
 
 mod areas;
-mod begin;
 mod cells;
 #[cfg(test)]
 mod drained;
@@ -15,6 +14,7 @@ mod late;
 mod marks;
 mod pass;
 mod rule;
+mod sets;
 mod steps;
 #[cfg(test)]
 mod tests;

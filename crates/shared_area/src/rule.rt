@@ -68,7 +68,7 @@ impl Fetching for Brand {
 pub(crate) struct Fetch<K: Fetching>(PhantomData<K>);
 
 impl<K: Fetching> Play<NoSlot, View> for Fetch<K> {
-    ghost use Rattle.shared_area.specs.Words.{cell_of};
+    ghost use Rattle.module_area.specs.Words.{cell_of};
     ghost use Rattle.shared_area.specs.Rule.{Fetched};
 
     ghost then = { λ _ me w me'. Fetched K.plan K.place me.0 (cell_of w) me'.0 × (me'.1 ≡ me.1) };

@@ -3,21 +3,10 @@ ghost use Rattle.std.specs.Prelude.{◌≡◌, ◌+◌, ◌*◌, ◌/◌, ◌%�
 ghost use Rattle.cov_base.specs.FactKind.{is_of_kind};
 ghost use Rattle.cov_base.specs.declared.facts.Kind.{Kind as Kinds};
 ghost use Rattle.module_area.specs.Rule.{IsPlan, has_task};
-ghost use Rattle.shared_area.specs.Words.{cell_of, has_bit, facts_of, bit_of, word_of, closed_word_of, session_words, set_word, base_of, word_count, position, task_word};
+ghost use Rattle.shared_area.specs.Words.{has_bit, facts_of, bit_of, word_of, closed_word_of, session_words, set_word, base_of, word_count, position, task_word};
 
 use cov_base::{Bits, Fact, Kind, PlaceNo, SessNo, TaskNo};
-use module_area::{Cell, Plan};
-
-/// The cell of a place's word.
-pub(crate) fn cell(word: u64) -> Cell
-    requires { word / 65536 < 2 ^ 32 }
-    ensures { result ≡ cell_of word }
-{
-    Cell {
-        tag: (word / 65536) as u32,
-        half: (word % 65536) as u16,
-    }
-}
+use module_area::Plan;
 
 /// The word of a cell under the tag of a session's window.
 pub(crate) fn window_word(session: u32, half: u16) -> u64

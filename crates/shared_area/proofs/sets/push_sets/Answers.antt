@@ -4,9 +4,9 @@ use lib.ListN.{get_elem?}
 use Rattle.std.specs.Slots.{slots_items}
 use Rattle.cov_base.specs.Meaning.{FactSet}
 use Rattle.shared_area.specs.Words.{facts_of}
-use Rattle.shared_area.specs.Begin.{AreSets}
+use Rattle.shared_area.specs.Sets.{AreSets}
 use Rattle.shared_area.proofs.BeginLemmas.{next_set}
-use Rattle.shared_area.proofs.begin.push_sets.Goals as goal
+use Rattle.shared_area.proofs.sets.push_sets.Goals as goal
 
 pub loop-p-preserved : goal.loop-p-preserved
 loop-p-preserved c = let words = slots_items c.args.closed.now.words in let before = c.loop-p.invariant.0 in let more = c.in_ok-push.ensures.items in let long = length-append c.loop-p.sets.items (c.facts.result ∷ []) in (

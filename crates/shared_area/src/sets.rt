@@ -1,43 +1,15 @@
-//! How the words of an area begin and end.
-ghost use Rattle.std.specs.Prelude.{◌≡◌, ◌+◌, ◌*◌, ◌<◌, ◌≤◌, length, map, IfOk, OnOk};
+//! The sets that the words of an area show in the end.
+ghost use Rattle.std.specs.Prelude.{◌≡◌, ◌+◌, ◌*◌, ◌<◌, ◌≤◌, length, IfOk, OnOk};
 ghost use Rattle.std.specs.Slots.{slots_items, slots_len, IsFull};
 ghost use Rattle.shared_area.specs.Words.{word_count};
-ghost use Rattle.shared_area.specs.Begin.{starting, original_of, AllFit, AreSets};
-ghost use Rattle.module_area.specs.Rule.{IsPlan};
+ghost use Rattle.shared_area.specs.Sets.{AreSets};
 
 use crate::rule::NoSlot;
-use crate::words::{count, facts, word_at};
+use crate::words::{facts, word_at};
 use atomic_table::Closed;
 use cov_base::{Bits, PlaceNo, SessNo};
 use module_area::Plan;
 use std::alloc::{AllocError, Global};
-
-/// The words of the cells, which are the originals.
-fn cell_words(alloc: Global, plan: &Plan) -> Result<Vec<u64>, AllocError>
-    ensures value { IfOk result (λ v. v.items ≡ map original_of plan.now.places) }
-    ensures fits { OnOk result (AllFit plan.now (length plan.now.places)) }
-{
-    let mut words = Vec::with_capacity(alloc, count(plan))?;
-    for i in 0..plan.places_len() {
-        words.push(plan.original(PlaceNo(i)) as u64)?;
-    }
-    Ok(words)
-}
-
-/// Each cell has tag 0 and its original, and each set is empty.
-pub(crate) fn first_words(alloc: Global, plan: &Plan) -> Result<Vec<u64>, AllocError>
-    ensures value { IfOk result (λ v. v.items ≡ starting plan.now) }
-    ensures fits { OnOk result (AllFit plan.now (length plan.now.places)) }
-    ensures plan { IsPlan plan.now }
-{
-    let count = count(plan);
-    let mut words = cell_words(alloc, plan)?;
-    let sets = count - words.len();
-    for _ in 0..sets {
-        words.push(0)?;
-    }
-    Ok(words)
-}
 
 /// Adds the sets of a session, place by place.
 fn push_sets(
