@@ -8,6 +8,7 @@ from __future__ import annotations
 
 import random
 from dataclasses import dataclass, field
+from typing import Callable
 
 from hercules import BASE, MODULE, PRIVATE
 from machine_task import CODES
@@ -127,7 +128,7 @@ class Maker:
     def fill(self, at: int, data: bytes) -> None:
         """Puts an operand there, as far as that is private."""
         for n, it in enumerate(data):
-            if at + n < PRIVATE:
+            if at + n < len(self.private):
                 self.private[at + n] = it
 
     # ---- instructions
@@ -437,12 +438,13 @@ BY_CODE = {code: make for make, codes in MAKERS.items() for code in codes}
 EXECUTE = 0x44
 
 
-def task_of(draw: random.Random, code: int, name: str, module: bytearray, slot: int) -> Task:
+def task_of(draw: random.Random, code: int, name: str, module: bytearray, slot: int, maker: type[Maker] = Maker,
+            makes: Callable[[Maker, int], bytes] | None = None) -> Task:
     """A case of an operation; its instructions go into its slot of the module, or into private storage."""
-    it = Maker(draw, module, slot)
+    it = maker(draw, module, slot)
     is_executed = code == EXECUTE or draw.random() < 0.25
     shown = draw.choice(list(BY_CODE)) if code == EXECUTE else code
-    made = BY_CODE[shown](it, shown)
+    made = (makes or BY_CODE[shown])(it, shown)
     in_module = draw.random() < 0.4
     at = BASE + SLOT * slot if in_module else 2 * draw.randrange(0x60)
     text = bytes([0x04, draw.randrange(16) << 4])

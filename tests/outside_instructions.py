@@ -83,9 +83,11 @@ def job(module: bytes, tasks: list[tuple[operands.Task, int]], listing: list[str
 
 
 def cards(word: str, data: bytes) -> list[str]:
-    digits = data.hex()
-    numbered = range(0, len(digits), 128)
-    return [f"{word} {f'{at // 2} ' if word == 'DATA' else ''}{digits[at : at + 128]}" for at in numbered]
+    """Cards of bytes; DATA cards of zeros alone aren't needed."""
+    rows = [(at, data[at : at + 64]) for at in range(0, len(data), 64)]
+    if word == "DATA":
+        return [f"DATA {at} {row.hex()}" for at, row in rows if row.strip(b"\0")]
+    return [f"{word} {row.hex()}" for _, row in rows]
 
 
 def ended(text: str, tasks: list[operands.Task]) -> Iterator[Ended]:
