@@ -11,7 +11,7 @@ ghost use Rattle.check_exits.specs.Meaning.{with_exits};
 use crate::exits::Exit;
 use brk_table::Tables;
 use module_area::{Cells, Plan};
-use observed_step::run;
+use observed_step::{Watch, run};
 use s370_state::Ending;
 use svc_monitor::Planted;
 use task_run::Task;
@@ -40,7 +40,11 @@ pub fn run_under<C: Cells>(
     // Read for what every plan keeps.
     let _ = plan.places_len();
     let marks = Planted { cells, plan };
-    let end = run(&marks, pass, tables, exit, &mut task.bench, task.budget);
+    let watch = Watch {
+        observer: &marks,
+        tables,
+    };
+    let end = run(&watch, pass, exit, &mut task.bench, task.budget);
     task.done = end.done;
     end.ending
 }

@@ -17,7 +17,7 @@ use crate::drains::{Drain, Poll, Stage, drain_begin, drain_poll, drain_take, roo
 use brk_table::Tables;
 use cov_base::{NoMemory, SessNo, TaskNo};
 use module_area::{Control, Drains, Plan};
-use observed_step::{Bench, Hook, run};
+use observed_step::{Bench, Hook, Watch, run};
 use s370_state::{Ending, Next};
 use std::alloc::Global;
 use std::mem;
@@ -222,14 +222,11 @@ fn run_steps<C: Drains>(
         waits: false,
         opened: open_session(&task.bench.control),
     };
-    let end = run(
-        &marks,
-        pass,
+    let watch = Watch {
+        observer: &marks,
         tables,
-        &mut hook,
-        &mut task.bench,
-        task.budget,
-    );
+    };
+    let end = run(&watch, pass, &mut hook, &mut task.bench, task.budget);
     *drains = hook.drains;
     task.done = end.done;
     end.ending

@@ -8,6 +8,7 @@ use Rattle.observed_step.specs.Hooks.{Way}
 use Rattle.observed_step.specs.Steps.{memory_at, stands}
 use Rattle.observed_step.specs.declared.bench.Bench.{Bench}
 use Rattle.observed_step.specs.declared.observer.Observer as observer
+use Rattle.observed_step.specs.declared.observer.Watch.{Watch}
 use Rattle.observed_step.specs.declared.task.TaskEnd.{TaskEnd}
 
 -- hook, pass and control between two instructions
@@ -47,5 +48,5 @@ pub record EndsAs {H O P : Type 0} (way : Way H O P) (h : H) (budget : ℕ) (old
   pub most : end.done ≤ budget
 
 -- and hook, pass and control have gone through the turns of it
-abbrev pub GoesAs : {H O P : Type 0} → observer.Ghosts O P → Way H O P → O → TablesView → ℕ → H → P → Bench → H → P → Bench → Type 0
-GoesAs by way o t budget h p old g q new = Goes (Takes by.Makes by.Answers way.Aside o t) 0 (course_of way h budget old).turns (stand h p old) (stand g q new)
+abbrev pub GoesAs : {H O P : Type 0} → observer.Ghosts O P → Way H O P → Watch O → ℕ → H → P → Bench → H → P → Bench → Type 0
+GoesAs by way w budget h p old g q new = Goes (Takes by.Makes by.Answers way.Aside w.observer.now w.tables.now) 0 (course_of way h budget old).turns (stand h p old) (stand g q new)

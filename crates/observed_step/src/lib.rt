@@ -14,5 +14,5 @@ pub use bench::Bench;
 pub use calls::behind_call;
 pub use hook::{Hook, NoHook};
 pub use instruction::step;
-pub use observer::{Observer, Sight};
+pub use observer::{Observer, Sight, Watch};
 pub use task::{TaskEnd, run};

@@ -22,6 +22,13 @@ pub struct Sight {
     pub subject: bool,
 }
 
+/// What looks on, and over which places.
+#[derive(Drop)]
+pub struct Watch<'a, O> {
+    pub observer: &'a O,
+    pub tables: &'a Tables,
+}
+
 /// What looks on as tasks run. Of each task it has a pass, with which it notes what it is shown: each visit of the task, in
 /// order, and behind the visits of an instruction the supervisor call that the instruction executes, if it is one.
 pub trait Observer {

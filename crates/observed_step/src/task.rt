@@ -10,7 +10,7 @@ ghost use Rattle.observed_step.specs.Steps.{CanStep, memory_at};
 use crate::bench::Bench;
 use crate::hook::Hook;
 use crate::instruction::step;
-use crate::observer::Observer;
+use crate::observer::{Observer, Watch};
 use brk_table::Tables;
 use cov_base::{Addr, PlaceNo};
 use s370_exec::has_returned;
@@ -72,21 +72,21 @@ fn number_or(place: Option<PlaceNo>, other: u32) -> u32
 /// many instructions as its budget. The observer is shown each instruction, and behind that the hook does what it does.
 /// Ending, state and count are those of the task's course over modules that were never planted.
 pub fn run<O: Observer, H: Hook<O>>(
-    observer: &O,
+    watch: &Watch<'_, O>,
     pass: &mut O::Pass,
-    tables: &Tables,
     hook: &mut H,
     bench: &mut Bench<'_>,
     budget: u32,
 ) -> TaskEnd
-    requires can { CanStep O.IsReady O.IsTied observer.now tables.now pass.old bench.old 0 0 }
-    requires set { H.way.IsSet hook.old observer.now pass.old bench.old.control 0 }
-    ensures can { CanStep O.IsReady O.IsTied observer.now tables.now pass.new bench.new result.done 0 }
-    ensures set { H.way.IsSet hook.new observer.now pass.new bench.new.control result.done }
+    requires can { CanStep O.IsReady O.IsTied watch.now.observer.now watch.now.tables.now pass.old bench.old 0 0 }
+    requires set { H.way.IsSet hook.old watch.now.observer.now pass.old bench.old.control 0 }
+    ensures can { CanStep O.IsReady O.IsTied watch.now.observer.now watch.now.tables.now pass.new bench.new result.done 0 }
+    ensures set { H.way.IsSet hook.new watch.now.observer.now pass.new bench.new.control result.done }
     ensures memory { memory_at bench.new ≡ memory_at bench.old }
     ensures ends { EndsAs H.way hook.old budget bench.old bench.new result }
-    ensures goes { GoesAs O.Observer H.way observer.now tables.now budget hook.old pass.old bench.old hook.new pass.new bench.new }
+    ensures goes { GoesAs O.Observer H.way watch.now budget hook.old pass.old bench.old hook.new pass.new bench.new }
 {
+    let Watch { observer, tables } = *watch;
     let mut last = 0;
     let mut end = Ending::Spent;
     for done in 0..budget {

@@ -5,7 +5,7 @@ ghost use Rattle.task_alone.specs.Alone.{IgnoresCalls};
 ghost use Rattle.task_alone.specs.Ends.{Ran};
 
 use brk_table::Tables;
-use observed_step::{Bench, NoHook, Observer, TaskEnd, run};
+use observed_step::{Bench, NoHook, Observer, TaskEnd, Watch, run};
 use session_book::Service;
 use task_services::Services;
 
@@ -27,14 +27,15 @@ pub fn run_alone<O: Observer>(
     ensures most { result.done ≤ budget }
     ensures can { CanStep O.IsReady O.IsTied observer.now tables.now pass.new bench.new result.done 0 }
 {
+    let watch = Watch { observer, tables };
     match services {
-        None => run(observer, pass, tables, &mut NoHook, bench, budget),
+        None => run(&watch, pass, &mut NoHook, bench, budget),
         Some(services) => {
             let mut hook = Services {
                 services,
                 caller: None,
             };
-            run(observer, pass, tables, &mut hook, bench, budget)
+            run(&watch, pass, &mut hook, bench, budget)
         }
     }
 }

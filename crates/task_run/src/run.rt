@@ -11,7 +11,7 @@ ghost use Rattle.task_run.specs.Ran.{RanOver};
 use crate::tasks::Task;
 use brk_table::Tables;
 use module_area::{Cells, Plan};
-use observed_step::{NoHook, run};
+use observed_step::{NoHook, Watch, run};
 use s370_state::Ending;
 use svc_monitor::Planted;
 
@@ -41,14 +41,11 @@ pub fn run_task<C: Cells>(
     let _ = plan.places_len();
     let marks = Planted { cells, plan };
     let mut hook = NoHook;
-    let end = run(
-        &marks,
-        pass,
+    let watch = Watch {
+        observer: &marks,
         tables,
-        &mut hook,
-        &mut task.bench,
-        task.budget,
-    );
+    };
+    let end = run(&watch, pass, &mut hook, &mut task.bench, task.budget);
     task.done = end.done;
     end.ending
 }

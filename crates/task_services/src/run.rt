@@ -11,7 +11,7 @@ ghost use Rattle.task_services.specs.Meaning.{with_services};
 use crate::services::Services;
 use brk_table::Tables;
 use module_area::{Cells, Plan};
-use observed_step::run;
+use observed_step::{Watch, run};
 use s370_state::Ending;
 use session_book::Service;
 use svc_monitor::Planted;
@@ -45,14 +45,11 @@ pub fn run_under<C: Cells>(
         services,
         caller: None,
     };
-    let end = run(
-        &marks,
-        pass,
+    let watch = Watch {
+        observer: &marks,
         tables,
-        &mut hook,
-        &mut task.bench,
-        task.budget,
-    );
+    };
+    let end = run(&watch, pass, &mut hook, &mut task.bench, task.budget);
     task.done = end.done;
     end.ending
 }
