@@ -1,13 +1,13 @@
 -- What the claim of the program says by this crate's clauses.
 use Rattle.std.specs.Prelude.{ℕ, if◌then◌else◌, ◌==◌, Option, Some, None, slice_set}
-use Rattle.cov_base.specs.Meaning.{Memory, CpuView, Machine, State}
+use Rattle.cov_base.specs.Meaning.{Memory, CpuView, Machine}
 use Rattle.s370_state.specs.declared.endings.Ending.{Ending}
 use Rattle.s370_state.specs.declared.endings.Ending.TheVariants.{Abend, BadSvc}
 use Rattle.s370_state.specs.declared.endings.Next.{Next}
 use Rattle.s370_state.specs.declared.endings.Next.TheVariants.{On, Ended}
 use Rattle.s370_exec.specs.Meaning.{call_address}
-use Rattle.observed_step.specs.Meaning.{After, Behind, Tour, behind_call, course_on}
-use Rattle.task_run.specs.Meaning.{Course, toured}
+use Rattle.observed_step.specs.Meaning.{After, Behind, behind_call, course_on}
+use Rattle.task_run.specs.Meaning.{Course}
 
 -- A task with an exit for its program interruptions, which SVC 6 names.
 
@@ -50,8 +50,5 @@ by_next exit m s On = as_left exit s On
 by_next exit m s (Ended e) = by_ending exit m s e
 
 -- from the task's start, where it has no exit
-abbrev pub exit_tour : Memory → ℕ → State → Tour
-exit_tour m budget s = course_on by_next m budget None s
-
 abbrev pub with_exits : Course
-with_exits = toured exit_tour
+with_exits plan m budget s = course_on by_next m budget None s

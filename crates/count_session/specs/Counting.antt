@@ -9,6 +9,7 @@ use Rattle.count_session.specs.Passes.{IsPassOf, notes_of, plan_in}
 use Rattle.count_session.specs.declared.cells.CountCells.{CountCells}
 use Rattle.count_session.specs.declared.pass.CountPass.{CountPass}
 use Rattle.count_session.specs.Meaning.{count_at}
+use Rattle.observed_step.specs.Meaning.{visits_of}
 use Rattle.observed_step.specs.Steps.{memory_at, stands}
 use Rattle.s370_state.specs.declared.endings.Ending.{Ending}
 use Rattle.session_book.specs.declared.services.Service.{Service}
@@ -53,10 +54,10 @@ pub record RanCounted (services : Option (List Service)) (cells : CountCells) (p
   pub done : new.done ≤ old.budget
   pub ending : result ≡ (run_from (course_of services) (plan_in cells) old).ending
   pub state : stands new.bench new.done ≡ (run_from (course_of services) (plan_in cells) old).state
-  pub adds : Adds (plan_in cells) (notes_of cells p) (notes_of cells q) (run_from (course_of services) (plan_in cells) old).trace
+  pub adds : Adds (plan_in cells) (notes_of cells p) (notes_of cells q) (visits_of (run_from (course_of services) (plan_in cells) old).turns)
 
 -- so a task of a job with these services, whose storage is still there
 pub record HasRunCounted (services : Option (List Service)) (cells : CountCells) (p q : CountPass) (old new : Done) : Type 0 where
   pub result : done_result new ≡ result_of_run (own_run (course_of services) (plan_in cells) old)
   pub filled : length new.task.bench.space.bytes ≡ (memory_at old.task.bench).private
-  pub adds : Adds (plan_in cells) (notes_of cells p) (notes_of cells q) (own_run (course_of services) (plan_in cells) old).trace
+  pub adds : Adds (plan_in cells) (notes_of cells p) (notes_of cells q) (visits_of (own_run (course_of services) (plan_in cells) old).turns)

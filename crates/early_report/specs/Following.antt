@@ -4,7 +4,7 @@ use Rattle.std.specs.List.{list_any}
 use Rattle.module_area.specs.Meaning.{PlanView, ControlView}
 use Rattle.module_area.specs.Rule.{IsPlan}
 use Rattle.module_area.specs.Notes.{Notes, after_boundary, own_number}
-use Rattle.observed_step.specs.Courses.{nothing}
+use Rattle.observed_step.specs.Meaning.{nothing}
 use Rattle.observed_step.specs.Hooks.{Way}
 use Rattle.early_report.specs.DrainView.{DrainView}
 use Rattle.early_report.specs.Drains.{IsLooking}

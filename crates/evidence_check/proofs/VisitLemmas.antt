@@ -1,5 +1,5 @@
 -- How many instructions were done before a visit, and what a first visit says.
-use Rattle.std.proofs.Common.{◌≡◌, ℕ, ◌+◌, ◌<◌, ◌≤◌, zero, suc, Bool, true, false, nat_eq, if◌then◌else◌, Option, Some, None, option_map, List, [], ◌∷◌, ◌++◌, length, ◌⊎◌, inl, inr, refl, arith}
+use Rattle.std.proofs.Common.{◌≡◌, ℕ, ◌+◌, ◌<◌, ◌≤◌, zero, suc, Bool, true, false, nat_eq, if◌then◌else◌, Option, Some, None, option_map, List, [], ◌∷◌, ◌++◌, length, ◌⊎◌, inl, inr, refl, sym, subst, arith}
 use Rattle.std.specs.List.{find}
 use Rattle.std.specs.Option.{option_or}
 use Rattle.std.proofs.lemmas.Bool.{cond_both}
@@ -17,8 +17,8 @@ use Rattle.s370_exec.specs.Meaning.{effect, updated, link_code, code_at, first_t
 use Rattle.s370_exec.proofs.TraceLemmas.{solo_step-done}
 use Rattle.module_area.specs.Meaning.{shows, place_of}
 use Rattle.module_area.specs.declared.places.Place.{Place}
-use Rattle.brk_table.specs.Meaning.{memory_of}
-use Rattle.session_book.specs.Meaning.{JobView, TaskView, task_of, session_of, first_state, no_task}
+use Rattle.observed_step.proofs.SoloLemmas.{course_solo}
+use Rattle.session_book.specs.Meaning.{JobView, TaskView, task_memory, task_of, session_of, first_state, no_task}
 use Rattle.session_book.specs.JobView.{IsJob}
 use Rattle.evidence_check.specs.Meaning.{trace_of, first_in, first_from, session_first}
 use Rattle.evidence_check.specs.Noting.{first_of}
@@ -92,7 +92,9 @@ budget_most j t is = elim (cases_lt t (length j.tasks)) [
 
 pub trace_below : (j : JobView) (places : List Place) (t : ℕ) → IsJob j → AreBelow BUDGET_LIMIT (trace_of j places t)
 trace_below j places t is =
-    run_below (memory_of (task_of j t).private j.images places) (task_of j t).budget (first_state (task_of j t)) [] BUDGET_LIMIT (omega (arith, budget_most j t is)) tt
+    let m : Memory = task_memory j places t in
+    let s : State = first_state (task_of j t) in
+    subst (AreBelow BUDGET_LIMIT) (sym (course_solo m (task_of j t).budget tt s).trace) (run_below m (task_of j t).budget s [] BUDGET_LIMIT (omega (arith, budget_most j t is)) tt)
 
 -- what a first visit's entry can say
 pub record IsFirst (tasks : ℕ) (v : First) : Type 0 where

@@ -4,11 +4,12 @@ use Rattle.std.specs.List.{find, flat_map, range_with_len}
 use Rattle.std.specs.Option.{option_or}
 use Rattle.cov_base.specs.Meaning.{FactSet, Visit}
 use Rattle.cov_base.specs.declared.facts.Fact.{Fact}
-use Rattle.s370_exec.specs.Meaning.{solo_run}
 use Rattle.module_area.specs.Meaning.{shows, place_of, fact_count}
 use Rattle.module_area.specs.declared.places.Place.{Place}
 use Rattle.brk_table.specs.Meaning.{TablesView, first_place, place_count}
-use Rattle.session_book.specs.Meaning.{JobView, TaskView, task_memory, task_of, session_of, first_state, session_set}
+use Rattle.observed_step.specs.Meaning.{visits_of}
+use Rattle.task_run.specs.Meaning.{solo}
+use Rattle.session_book.specs.Meaning.{JobView, TaskView, of_task, task_of, session_of, session_set}
 use Rattle.evidence_check.specs.declared.firsts.First.{First}
 use Rattle.byteorder.specs.Endian.{big_bytes, big_number}
 use Rattle.cov_base.specs.declared.facts.Fact.TheVariants.{Ran, Went, Stayed}
@@ -22,7 +23,7 @@ use Rattle.session_marks.specs.Meaning.{session_marks}
 
 -- the visits of a task's run alone, over modules that were never planted
 abbrev pub trace_of : JobView → List Place → ℕ → List Visit
-trace_of j places t = (solo_run (task_memory j places t) (task_of j t).budget (first_state (task_of j t))).trace
+trace_of j places t = visits_of (of_task solo j places t).turns
 
 -- the first of task t's visits that shows it
 abbrev pub first_in : Place → Fact → ℕ → List Visit → Option First

@@ -8,13 +8,13 @@ use Rattle.std.proofs.lemmas.List.Elements.{All-get_or}
 use Rattle.cov_base.specs.Meaning.{FactSet, Memory, ImageView, State}
 use Rattle.cov_base.specs.declared.limits.TheConstants.{PLACE_LIMIT, BUDGET_LIMIT}
 use Rattle.s370_state.specs.declared.endings.Ending.{Ending}
-use Rattle.s370_exec.specs.Meaning.{Run}
 use Rattle.module_area.specs.Meaning.{FinalsView, set_at, PlanView}
 use Rattle.module_area.specs.Notes.{Notes, calls}
 use Rattle.module_area.specs.declared.places.Place.{Place}
 use Rattle.brk_table.specs.Meaning.{memory_of}
 use Rattle.task_run.specs.Meaning.{Course, walk}
 use Rattle.task_run.specs.Ran.{run_from, walk_from}
+use Rattle.observed_step.specs.Meaning.{Tour}
 use Rattle.observed_step.specs.Steps.{stands}
 use Rattle.session_book.specs.Meaning.{JobView, ResultView, task_of, no_task, plan_view}
 use Rattle.session_book.specs.JobView.{IsJob, IsTask}
@@ -29,9 +29,9 @@ use Rattle.job_run.specs.declared.slots.Slot.{Slot}
 pub same_or : (t n : ℕ) → (t ≡ n) ⊎ (t ≢ n)
 same_or t n = grind arith
 
-same_run : (course : Course) (p p' : PlanView) (m m' : Memory) (b b' : ℕ) (s s' : State) → p ≡ p' → m ≡ m' → b ≡ b' → s ≡ s' → course.run p m b s ≡ course.run p' m' b' s'
+same_run : (course : Course) (p p' : PlanView) (m m' : Memory) (b b' : ℕ) (s s' : State) → p ≡ p' → m ≡ m' → b ≡ b' → s ≡ s' → course p m b s ≡ course p' m' b' s'
 same_run course p p' m m' b b' s s' plan memory budget state =
-    ap (λ (x : PlanView). course.run x m b s) plan ∙ (ap (λ (n : Memory). course.run p' n b s) memory ∙ (ap (λ (n : ℕ). course.run p' m' n s) budget ∙ ap (λ (n : State). course.run p' m' b' n) state))
+    ap (λ (x : PlanView). course x m b s) plan ∙ (ap (λ (n : Memory). course p' n b s) memory ∙ (ap (λ (n : ℕ). course p' m' n s) budget ∙ ap (λ (n : State). course p' m' b' n) state))
 
 same_walk : (course : Course) (p p' : PlanView) (m m' : Memory) (b b' : ℕ) (s s' : State) → p ≡ p' → m ≡ m' → b ≡ b' → s ≡ s' → walk course p m b s ≡ walk course p' m' b' s'
 same_walk course p p' m m' b b' s s' plan memory budget state =
@@ -50,7 +50,7 @@ result_at : State → Option Ending → ResultView
 result_at s e = record { ending = e; done = s.done; cpu = s.machine.cpu; output = s.io.output; bytes = s.machine.bytes }
 
 -- a state and an ending are a result
-same_result : (run : Run) (s : State) (o : Option Ending) (e : Ending) → o ≡ Some e → s ≡ run.state → e ≡ run.ending →
+same_result : (run : Tour) (s : State) (o : Option Ending) (e : Ending) → o ≡ Some e → s ≡ run.state → e ≡ run.ending →
     record { ending = o; done = s.done; cpu = s.machine.cpu; output = s.io.output; bytes = s.machine.bytes } ≡ result_of_run run
 unfolding result_at
 same_result run s o e is p q = ap (λ (t : State). result_at t o) p ∙ (ap (λ (x : Option Ending). result_at run.state x) is ∙ ap (λ (x : Ending). result_at run.state (Some x)) q)

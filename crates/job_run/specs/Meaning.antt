@@ -6,9 +6,9 @@ use Rattle.cov_base.specs.Meaning.{has_fact, is_within, no_facts, union, Visit, 
 use Rattle.module_area.specs.Meaning.{fact_count, full_places, full_pairs, facts_at, visits_at_places, FinalsView, set_at, PlanView, ControlledView, place_of, kind_at, window_at, has_place, is_over, first_control, tag_session}
 use Rattle.module_area.specs.declared.cells.Cell.{Cell}
 use Rattle.module_area.specs.declared.tallies.Tally.{Tally}
+use Rattle.observed_step.specs.Meaning.{Tour, visits_of}
 use Rattle.svc_monitor.specs.Meaning.{at_places, facts_under}
 use Rattle.task_run.specs.Meaning.{tag_by, Walk, Course, solo, walk, IsBetween, least_set, most_set, opened_places, closed_places}
-use Rattle.s370_exec.specs.Meaning.{Run}
 use Rattle.module_area.specs.declared.places.Place.{Place}
 use Rattle.session_book.specs.Meaning.{JobView, ResultView, of_task, session_of, session_set, traces_from, plan_view}
 
@@ -71,17 +71,17 @@ pub record EndsArea (plan : PlanView) (walks : ℕ → Walk) (trace : List Visit
 
 -- The run of each task, by the course that tasks take, and what the areas of a job's run are left with.
 
-abbrev pub run_by : Course → JobView → List Place → ℕ → Run
-run_by course j places t = of_task course.run j places t
+abbrev pub run_by : Course → JobView → List Place → ℕ → Tour
+run_by course j places t = of_task course j places t
 
 -- its visits, and the supervisor calls of its instructions
 abbrev pub walk_by : Course → JobView → List Place → ℕ → Walk
 walk_by course j places t = of_task (walk course) j places t
 
 abbrev pub trace_by : Course → JobView → List Place → ℕ → List Visit
-trace_by course j places t = (run_by course j places t).trace
+trace_by course j places t = visits_of (run_by course j places t).turns
 
-abbrev pub result_of_run : Run → ResultView
+abbrev pub result_of_run : Tour → ResultView
 result_of_run r = record {
   ending = Some r.ending;
   done = r.state.done;

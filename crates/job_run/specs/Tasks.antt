@@ -2,7 +2,7 @@
 use Rattle.std.specs.Prelude.{◌≡◌, ℕ, ◌<◌, Bool, true, false, nat_lt, Some, None, List, [], length, get_or, map}
 use Rattle.cov_base.specs.Meaning.{FactSet}
 use Rattle.module_area.specs.Notes.{Notes}
-use Rattle.s370_exec.specs.Meaning.{Run}
+use Rattle.observed_step.specs.Meaning.{Tour}
 use Rattle.module_area.specs.Meaning.{PlanView, first_control}
 use Rattle.module_area.specs.declared.places.Place.{Place}
 use Rattle.task_run.specs.Meaning.{Course}
@@ -31,7 +31,7 @@ abbrev pub results_of : List Done → ℕ → ResultView
 results_of tasks t = get_or (map done_result tasks) t no_result
 
 -- its run from where it stands, with nothing done yet
-abbrev pub own_run : Course → PlanView → Done → Run
+abbrev pub own_run : Course → PlanView → Done → Tour
 own_run course plan d = run_from course plan d.task
 
 -- task t as its card says, not run yet

@@ -1,11 +1,11 @@
 -- A run that is told with its trace, instruction by instruction, is the course.
-use Rattle.std.proofs.Common.{◌≡◌, ℕ, zero, suc, Bool, true, false, if◌then◌else◌, Option, List, [], ◌∷◌, ◌++◌, refl, sym, ◌∙◌, ap, append_assoc, append-nil}
+use Rattle.std.proofs.Common.{◌≡◌, ℕ, zero, suc, Bool, true, false, if◌then◌else◌, List, ◌++◌, refl, sym, ◌∙◌, ap, append_assoc, append-nil}
 use Rattle.cov_base.specs.Meaning.{Memory, State, Visit}
-use Rattle.s370_exec.specs.Meaning.{call_of, Run, solo_step, run_ended, run_after, has_returned}
+use Rattle.s370_exec.specs.Meaning.{Run, solo_step, run_ended, run_after, has_returned}
 use Rattle.s370_state.specs.declared.endings.Ending.TheVariants.{Returned, Spent}
 use Rattle.s370_state.specs.declared.endings.Next.{Next}
 use Rattle.s370_state.specs.declared.endings.Next.TheVariants.{On, Ended}
-use Rattle.observed_step.specs.Meaning.{unless_over, After, Tour, calls_of, course_on, state_behind, step_behind, visits_of}
+use Rattle.observed_step.specs.Meaning.{After, Tour, course_on, state_behind, step_behind, visits_of}
 use Rattle.observed_step.proofs.CourseLemmas.{course-returned, course-none, course-more, course-ended}
 
 -- the run of a tour behind a trace
@@ -47,32 +47,3 @@ module _ {K : Type 0} (after : After K) (m : Memory) (run : ℕ → K → State 
   run_as zero k s = λ trace.
       tells.none k s trace ∙ (ap (run_ended (if has_returned s then Returned else Spent) s) (sym (append-nil trace)) ∙ sym (ap (run_of trace) (course-none after m k s)))
   run_as (suc n) k s = run_from n k s (has_returned s) (run_as n (step_behind after m k s).key (state_behind after m k s)) refl
-
--- and its calls
-pub record TellsCalls {K : Type 0} (after : After K) (m : Memory) (calls : ℕ → K → State → List (Option ℕ)) : Type 0 where
-  pub none : (k : K) (s : State) → calls 0 k s ≡ []
-  pub returned : (n : ℕ) (k : K) (s : State) → has_returned s ≡ true → calls (suc n) k s ≡ []
-  pub more : (n : ℕ) (k : K) (s : State) → has_returned s ≡ false →
-      calls (suc n) k s ≡ call_of m s ∷ unless_over (step_behind after m k s).next (calls n (step_behind after m k s).key (state_behind after m k s))
-
-module _ {K : Type 0} (after : After K) (m : Memory) (calls : ℕ → K → State → List (Option ℕ)) (tells : TellsCalls after m calls) where
-  abbrev HasCallsOf : ℕ → K → State → Type 0
-  HasCallsOf n k s = calls n k s ≡ calls_of (course_on after m n k s).turns
-
-  calls_next : (n : ℕ) (k : K) (s : State) (next : Next) → HasCallsOf n (step_behind after m k s).key (state_behind after m k s) → has_returned s ≡ false → (step_behind after m k s).next ≡ next → HasCallsOf (suc n) k s
-  calls_next n k s On rest here is =
-      let later = calls n (step_behind after m k s).key (state_behind after m k s) in
-      tells.more n k s here ∙ (ap (λ (x : Next). call_of m s ∷ unless_over x later) is ∙ (ap (λ (ks : List (Option ℕ)). call_of m s ∷ ks) rest
-      ∙ sym (ap (λ (t : Tour). calls_of t.turns) (course-more after m n k s (step_behind after m k s) here refl is))))
-  calls_next n k s (Ended e) rest here is =
-      let later = calls n (step_behind after m k s).key (state_behind after m k s) in
-      tells.more n k s here ∙ (ap (λ (x : Next). call_of m s ∷ unless_over x later) is
-      ∙ sym (ap (λ (t : Tour). calls_of t.turns) (course-ended after m n k s (step_behind after m k s) e here refl is)))
-
-  calls_from : (n : ℕ) (k : K) (s : State) (b : Bool) → HasCallsOf n (step_behind after m k s).key (state_behind after m k s) → has_returned s ≡ b → HasCallsOf (suc n) k s
-  calls_from n k s true rest here = tells.returned n k s here ∙ sym (ap (λ (t : Tour). calls_of t.turns) (course-returned after m (suc n) k s here))
-  calls_from n k s false rest here = calls_next n k s (step_behind after m k s).next rest here refl
-
-  pub calls_as : (n : ℕ) (k : K) (s : State) → calls n k s ≡ calls_of (course_on after m n k s).turns
-  calls_as zero k s = tells.none k s ∙ sym (ap (λ (t : Tour). calls_of t.turns) (course-none after m k s))
-  calls_as (suc n) k s = calls_from n k s (has_returned s) (calls_as n (step_behind after m k s).key (state_behind after m k s)) refl

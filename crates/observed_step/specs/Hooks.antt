@@ -4,8 +4,7 @@ use Rattle.brk_table.specs.Meaning.{TablesView}
 use Rattle.module_area.specs.Meaning.{ControlView}
 use Rattle.s370_state.specs.Meaning.{machine_of}
 use Rattle.s370_state.specs.declared.endings.Next.{Next}
-use Rattle.observed_step.specs.Meaning.{After}
-use Rattle.observed_step.specs.Courses.{nothing}
+use Rattle.observed_step.specs.Meaning.{After, nothing}
 use Rattle.observed_step.specs.Steps.{CanStep, StepsAs, memory_at}
 use Rattle.observed_step.specs.declared.bench.Bench.{Bench}
 use Rattle.observed_step.specs.declared.observer.Observer as observer

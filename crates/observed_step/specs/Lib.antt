@@ -1,5 +1,4 @@
 pub mod Called
-pub mod Courses
 pub mod Hooks
 pub mod Meaning
 pub mod Runs

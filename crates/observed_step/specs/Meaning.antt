@@ -7,35 +7,9 @@ use Rattle.s370_state.specs.declared.endings.Next.TheVariants.{On, Ended}
 use Rattle.s370_state.specs.declared.endings.Ending.{Ending}
 use Rattle.s370_state.specs.declared.endings.Ending.TheVariants.{Returned, Spent}
 
--- The supervisor calls of instructions.
-
-abbrev pub unless_over : Next → List (Option ℕ) → List (Option ℕ)
-unless_over On calls = calls
-unless_over (Ended e) calls = []
-
--- for each instruction of a run alone the call that it executes, if it is one; with so many instructions left of the budget
-unfoldable pub calls_on : Memory → ℕ → State → List (Option ℕ)
-calls_on m zero s = []
-calls_on m (suc n) s = if has_returned s then [] else call_of m s ∷ unless_over (solo_step m s).next (calls_on m n (solo_step m s).state)
-
 -- the address behind the call that the state's instruction is, or executes: that of EX, which has 4 bytes, or of SVC
 abbrev pub behind_call : Memory → Machine → ℕ
 behind_call m s = wrap (s.cpu.ia + (if is_execute (half_at m s.bytes s.cpu.ia) then 4 else 2))
-
--- Where a task ends that runs alone.
-
--- behind a step that began at this address: there, where the step has ended the task, else wherever it comes to from the state
-abbrev pub address_behind : (State → ℕ) → ℕ → State → Next → ℕ
-address_behind rest began s On = rest s
-address_behind rest began s (Ended e) = began
-
--- with so many instructions left of the budget: where a step ends the task, the instruction address before that step; where
--- none does, the instruction address as it stands when the task has returned or the budget is spent
-unfoldable pub end_address : Memory → ℕ → State → ℕ
-end_address m zero s = s.machine.cpu.ia
-end_address m (suc n) s =
-    if has_returned s then s.machine.cpu.ia
-    else address_behind (λ t. end_address m n t) s.machine.cpu.ia (solo_step m s).state (solo_step m s).next
 
 -- The course of a task, of which something is done behind each instruction.
 
@@ -48,6 +22,10 @@ pub record Behind (K : Type 0) : Type 0 where
 -- what is done behind an instruction that has left the machine so, and how the task would go on
 abbrev pub After : Type 0 → Type 0
 After K = K → Memory → Machine → Next → Behind K
+
+-- nothing is done
+abbrev pub nothing : {K : Type 0} → After K
+nothing k m s next = record { cpu = s.cpu; next = next; key = k }
 
 -- the visits of an instruction, and the supervisor call that it executes, if it is one
 pub record Turn : Type 0 where

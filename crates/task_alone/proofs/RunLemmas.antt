@@ -3,7 +3,7 @@ use Rattle.std.proofs.Common.{◌≡◌, ℕ, Option, List, sym, ◌∙◌, ap, 
 use Rattle.cov_base.specs.Meaning.{State, Visit}
 use Rattle.module_area.specs.Meaning.{PlanView}
 use Rattle.module_area.specs.declared.places.Place.{Place}
-use Rattle.s370_exec.specs.Meaning.{Run}
+use Rattle.observed_step.specs.Meaning.{Tour, visits_of}
 use Rattle.observed_step.specs.Steps.{memory_at, stands}
 use Rattle.observed_step.specs.declared.bench.Bench.{Bench}
 use Rattle.observed_step.specs.declared.task.TaskEnd.{TaskEnd}
@@ -15,21 +15,20 @@ use Rattle.task_alone.specs.Ends.{RanAlong}
 
 -- the end is that of task t's run along the course, and the pass has made its visits
 pub record RanOf {P : Type 0} (course : Course) (makes : P → List Visit → P → Type 0) (j : JobView) (places : List Place) (t : ℕ) (p : P) (end : TaskEnd) (q : P) : Type 0 where
-  pub ending : (of_task course.run j places t).ending ≡ end.ending
-  pub done : (of_task course.run j places t).state.done ≡ end.done
-  pub address : of_task course.at j places t ≡ end.at
-  pub made : makes p (of_task course.run j places t).trace q
+  pub ending : (of_task course j places t).ending ≡ end.ending
+  pub done : (of_task course j places t).state.done ≡ end.done
+  pub address : (of_task course j places t).at ≡ end.at
+  pub made : makes p (visits_of (of_task course j places t).turns) q
 
 pub ran_of : {P : Type 0} {makes : P → List Visit → P → Type 0} {p : P} {budget : ℕ} {old : Bench} {end : TaskEnd} {new : Bench} {q : P} {given_to : Option (List Service)} (services : Option (List Service)) (j : JobView) (places : List Place) (t : ℕ) →
     RanAlong (course_of given_to) makes p budget old end new q → given_to ≡ services → memory_at old ≡ task_memory j places t → stands old 0 ≡ first_state (task_of j t) → budget ≡ (task_of j t).budget →
     RanOf (course_of services) makes j places t p end q
 ran_of {P} {makes} {p} {budget} {old} {end} {new} {q} {given_to} services j places t ran same memory first most =
     let plan : PlanView = plan_view j places (task_of j t).phase in
-    let its : (course_of given_to).run plan (memory_at old) budget (stands old 0) ≡ of_task (course_of services).run j places t = λ i. (course_of (same i)).run plan (memory i) (most i) (first i) in
-    let there : (course_of given_to).at plan (memory_at old) budget (stands old 0) ≡ of_task (course_of services).at j places t = λ i. (course_of (same i)).at plan (memory i) (most i) (first i) in
+    let its : course_of given_to plan (memory_at old) budget (stands old 0) ≡ of_task (course_of services) j places t = λ i. course_of (same i) plan (memory i) (most i) (first i) in
     record {
-      ending = sym (ap (λ (r : Run). r.ending) its) ∙ ran.ending plan;
-      done = sym (ap (λ (r : Run). r.state.done) its) ∙ ap (λ (s : State). s.done) (ran.state plan);
-      address = sym there ∙ ran.address plan;
-      made = subst (λ (r : Run). makes p r.trace q) its (ran.made plan);
+      ending = sym (ap (λ (r : Tour). r.ending) its) ∙ ran.ending plan;
+      done = sym (ap (λ (r : Tour). r.state.done) its) ∙ ap (λ (s : State). s.done) (ran.state plan);
+      address = sym (ap (λ (r : Tour). r.at) its) ∙ ran.address plan;
+      made = subst (λ (r : Tour). makes p (visits_of r.turns) q) its (ran.made plan);
     }

@@ -3,6 +3,7 @@ use Rattle.std.specs.Borrow.{Bor}
 use Rattle.std.specs.Prelude.{◌≡◌, ℕ, Option, List, option_copied}
 use Rattle.cov_base.specs.Meaning.{Visit}
 use Rattle.module_area.specs.Meaning.{PlanView}
+use Rattle.observed_step.specs.Meaning.{visits_of}
 use Rattle.observed_step.specs.Steps.{memory_at, stands}
 use Rattle.observed_step.specs.declared.bench.Bench.{Bench}
 use Rattle.observed_step.specs.declared.task.TaskEnd.{TaskEnd}
@@ -13,10 +14,10 @@ use Rattle.task_services.specs.Meaning.{course_of}
 -- The run along the course from where the task stands, with nothing done yet, whatever the plan, has this end and last state, and
 -- the pass has made its trace, and nothing else.
 pub record RanAlong {P : Type 0} (course : Course) (makes : P → List Visit → P → Type 0) (p : P) (budget : ℕ) (old : Bench) (end : TaskEnd) (new : Bench) (q : P) : Type 0 where
-  pub ending : (plan : PlanView) → (course.run plan (memory_at old) budget (stands old 0)).ending ≡ end.ending
-  pub state : (plan : PlanView) → (course.run plan (memory_at old) budget (stands old 0)).state ≡ stands new end.done
-  pub address : (plan : PlanView) → course.at plan (memory_at old) budget (stands old 0) ≡ end.at
-  pub made : (plan : PlanView) → makes p (course.run plan (memory_at old) budget (stands old 0)).trace q
+  pub ending : (plan : PlanView) → (course plan (memory_at old) budget (stands old 0)).ending ≡ end.ending
+  pub state : (plan : PlanView) → (course plan (memory_at old) budget (stands old 0)).state ≡ stands new end.done
+  pub address : (plan : PlanView) → (course plan (memory_at old) budget (stands old 0)).at ≡ end.at
+  pub made : (plan : PlanView) → makes p (visits_of (course plan (memory_at old) budget (stands old 0)).turns) q
 
 -- that of a job with these services
 abbrev pub Ran : {P : Type 0} → Option (Bor (List Service)) → (P → List Visit → P → Type 0) → P → ℕ → Bench → TaskEnd → Bench → P → Type 0

@@ -6,16 +6,17 @@ use Rattle.module_area.specs.declared.places.Place.{Place}
 use Rattle.session_book.specs.Meaning.{JobView, module_of}
 use Rattle.report_text.specs.Meaning.{sum_from}
 use Rattle.report_text.proofs.PlaceFacts.{sum_step}
+use Rattle.observed_step.specs.Meaning.{visits_of}
 use Rattle.task_ends.specs.Meaning.{run_of, end_of, unlisted_of, unlisted_visits}
 use Rattle.observed_step.specs.declared.task.TaskEnd.{TaskEnd}
 use Rattle.task_ends.specs.Unlisted.{Adds}
 
 -- of one task, in module m
 abbrev pub unlisted_at : JobView → List Place → ℕ → ℕ → ℕ
-unlisted_at j places m t = unlisted_visits places (module_of j m) (run_of j places t).trace
+unlisted_at j places m t = unlisted_visits places (module_of j m) (visits_of (run_of j places t).turns)
 
 -- one task more was counted
-pub counted_more : (j : JobView) (places : List Place) (t : ℕ) (old new : List ℕ) (m : ℕ) → t < length j.tasks → m < length j.images → Adds places j.images (run_of j places t).trace old new →
+pub counted_more : (j : JobView) (places : List Place) (t : ℕ) (old new : List ℕ) (m : ℕ) → t < length j.tasks → m < length j.images → Adds places j.images (visits_of (run_of j places t).turns) old new →
     slice_index old m + sum_from (unlisted_at j places m) t (length j.tasks - t) ≡ unlisted_of j places m → slice_index new m + sum_from (unlisted_at j places m) (t + 1) (length j.tasks - (t + 1)) ≡ unlisted_of j places m
 counted_more j places t old new m lt here adds so_far =
     rw (adds.each m here) (sum_step (unlisted_at j places m) t (length j.tasks) (slice_index old m) (unlisted_at j places m t) (unlisted_of j places m) lt refl so_far)

@@ -4,10 +4,10 @@ use Rattle.cov_base.specs.Meaning.{ImageView, Visit, unpadded}
 use Rattle.module_area.specs.Meaning.{is_place}
 use Rattle.module_area.specs.declared.places.Place.{Place}
 use Rattle.brk_table.specs.Meaning.{in_image}
-use Rattle.s370_exec.specs.Meaning.{Run}
 use Rattle.session_book.specs.Meaning.{JobView, of_task, task_of, module_of}
 use Rattle.report_text.specs.Meaning.{sum_from, text_of, lines_from, is_monitored, task_words}
 use Rattle.task_services.specs.Meaning.{course_of}
+use Rattle.observed_step.specs.Meaning.{Tour, visits_of}
 use Rattle.observed_step.specs.declared.task.TaskEnd.{TaskEnd}
 use Rattle.annotator.specs.Meaning.{hex_digits}
 
@@ -21,20 +21,20 @@ unlisted_visits places image (v ∷ vs) = (if v.begun && (in_image image v.at &&
 -- Where each task of a job ends that runs alone, and how many visits of all tasks are in a module where no place begins.
 
 -- its run, by its job's services
-abbrev pub run_of : JobView → List Place → ℕ → Run
-run_of j places t = of_task (course_of j.services).run j places t
+abbrev pub run_of : JobView → List Place → ℕ → Tour
+run_of j places t = of_task (course_of j.services) j places t
 
 -- how it ends, after how many instructions, and at which address
 abbrev pub end_of : JobView → List Place → ℕ → TaskEnd
 end_of j places t = record {
   ending = (run_of j places t).ending;
   done = (run_of j places t).state.done;
-  at = of_task (course_of j.services).at j places t;
+  at = (run_of j places t).at;
 }
 
 -- in module m, of all tasks of the job, whatever their phases
 abbrev pub unlisted_of : JobView → List Place → ℕ → ℕ
-unlisted_of j places m = sum_from (λ t. unlisted_visits places (module_of j m) (run_of j places t).trace) 0 (length j.tasks)
+unlisted_of j places m = sum_from (λ t. unlisted_visits places (module_of j m) (visits_of (run_of j places t).turns)) 0 (length j.tasks)
 
 -- The text of the ends of a job's tasks.
 

@@ -4,6 +4,7 @@ use Rattle.cov_base.specs.Meaning.{ImageView, Visit}
 use Rattle.module_area.specs.declared.places.Place.{Place}
 use Rattle.brk_table.specs.Meaning.{in_image}
 use Rattle.session_book.specs.Meaning.{JobView, no_module}
+use Rattle.observed_step.specs.Meaning.{visits_of}
 use Rattle.task_ends.specs.Meaning.{unlisted_visits, run_of}
 
 -- from old to new those among the visits were added to the count of each module
@@ -13,7 +14,7 @@ pub record Adds (places : List Place) (images : List ImageView) (visits : List V
 
 -- of the run of task t alone
 abbrev pub AddsTask : JobView → List Place → ℕ → List ℕ → List ℕ → Type 0
-AddsTask j places t old new = Adds places j.images (run_of j places t).trace old new
+AddsTask j places t old new = Adds places j.images (visits_of (run_of j places t).turns) old new
 
 -- and one visit at this address
 abbrev pub AddsOne : List ImageView → ℕ → List ℕ → List ℕ → Type 0

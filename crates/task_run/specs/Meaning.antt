@@ -4,8 +4,7 @@ use Rattle.std.specs.List.{sum_by, filter}
 use Rattle.module_area.specs.Meaning.{PlanView, ControlView, has_place, places_under, to_open, control_after, first_control, facts_at, facts_of_all, has_session}
 use Rattle.cov_base.specs.declared.numbers.SessNo.{SessNo}
 use Rattle.cov_base.specs.Meaning.{Memory, State, Visit, FactSet, no_facts, has_fact, union}
-use Rattle.s370_exec.specs.Meaning.{Run, run_ended, solo_run}
-use Rattle.observed_step.specs.Meaning.{Tour, calls_of, calls_on, end_address, visits_of}
+use Rattle.observed_step.specs.Meaning.{Tour, calls_of, course_on, nothing, visits_of}
 use Rattle.cov_base.specs.declared.facts.Fact.{Fact}
 use Rattle.cov_base.specs.declared.numbers.TaskNo.{TaskNo}
 use Rattle.module_area.specs.declared.places.Place.{Place}
@@ -43,31 +42,15 @@ abbrev pub tag_by : PlanView → ℕ → ControlView → ℕ → List (Option �
 tag_by plan p c tag [] = tag
 tag_by plan p c tag (k ∷ ks) = tag_by plan p (control_after c k) (tag_after plan p c tag k) ks
 
--- The course that a task takes: how it runs.
+-- The course that a task takes.
 
--- Over its area's plan, from its memory, budget and first state: ending, last state and trace; for each of its instructions
--- the supervisor call that it executes, if it is one; and the instruction address before the step that ended it, or, where
--- none did, as it stands.
-pub record Course : Type 0 where
-  pub run : PlanView → Memory → ℕ → State → Run
-  pub calls : PlanView → Memory → ℕ → State → List (Option ℕ)
-  pub at : PlanView → Memory → ℕ → State → ℕ
+-- how it runs over its area's plan, from its memory, budget and first state
+abbrev pub Course : Type 0
+Course = PlanView → Memory → ℕ → State → Tour
 
--- as it does alone, whatever the plan
+-- alone
 abbrev pub solo : Course
-solo = record {
-  run = λ plan m budget s. solo_run m budget s;
-  calls = λ plan m budget s. calls_on m budget s;
-  at = λ plan m budget s. end_address m budget s;
-}
-
--- as this tour of it tells, whatever the plan
-abbrev pub toured : (Memory → ℕ → State → Tour) → Course
-toured tour = record {
-  run = λ plan m budget s. let t = tour m budget s in run_ended t.ending t.state (visits_of t.turns);
-  calls = λ plan m budget s. calls_of (tour m budget s).turns;
-  at = λ plan m budget s. (tour m budget s).at;
-}
+solo plan m budget s = course_on nothing m budget (tt {0}) s
 
 -- the visits of a run and the calls of its instructions
 pub record Walk : Type 0 where
@@ -75,7 +58,7 @@ pub record Walk : Type 0 where
   pub calls : List (Option ℕ)
 
 abbrev pub walk : Course → PlanView → Memory → ℕ → State → Walk
-walk course plan m budget s = record { trace = (course.run plan m budget s).trace; calls = course.calls plan m budget s }
+walk course plan m budget s = let t = course plan m budget s in record { trace = visits_of t.turns; calls = calls_of t.turns }
 
 -- What a controlled session's set at a place lies between, by the runs of the phase's tasks; and which sessions a run
 -- opens and closes.

@@ -1,20 +1,20 @@
 -- A task that has run along its course, with a pass that has made the run's visits.
 use Rattle.std.specs.Prelude.{◌≡◌, ◌+◌, ◌*◌, ◌≤◌}
 use Rattle.cov_base.specs.declared.limits.TheConstants.{PLACE_LIMIT}
-use Rattle.s370_exec.specs.Meaning.{Run}
 use Rattle.s370_state.specs.declared.endings.Ending.{Ending}
 use Rattle.module_area.specs.Notes.{Notes, calls}
 use Rattle.module_area.specs.Meaning.{PlanView}
 use Rattle.module_area.specs.Tied.{IsTied}
 use Rattle.module_area.specs.declared.traits.Cells as cells
+use Rattle.observed_step.specs.Meaning.{Tour}
 use Rattle.observed_step.specs.Steps.{memory_at, stands}
 use Rattle.task_run.specs.Called.{Follows, HasPlanted, HasWindows}
 use Rattle.task_run.specs.Meaning.{Course, Walk, walk}
 use Rattle.task_run.specs.declared.tasks.Task.{Task}
 
 -- its run from where it stands, with nothing done yet, and the visits and calls of it
-abbrev pub run_from : Course → PlanView → Task → Run
-run_from course plan t = course.run plan (memory_at t.bench) t.budget (stands t.bench 0)
+abbrev pub run_from : Course → PlanView → Task → Tour
+run_from course plan t = course plan (memory_at t.bench) t.budget (stands t.bench 0)
 
 abbrev pub walk_from : Course → PlanView → Task → Walk
 walk_from course plan t = walk course plan (memory_at t.bench) t.budget (stands t.bench 0)

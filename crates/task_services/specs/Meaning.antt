@@ -1,14 +1,14 @@
 -- What the claim of the program says by this crate's clauses.
 use Rattle.std.specs.Prelude.{ℕ, if◌then◌else◌, ◌==◌, Option, Some, None, List, slice_index, slice_set}
 use Rattle.std.specs.List.{find}
-use Rattle.cov_base.specs.Meaning.{Memory, CpuView, Machine, State}
+use Rattle.cov_base.specs.Meaning.{Memory, CpuView, Machine}
 use Rattle.s370_state.specs.declared.endings.Ending.{Ending}
 use Rattle.s370_state.specs.declared.endings.Ending.TheVariants.{BadSvc}
 use Rattle.s370_state.specs.declared.endings.Next.{Next}
 use Rattle.s370_state.specs.declared.endings.Next.TheVariants.{On, Ended}
-use Rattle.observed_step.specs.Meaning.{After, Behind, Tour, behind_call, course_on}
+use Rattle.observed_step.specs.Meaning.{After, Behind, behind_call, course_on}
 use Rattle.session_book.specs.declared.services.Service.{Service}
-use Rattle.task_run.specs.Meaning.{Course, solo, toured}
+use Rattle.task_run.specs.Meaning.{Course, solo}
 use Rattle.task_services.specs.declared.services.TheConstants.{SERVICE_RETURN}
 
 -- A task whose supervisor calls are answered by routines of the job: its services.
@@ -78,11 +78,8 @@ abbrev pub by_next : After Served
 by_next k m s next = let b = by_call k m s next in by_return b b.next
 
 -- from the task's start, where it has no caller
-abbrev pub service_tour : List Service → Memory → ℕ → State → Tour
-service_tour services m budget s = course_on by_next m budget (record { services = services; caller = None }) s
-
 abbrev pub with_services : List Service → Course
-with_services services = toured (service_tour services)
+with_services services plan m budget s = course_on by_next m budget (record { services = services; caller = None }) s
 
 -- The course of a job's tasks, by its services: alone where the job was read without SERVICE cards.
 abbrev pub course_of : Option (List Service) → Course

@@ -1,11 +1,8 @@
 use Rattle.std.proofs.Common.{◌≡◌, map, refl, sym, ◌∙◌, ap}
 use Rattle.module_area.specs.Notes.{bearer}
-use Rattle.observed_step.specs.Meaning.{calls_on}
-use Rattle.observed_step.specs.Steps.{memory_at, stands}
-use Rattle.observed_step.proofs.SoloLemmas.{course_solo}
-use Rattle.s370_exec.specs.Meaning.{run_ended}
 use Rattle.svc_monitor.proofs.TurnLemmas.{turned}
 use Rattle.task_run.specs.Meaning.{solo}
+use Rattle.task_run.specs.Ran.{walk_from}
 use Rattle.task_run.proofs.GoneLemmas.{made_all}
 use Rattle.task_run.proofs.RanLemmas.{ran_tour}
 use Rattle.early_report.specs.DrainView.{DrainView}
@@ -24,7 +21,6 @@ pub returns-clause-ran : goal.returns-clause-ran
 returns-clause-ran g c =
     let end = c.run-end.ensures in
     let plan = c.places_len.ensures.plan in
-    let alone = course_solo (memory_at c.args.task.now.bench) c.args.task.now.budget (tt {0}) (stands c.args.task.now.bench 0) in
     let made = made_all _ _ _ _ _ _ plan g.C.Cells.notes _ _ _ _ _ _ _ _
     (λ i turn v w took. record {
       visited = g.C.Cells.notes took.visited;
@@ -34,18 +30,17 @@ returns-clause-ran g c =
       aside = aside_behind _ _ took.hooked.looking;
     })
     end.ends end.goes in
-    rw c.requires.plan (ran_tour solo _ _ _ _ _ _ _ plan (rw c.requires.plan at c.requires.start.tied) c.requires.start.first
+    rw c.requires.plan (ran_tour solo _ _ _ _ _ _ plan (rw c.requires.plan at c.requires.start.tied) c.requires.start.first
     (record { memory = end.memory; budget = refl; done = end.ends.most; tied = end.can.tied })
-    made (λ j. run_ended ((sym alone.ending ∙ end.ends.ending) j) ((sym alone.state ∙ end.ends.state) j) (sym alone.trace j)) (sym alone.calls))
+    made end.ends.ending end.ends.state)
 
 so : (g : given.Over) (c : After-run-end g) →
     StandSo c.args.plan.now c.args.task.now.bench.control (map (λ (d : DrainView). d.session) c.args.drains.now.items) (g.C.Cells.notes c.run-end.new.pass) c.run-end.new.bench.control c.run-end.new.hook
-    c.run-end.result.done (calls_on (memory_at c.args.task.now.bench) c.args.task.now.budget (stands c.args.task.now.bench 0))
+    c.run-end.result.done (walk_from solo c.args.plan.now c.args.task.now).calls
 so g c =
     let end = c.run-end.ensures in
     let first : c.replace.result.items ≡ first_drains c.args.plan.now (bearer (g.C.Cells.notes c.args.pass.now)) = ap (λ v. v.items) c.replace.ensures.value ∙ c.requires.start.unused in
-    let alone = course_solo (memory_at c.args.task.now.bench) c.args.task.now.budget (tt {0}) (stands c.args.task.now.bench 0) in
-    rw (c.replace.ensures.value, alone.calls) at
+    rw c.replace.ensures.value at
     (stood_all _ _ _ _ _ _ c.places_len.ensures.plan g.C.Cells.notes _ _ _ _ _ _ _ _
     (λ i turn v w took. record {
       called = g.C.Cells.notes took.called;

@@ -1,7 +1,5 @@
-use Rattle.std.proofs.Common.{sym, subst, ◌∙◌, []}
+use Rattle.std.proofs.Common.{sym, subst, []}
 use Rattle.observed_step.proofs.GoesLemmas.{goes_made}
-use Rattle.observed_step.proofs.SoloLemmas.{course_solo}
-use Rattle.observed_step.specs.Steps.{memory_at, stands}
 use Rattle.task_alone.proofs.run.run_alone.Goals as goal
 
 pub returns-in-None-clause-ran : goal.returns-in-None-clause-ran
@@ -11,16 +9,15 @@ returns-in-None-clause-ran g c =
     let t = c.args.tables.now in
     let makes = g.O.Observer.Makes o t in
     let ends = c.run.ensures.ends in
-    let solo = course_solo (memory_at c.args.bench.now) c.args.budget tt (stands c.args.bench.now 0) in
     rw c.in-None.is (record {
-      ending = λ plan. sym solo.ending ∙ ends.ending;
-      state = λ plan. sym solo.state ∙ ends.state;
-      address = λ plan. sym solo.address ∙ ends.address;
-      made = λ plan. subst (λ vs. makes c.args.pass.now vs c.run.new.pass) solo.trace (goes_made _ _ _ o t 0 _ _ _
+      ending = λ plan. ends.ending;
+      state = λ plan. ends.state;
+      address = λ plan. ends.address;
+      made = λ plan. goes_made _ _ _ o t 0 _ _ _
           (λ p. laws.none o t p) (λ p q r vs ws. laws.both o t p q r vs ws)
           (λ p q x d call answered. subst (λ r. makes p [] r) (sym (c.requires.calls p q x d call answered)) (laws.none o t p))
           (λ h k p q x i still. subst (λ r. makes p [] r) (sym still) (laws.none o t p))
-          c.run.ensures.goes);
+          c.run.ensures.goes;
     })
 
 pub returns-in-Some-clause-ran : goal.returns-in-Some-clause-ran

@@ -1,7 +1,4 @@
-use Rattle.std.proofs.Common.{refl, sym, subst, ◌∙◌}
-use Rattle.s370_exec.specs.Meaning.{run_ended}
-use Rattle.observed_step.specs.Steps.{memory_at, stands}
-use Rattle.observed_step.proofs.SoloLemmas.{course_solo}
+use Rattle.std.proofs.Common.{refl, sym, subst}
 use Rattle.task_run.specs.Aside.{IsAside}
 use Rattle.task_run.specs.Meaning.{solo}
 use Rattle.task_run.proofs.AsideLemmas.{aside_none}
@@ -13,7 +10,6 @@ pub returns-clause-ran : goal.returns-clause-ran
 returns-clause-ran g c =
     let end = c.run-end.ensures in
     let plan = c.places_len.ensures.plan in
-    let alone = course_solo (memory_at c.args.task.now.bench) c.args.task.now.budget tt (stands c.args.task.now.bench 0) in
     let made = made_all _ _ _ _ _ _ plan g.C.Cells.notes _ _ _ _ _ _ _ _
     (λ i turn v w took. record {
       visited = g.C.Cells.notes took.visited;
@@ -23,6 +19,6 @@ returns-clause-ran g c =
       aside = subst (λ p. IsAside (g.C.Cells.notes took.called) (g.C.Cells.notes p)) (sym took.hooked) (aside_none _);
     })
     end.ends end.goes in
-    rw c.requires.plan (ran_tour solo _ _ _ _ _ _ _ plan (rw c.requires.plan at c.requires.tied) c.requires.first
+    rw c.requires.plan (ran_tour solo _ _ _ _ _ _ plan (rw c.requires.plan at c.requires.tied) c.requires.first
     (record { memory = end.memory; budget = refl; done = end.ends.most; tied = end.can.tied })
-    made (λ j. run_ended ((sym alone.ending ∙ end.ends.ending) j) ((sym alone.state ∙ end.ends.state) j) (sym alone.trace j)) (sym alone.calls))
+    made end.ends.ending end.ends.state)

@@ -1,5 +1,5 @@
 use Rattle.std.proofs.Common.{◌≡◌, ℕ, ◌+◌, true, if◌then◌else◌, ◌∙◌, ap, subst, arith}
-use Rattle.s370_exec.specs.Meaning.{Run}
+use Rattle.observed_step.specs.Meaning.{Tour, visits_of}
 use Rattle.module_area.specs.Meaning.{PlanView, place_of}
 use Rattle.task_services.specs.Meaning.{course_of}
 use Rattle.job_run.specs.Tasks.{own_run}
@@ -24,7 +24,7 @@ returns-clause-run c =
     let plan : PlanView = plan_in me.cells.now in
     let t : ℕ = c.args.task.0 in
     let of = plan_here plan me.job.now me.tables.now.places me.phase t c.requires.fit.plan c.requires.task.its in
-    let adds = subst (λ (r : Run). Adds plan (notes_of me.cells.now c.args.pass.now) (notes_of me.cells.now c.run_one.new.pass) r.trace) (begun_run (course_of me.job.now.services) plan me.job.now me.tables.now.places t c.args.done.now of c.requires.can) c.run_one.ensures.ran.adds in
+    let adds = subst (λ (r : Tour). Adds plan (notes_of me.cells.now c.args.pass.now) (notes_of me.cells.now c.run_one.new.pass) (visits_of r.turns)) (begun_run (course_of me.job.now.services) plan me.job.now me.tables.now.places t c.args.done.now of c.requires.can) c.run_one.ensures.ran.adds in
     counted_there me.cells.now _ c.args.pass.now c.run_one.new.pass c.requires.fresh c.run_one.ensures.area adds
 
 pub returns-clause-ends : goal.returns-clause-ends
