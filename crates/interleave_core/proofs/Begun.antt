@@ -128,6 +128,7 @@ half_here w t k bytes world there lt = (world.seen t there k lt).original bytes
 
 -- an instruction at a place is read whole
 pub rest_read : (w : World) (t a p : ℕ) (bytes : List ℕ) → IsWorld w → t < length w.job.tasks → place_at w a ≡ Some p → rest_tests (memory_in w t) a (length_of (half_at (memory_in w t) bytes a)) ≡ None
+unfolding place_at
 rest_read w t a p bytes world there h =
     let k = found_at 0 a p w.places h in
     let size : (place_of w.places k.0).len ≡ length_of (place_of w.places k.0).original = (world.places.each k.0 no_place k.1).size in
@@ -135,6 +136,7 @@ rest_read w t a p bytes world there h =
     (ap (rest_tests (memory_in w t) (place_of w.places k.0).at) (ap length_of (half_here w t k.0 bytes world there k.1) ∙ sym size) ∙ rest_pass w t k.0 world k.1)
 
 pub half_of_place : (w : World) (t a p : ℕ) (bytes : List ℕ) → IsWorld w → t < length w.job.tasks → place_at w a ≡ Some p → half_at (memory_in w t) bytes a ≡ original_at (plan_in w) p
+unfolding place_at
 half_of_place w t a p bytes world there h =
     let k = found_at 0 a p w.places h in
     let number : k.0 ≡ p = omega (arith, k.3) in

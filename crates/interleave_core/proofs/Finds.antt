@@ -1,12 +1,15 @@
 -- The number of the place that begins at an address.
 use Rattle.std.proofs.Common.{◌≡◌, ◌≢◌, ◌↔◌, ℕ, ◌+◌, ◌<◌, zero, suc, Bool, true, false, ◌||◌, ◌==◌, if◌then◌else◌, Option, Some, None, option_map, IfSome, IsNone, List, [], ◌∷◌, length, refl, sym, ◌∙◌, ap, arith}
+use Rattle.std.specs.List.{position_from}
 use Rattle.std.proofs.lemmas.Bool.Decides.{nat_tests}
 use Rattle.cov_base.specs.declared.numbers.PlaceNo.{PlaceNo as Number}
 use Rattle.module_area.specs.Meaning.{place_of, is_place}
 use Rattle.module_area.specs.declared.places.Place.{Place}
 use Rattle.brk_table.specs.Places.{ArePlaces}
 use Rattle.brk_table.proofs.PlaceLemmas.{one_begins}
-use Rattle.interleave_core.specs.Meaning.{place_from}
+
+abbrev pub begins_at : ℕ → Place → Bool
+begins_at a p = a == p.at
 
 same : (a b : ℕ) → a ≡ b → (a == b) ≡ true
 same a b h = grind (arith, nat_tests)
@@ -16,12 +19,12 @@ differ a b h = grind (arith, nat_tests)
 
 -- it is the only one
 pub there : (n a : ℕ) (places : List Place) (k : ℕ) → k < length places → (place_of places k).at ≡ a →
-    ((q : ℕ) → q < length places → (place_of places q).at ≡ a → q ≡ k) → place_from n places a ≡ Some (n + k)
+    ((q : ℕ) → q < length places → (place_of places q).at ≡ a → q ≡ k) → position_from (begins_at a) n places ≡ Some (n + k)
 there n a [] k l at only = absurd (omega arith)
 there n a (p ∷ ps) zero l at only = let number : n ≡ n + 0 = omega arith in rw (same a p.at (sym at)) (ap Some number)
 there n a (p ∷ ps) (suc k) l at only =
     let other : (a == p.at) ≡ false = differ a p.at (λ e. let z : 0 ≡ suc k = only 0 (omega arith) (sym e) in absurd (omega arith)) in
-    let rest : place_from (n + 1) ps a ≡ Some (n + 1 + k) = there (n + 1) a ps k (omega arith) at (λ q m e. let s : suc q ≡ suc k = only (suc q) (omega arith) e in omega arith) in
+    let rest : position_from (begins_at a) (n + 1) ps ≡ Some (n + 1 + k) = there (n + 1) a ps k (omega arith) at (λ q m e. let s : suc q ≡ suc k = only (suc q) (omega arith) e in omega arith) in
     let number : n + 1 + k ≡ n + suc k = omega arith in
     rw other (rest ∙ ap Some number)
 
@@ -33,13 +36,13 @@ not_here : (b c : Bool) (n : ℕ) (rest : Option ℕ) → (b || c) ≡ false →
 not_here true c n rest h k = let f : true ≡ false = h in absurd cc
 not_here false c n rest h k = k
 
-nowhere : (n a : ℕ) (places : List Place) → is_place places a ≡ false → place_from n places a ≡ None
+nowhere : (n a : ℕ) (places : List Place) → is_place places a ≡ false → position_from (begins_at a) n places ≡ None
 nowhere n a [] h = refl
-nowhere n a (p ∷ ps) h = not_here (a == p.at) (is_place ps a) n (place_from (n + 1) ps a) h (nowhere (n + 1) a ps (tail_nowhere (a == p.at) (is_place ps a) h))
+nowhere n a (p ∷ ps) h = not_here (a == p.at) (is_place ps a) n (position_from (begins_at a) (n + 1) ps) h (nowhere (n + 1) a ps (tail_nowhere (a == p.at) (is_place ps a) h))
 
 -- what a search that answers by the places tells
 pub found : (places : List Place) (a : ℕ) (r : Option Number) → ArePlaces places → IfSome r (λ n. n.0 < length places) →
-    IfSome r (λ n. (place_of places n.0).at ≡ a) → (IsNone r ↔ (is_place places a ≡ false)) → option_map (λ (p : Number). p.0) r ≡ place_from 0 places a
+    IfSome r (λ n. (place_of places n.0).at ≡ a) → (IsNone r ↔ (is_place places a ≡ false)) → option_map (λ (p : Number). p.0) r ≡ position_from (begins_at a) 0 places
 found places a None are exists begins none = sym (nowhere 0 a places (none.0 refl))
 found places a (Some n) are exists begins none =
     let number : n.0 ≡ 0 + n.0 = omega arith in

@@ -16,13 +16,13 @@ use Rattle.module_area.specs.declared.parties.View.{View}
 use Rattle.module_area.proofs.Indices.{and_both}
 use Rattle.module_area.proofs.CellLemmas.{plants, closes as closes_step}
 use Rattle.module_area.proofs.StepLemmas.{or_left, or_right, spent_not_root, spent_not_task}
-use Rattle.interleave_core.specs.Meaning.{World, TaskPart, part_of, plan_in, PlaceChange, change_of, next_place, closed_of, change_due, Stepped, may_plant, breakpoint_of, with_cell, same_due, subject_place, step_of, set_of}
+use Rattle.interleave_core.specs.Meaning.{World, TaskPart, part_of, plan_in, PlaceChange, change_of, next_place, change_due, Stepped, may_plant, breakpoint_of, with_cell, same_due, subject_place, step_of, set_of}
 use Rattle.interleave_core.specs.CoreState.{CoreState, Item, Gave, task_view, task_views}
 use Rattle.interleave_core.specs.declared.stage.Due.{Due}
 use Rattle.interleave_core.specs.declared.stage.Due.TheVariants.{Marking, Lifting, Nothing}
 use Rattle.interleave_core.specs.declared.stage.Stage.{Stage}
 use Rattle.interleave_core.specs.declared.stage.Stage.TheVariants.{Ready, Awaiting, Holding, Ended}
-use Rattle.interleave_core.specs.Views.{AreTied}
+use Rattle.interleave_core.specs.Views.{closed_of, AreTied}
 use Rattle.interleave_core.proofs.Changes.{may_by, Changed, logs_given}
 use Rattle.interleave_core.proofs.Logs.{itself, apart, changed_log}
 use Rattle.interleave_core.proofs.Turns.{IsOwn, IsChange, due_is}

@@ -1,5 +1,6 @@
 -- Each event keeps each task's log.
 use Rattle.std.proofs.Common.{◌≡◌, ◌≢◌, ◌⊎◌, inl, inr, ℕ, zero, suc, ◌+◌, ◌*◌, ◌%◌, ◌<◌, ◌≤◌, Bool, true, false, ◌==◌, nat_lt, nat_eq, if◌then◌else◌, Option, Some, None, option_map, List, [], ◌∷◌, ◌++◌, length, take, get_or, set, refl, sym, ◌∙◌, ap, subst, arith, is_none}
+use Rattle.std.specs.List.{position_from}
 use Rattle.std.specs.Option.{option_or}
 use Rattle.std.proofs.lemmas.Bool.Decides.{nat_tests}
 use Rattle.std.proofs.lemmas.List.{append_assoc, append-nil, get_or-map, get_or-set_other, length-set, length-map}
@@ -15,7 +16,7 @@ use Rattle.module_area.specs.declared.places.Place.{Place}
 use Rattle.brk_table.specs.Places.{ArePlaces, IsPlace, AreSeen}
 use Rattle.module_area.specs.declared.cells.Cell.{Cell}
 use Rattle.s370_exec.proofs.StepLemmas.{solo_step-rest_refused, solo_step-unread, solo_step-read, solo_step-ex}
-use Rattle.interleave_core.specs.Meaning.{World, TaskPart, Parts, part_of, memory_in, budget_in, place_at, place_from, first_part, Stepped, parts_step, fetched, marked, lifted, done_by, with_due, original_under, same_cell, in_hand, subject_place, step_of, place_due, is_awaiting, is_spent, executed, stage_after, awaits_or, with_stage, instruction_executed, task_goes_on, task_done, same_due, hand_at, set_of}
+use Rattle.interleave_core.specs.Meaning.{World, TaskPart, Parts, part_of, memory_in, budget_in, place_at, first_part, Stepped, parts_step, fetched, marked, lifted, done_by, with_due, original_under, same_cell, in_hand, subject_place, step_of, place_due, is_awaiting, is_spent, executed, stage_after, awaits_or, with_stage, instruction_executed, task_goes_on, task_done, same_due, hand_at, set_of}
 use Rattle.interleave_core.specs.World.{IsWorld}
 use Rattle.interleave_core.specs.CoreState.{Item, Met, Gave, CoreState, CoreStepped, core_start, core_step, core_after, core_from, core_run, log_after}
 use Rattle.interleave_core.specs.MeaningOfEvents.{alone, Noted, note, noted, fact_at, visits_in_hand}
@@ -62,11 +63,11 @@ same : (a b : ℕ) → (a == b) ≡ true → a ≡ b
 same a b h = grind (arith, nat_tests)
 
 -- a place that was found begins there
-pub found_at : (n a p : ℕ) (places : List Place) → place_from n places a ≡ Some p → (k : ℕ) × (k < length places) × ((place_of places k).at ≡ a) × (n + k ≡ p)
+pub found_at : (n a p : ℕ) (places : List Place) → position_from (λ (p : Place). a == p.at) n places ≡ Some p → (k : ℕ) × (k < length places) × ((place_of places k).at ≡ a) × (n + k ≡ p)
 found_at n a p [] h = let f : None ≡ Some p = h in absurd cc
 found_at n a p (x ∷ xs) h = by (a == x.at) refl h (λ g. found_at (n + 1) a p xs g)
   where
-    by : (b : Bool) → (a == x.at) ≡ b → (if b then Some n else place_from (n + 1) xs a) ≡ Some p → (place_from (n + 1) xs a ≡ Some p → (k : ℕ) × (k < length xs) × ((place_of xs k).at ≡ a) × (n + 1 + k ≡ p)) →
+    by : (b : Bool) → (a == x.at) ≡ b → (if b then Some n else position_from (λ (q : Place). a == q.at) (n + 1) xs) ≡ Some p → (position_from (λ (q : Place). a == q.at) (n + 1) xs ≡ Some p → (k : ℕ) × (k < length xs) × ((place_of xs k).at ≡ a) × (n + 1 + k ≡ p)) →
         (k : ℕ) × (k < length (x ∷ xs)) × ((place_of (x ∷ xs) k).at ≡ a) × (n + k ≡ p)
     by true e g more = let is : n ≡ p = same_Some n p g in (zero, omega arith, sym (same a x.at e), omega (arith, is))
     by false e g more = let r = more g in (suc r.0, omega (arith, r.1), r.2, omega (arith, r.3))
@@ -78,6 +79,7 @@ even_test : (a : ℕ) → a % 2 ≡ 0 → (a % 2 == 1) ≡ false
 even_test a h = grind (arith, nat_tests)
 
 pub at_place : (w : World) (m : Memory) (a p : ℕ) → ArePlaces w.places → AreSeen m w.places → place_at w a ≡ Some p → first_tests m a ≡ None
+unfolding place_at
 at_place w m a p are seen h =
     let k = found_at 0 a p w.places h in
     let is : IsPlace (place_of w.places k.0) = are.each k.0 _ k.1 in

@@ -153,11 +153,11 @@ same_stage w t k u Awaiting is = is
 same_stage w t k u (Holding h) is = is
 same_stage w t k u (Ended e) is = is
 
-abbrev event_of : Bool → SessNo → PlaceNo → Event
+abbrev pub event_of : Bool → SessNo → PlaceNo → Event
 event_of true s p = Close s p
 event_of false s p = Plant s p
 
-step_by : (w : World) (c : Parts) (closes : Bool) (s : SessNo) (p : PlaceNo) (t : ℕ) (x : Option Stepped) → controller_of w s.0 ≡ Some t → of_task c t (change_step w c closes s.0 p.0 t) ≡ x → parts_step w c (event_of closes s p) ≡ x
+pub step_by : (w : World) (c : Parts) (closes : Bool) (s : SessNo) (p : PlaceNo) (t : ℕ) (x : Option Stepped) → controller_of w s.0 ≡ Some t → of_task c t (change_step w c closes s.0 p.0 t) ≡ x → parts_step w c (event_of closes s p) ≡ x
 step_by w c true s p t x by h = ap (by_controller w c true s.0 p.0 None) by ∙ h
 step_by w c false s p t x by h = ap (by_controller w c false s.0 p.0 (whole_step w c s.0 p.0)) by ∙ h
 

@@ -1,6 +1,6 @@
 -- What is quiet stays so, and its sets with it; what is drained is quiet.
 use Rattle.std.proofs.Common.{◌≡◌, inl, inr, ℕ, zero, suc, ◌+◌, ◌*◌, ◌<◌, ◌≤◌, Bool, true, false, not, ◌&&◌, ◌||◌, nat_eq, nat_lt, nat_le, if◌then◌else◌, Option, Some, None, is_some, List, [], ◌∷◌, length, get_or, set, refl, sym, ◌∙◌, ap, subst, arith, eqb-true, eq-eqb, is_none, option_map}
-use Rattle.std.specs.List.{list_any, list_all}
+use Rattle.std.specs.List.{find, list_any, list_all}
 use Rattle.std.proofs.lemmas.Grind.{get_or-set_at}
 use Rattle.std.proofs.lemmas.List.{get_or-set_other, length-set, get_or_default}
 use Rattle.std.proofs.lemmas.List.Folds.{list_any_none}
@@ -20,7 +20,7 @@ use Rattle.module_area.specs.declared.cells.Cell.{Cell}
 use Rattle.module_area.proofs.Indices.{same_index, and_left, and_right, and_both}
 use Rattle.module_area.proofs.PlanLemmas.{any_at, any_shown, over_cases}
 use Rattle.session_book.specs.Meaning.{no_task}
-use Rattle.interleave_core.specs.Meaning.{World, TaskPart, Parts, part_of, plan_in, place_at, first_part, PlaceChange, controller_from, controller_of, Stepped, parts_step, fetched, marked, lifted, done_by, task_done, task_goes_on, breakpoint_of, changed_cell, changed, change_due, with_cell, with_due, with_stage, original_under, same_cell, same_due, in_hand, hand_at, step_of, subject_place, place_due, is_awaiting, is_spent, stage_after, executed, awaits_or, instruction_executed, set_of, fact_in}
+use Rattle.interleave_core.specs.Meaning.{World, TaskPart, Parts, part_of, plan_in, place_at, first_part, PlaceChange, controller_of, Stepped, parts_step, fetched, marked, lifted, done_by, task_done, task_goes_on, breakpoint_of, changed_cell, changed, change_due, with_cell, with_due, with_stage, original_under, same_cell, same_due, in_hand, hand_at, step_of, subject_place, place_due, is_awaiting, is_spent, stage_after, executed, awaits_or, instruction_executed, set_of, fact_in}
 use Rattle.interleave_core.specs.Quiet.{has_unmarked, any_unmarked, is_quiet, SetsStay}
 use Rattle.interleave_core.specs.Views.{RunningView, AreSteady, IsHand, no_controlled, number_at, parts_of}
 use Rattle.interleave_core.specs.declared.events.Event.{Event}
@@ -36,7 +36,7 @@ use Rattle.interleave_core.proofs.Rule.{due_same, of_window}
 use Rattle.interleave_core.proofs.Ruled.{place_inside, subject_inside}
 use Rattle.interleave_core.proofs.Runs.{same_or, got, exists_by, lifted_tasks, in_hand-stage}
 use Rattle.interleave_core.proofs.Tied.{lift_tag, changed_tag}
-use Rattle.interleave_core.proofs.Turns.{IsChange, has_at, due_is}
+use Rattle.interleave_core.proofs.Turns.{IsChange, controller_in, has_at, due_is}
 
 -- ---- the tags rise
 
@@ -137,12 +137,12 @@ closed_of_places plan seen s h = list_all-from_AllPass (is_shut seen s) plan.con
         (le-leb (2 * s) (seen (number_at c.places j))
         (h (number_at c.places j) (any_shown (λ (d : ControlledView). nat_eq d.session s && has_place d.places (number_at c.places j)) plan.controlled no_controlled k lt (and_both (nat_eq c.session s) _ e (has_at c.places j l))))))
 
-session_there : (s : ℕ) (cs : List ControlledView) → is_some (controller_from s cs) ≡ true → (k : ℕ) × (k < length cs) × ((get_or cs k no_controlled).session ≡ s)
+session_there : (s : ℕ) (cs : List ControlledView) → is_some (controller_in s cs) ≡ true → (k : ℕ) × (k < length cs) × ((get_or cs k no_controlled).session ≡ s)
 session_there s [] h = let f : false ≡ true = h in absurd cc
 session_there s (c ∷ cs) h = by (nat_eq c.session s) refl h (session_there s cs)
   where
-    by : (b : Bool) → nat_eq c.session s ≡ b → is_some (if b then Some c.by else controller_from s cs) ≡ true →
-        (is_some (controller_from s cs) ≡ true → (k : ℕ) × (k < length cs) × ((get_or cs k no_controlled).session ≡ s)) → (k : ℕ) × (k < length (c ∷ cs)) × ((get_or (c ∷ cs) k no_controlled).session ≡ s)
+    by : (b : Bool) → nat_eq c.session s ≡ b → is_some (option_map (λ (d : ControlledView). d.by) (if b then Some c else find (λ (d : ControlledView). nat_eq d.session s) cs)) ≡ true →
+        (is_some (controller_in s cs) ≡ true → (k : ℕ) × (k < length cs) × ((get_or cs k no_controlled).session ≡ s)) → (k : ℕ) × (k < length (c ∷ cs)) × ((get_or (c ∷ cs) k no_controlled).session ≡ s)
     by true e h more = (zero, omega arith, eqb-true c.session s e)
     by false e h more = let k = more h in (suc k.0, omega (arith, k.1), k.2)
 

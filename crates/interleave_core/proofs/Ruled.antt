@@ -50,6 +50,7 @@ use Rattle.interleave_core.proofs.Given.{rule_plant, rule_plants, rule_closes}
 -- ---- Fetch
 
 pub place_inside : (w : World) (a p : ℕ) → place_at w a ≡ Some p → p < length w.places
+unfolding place_at
 place_inside w a p h = let k = found_at 0 a p w.places h in omega (arith, k.1, k.3)
 
 pub subject_inside : (w : World) (visits : List Visit) (p : ℕ) → subject_place w visits ≡ Some p → p < length w.places

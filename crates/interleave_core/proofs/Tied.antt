@@ -13,7 +13,7 @@ use Rattle.module_area.specs.declared.places.Place.{Place}
 use Rattle.module_area.proofs.Indices.{and_left}
 use Rattle.cov_base.specs.Meaning.{FactSet, with_fact, is_full, State}
 use Rattle.session_book.specs.Meaning.{task_of, no_task}
-use Rattle.interleave_core.specs.Meaning.{World, TaskPart, Parts, part_of, first_part, plan_in, first_parts, Change, PlaceChange, place_change, sessions_by, change_of, next_place, after_change, Stepped, parts_step, fetched, marked, lifted, done_by, task_done, may_plant, breakpoint_of, closed_of, changed_cell, changed, change_due, with_cell, with_due, original_under, same_cell, in_hand, hand_at, step_of, place_due, is_awaiting, stage_after, set_of, fact_in}
+use Rattle.interleave_core.specs.Meaning.{World, TaskPart, Parts, part_of, first_part, plan_in, first_parts, Change, PlaceChange, place_change, sessions_by, change_of, next_place, after_change, Stepped, parts_step, fetched, marked, lifted, done_by, task_done, may_plant, breakpoint_of, changed_cell, changed, change_due, with_cell, with_due, original_under, same_cell, in_hand, hand_at, step_of, place_due, is_awaiting, stage_after, set_of, fact_in}
 use Rattle.interleave_core.specs.declared.events.Event.{Event}
 use Rattle.interleave_core.specs.declared.events.Event.TheVariants.{Fetch, Mark, Lift, Do, Plant, Close}
 use Rattle.interleave_core.specs.declared.stage.Due.{Due}
@@ -22,7 +22,7 @@ use Rattle.interleave_core.specs.declared.stage.Hand.{Hand}
 use Rattle.interleave_core.specs.declared.stage.Stage.{Stage}
 use Rattle.interleave_core.specs.declared.stage.Stage.TheVariants.{Holding}
 use Rattle.interleave_core.proofs.Changes.{is_done, may_by, Changed, plant_cases, close_by}
-use Rattle.interleave_core.specs.Views.{session_at, turn_number, turn_of, has_window, number_at, tag_at, IsTied, AreTied}
+use Rattle.interleave_core.specs.Views.{closed_of, session_at, turn_number, turn_of, has_window, number_at, tag_at, IsTied, AreTied}
 use Rattle.interleave_core.proofs.Runs.{same_or, exists_by, got, lifted_tasks}
 use Rattle.interleave_core.proofs.Turns.{own, places_differ, session_rises, IsAsked, IsChange, change_asked, due_is}
 

@@ -1,5 +1,6 @@
 -- The sessions that a task controls, and what an SVC in hand does to them.
 use Rattle.std.proofs.Common.{◌≡◌, ◌≢◌, inl, inr, ℕ, zero, suc, ◌+◌, ◌-◌, ◌*◌, ◌<◌, ◌≤◌, Bool, true, false, ◌&&◌, nat_eq, nat_lt, nat_le, if◌then◌else◌, Option, Some, None, option_map, List, [], ◌∷◌, length, get_or, slice_get, AllPairs, refl, sym, ◌∙◌, ap, subst, arith, eqb-true, eq-eqb}
+use Rattle.std.specs.List.{find}
 use Rattle.std.specs.Option.{option_and_then}
 use Rattle.std.proofs.lemmas.Bool.Decides.{nat_tests}
 use Rattle.std.proofs.lemmas.List.{get_or_past}
@@ -12,7 +13,7 @@ use Rattle.module_area.specs.declared.cells.Cell.{Cell}
 use Rattle.module_area.proofs.PlanLemmas.{any_shown}
 use Rattle.s370_exec.specs.Meaning.{call_of}
 use Rattle.interleave_core.proofs.ControlLemmas.{few_places}
-use Rattle.interleave_core.specs.Meaning.{World, TaskPart, plan_in, memory_in, controller_from, controller_of, Change, change, PlaceChange, place_change, sessions_by, asked, change_of, next_place, executes, change_due}
+use Rattle.interleave_core.specs.Meaning.{World, TaskPart, plan_in, memory_in, controller_of, Change, change, PlaceChange, place_change, sessions_by, asked, change_of, next_place, executes, change_due}
 use Rattle.interleave_core.specs.declared.stage.Stage.{Stage}
 use Rattle.interleave_core.specs.Views.{no_controlled, session_at, turn_number, turn_of, has_window, number_at, tag_at, IsTied, controlled_by}
 
@@ -96,14 +97,17 @@ own w t n i plan lt =
     subst (λ (c : ControlledView). IsOwn w t c.session (number_at c.places i)) (sym r.same)
     (own_at w t r.number i plan r.there r.by_task (subst (λ (c : ControlledView). i < length c.places) r.same lt))
 
--- the task controls it
-controls : (cs : List ControlledView) (k : ℕ) → AllPairs AreApart cs → k < length cs → controller_from (get_or cs k no_controlled).session cs ≡ Some (get_or cs k no_controlled).by
+-- the task that controls session s
+abbrev pub controller_in : ℕ → List ControlledView → Option ℕ
+controller_in s cs = option_map (λ (c : ControlledView). c.by) (find (λ (c : ControlledView). nat_eq c.session s) cs)
+
+controls : (cs : List ControlledView) (k : ℕ) → AllPairs AreApart cs → k < length cs → controller_in (get_or cs k no_controlled).session cs ≡ Some (get_or cs k no_controlled).by
 controls [] k all lt = absurd (omega arith)
-controls (c ∷ cs) zero all lt = ap (λ (b : Bool). if b then Some c.by else controller_from c.session cs) (eq-eqb c.session c.session refl)
+controls (c ∷ cs) zero all lt = ap (λ (b : Bool). option_map (λ (d : ControlledView). d.by) (if b then Some c else find (λ (d : ControlledView). nat_eq d.session c.session) cs)) (eq-eqb c.session c.session refl)
 controls (c ∷ cs) (suc k) all lt =
     let up : c.session < (get_or cs k no_controlled).session = (all zero (suc k) no_controlled (omega arith) lt).rising in
     let other : nat_eq c.session (get_or cs k no_controlled).session ≡ false = ne_eqb c.session (get_or cs k no_controlled).session (λ e. omega (arith, e, up)) in
-    ap (λ (b : Bool). if b then Some c.by else controller_from (get_or cs k no_controlled).session cs) other ∙ controls cs k (tail_apart c cs all) (omega (arith, lt))
+    ap (λ (b : Bool). option_map (λ (d : ControlledView). d.by) (if b then Some c else find (λ (d : ControlledView). nat_eq d.session (get_or cs k no_controlled).session) cs)) other ∙ controls cs k (tail_apart c cs all) (omega (arith, lt))
 
 pub controller : (w : World) (t n i : ℕ) → IsPlan (plan_in w) → i < length (session_at w t n).places → controller_of w (session_at w t n).session ≡ Some t
 controller w t n i plan lt =
@@ -161,25 +165,11 @@ got_session (x ∷ xs) zero closes ch h = let same : change closes x ≡ ch = sa
 got_session (x ∷ xs) (suc n) closes ch h = let r = got_session xs n closes ch h in (r.0, r.1, omega (arith, r.2))
 
 asked_is : (w : World) (t : ℕ) (u : TaskPart) (call : ℕ) (ch : Change) → asked w t u call ≡ Some ch → IsAsked w t u ch
-asked_is w t u call ch h = by (nat_eq call 4) (nat_eq call 5) u.is_open refl h
+asked_is w t u call ch h = by (nat_eq call (if u.is_open then 5 else 4)) h
   where
-    turn : (b : Bool) → u.is_open ≡ b → turn_number u ≡ (if b then u.opened - 1 else u.opened)
-    turn b e = ap (λ (c : Bool). if c then u.opened - 1 else u.opened) e
-
-    of : (b : Bool) → u.is_open ≡ b → (ch.closes ≡ b) × (ch.session ≡ session_at w t (if b then u.opened - 1 else u.opened)) × ((if b then u.opened - 1 else u.opened) < length (sessions_by w t)) → IsAsked w t u ch
-    of b e r = record {
-      closes = r.0 ∙ sym e;
-      session = r.1 ∙ ap (session_at w t) (sym (turn b e));
-      there = subst (λ (n : ℕ). n < length (sessions_by w t)) (sym (turn b e)) r.2;
-    }
-
-    by : (four five b : Bool) → u.is_open ≡ b → (if four then option_map (change false) (if b then None else slice_get (sessions_by w t) u.opened)
-        else (if five then option_map (change true) (if b then slice_get (sessions_by w t) (u.opened - 1) else None) else None)) ≡ Some ch → IsAsked w t u ch
-    by true five true e k = no_change _ ch k
-    by true five false e k = of false e (got_session (sessions_by w t) u.opened false ch k)
-    by false true true e k = of true e (got_session (sessions_by w t) (u.opened - 1) true ch k)
-    by false true false e k = no_change _ ch k
-    by false false b e k = no_change _ ch k
+    by : (b : Bool) → (if b then option_map (change u.is_open) (slice_get (sessions_by w t) (turn_number u)) else None) ≡ Some ch → IsAsked w t u ch
+    by true k = let r = got_session (sessions_by w t) (turn_number u) u.is_open ch k in record { closes = r.0; session = r.1; there = r.2 }
+    by false k = no_change _ ch k
 
 and_then : {A B : Type 0} (f : A → Option B) (o : Option A) (x : B) → option_and_then f o ≡ Some x → (a : A) × (o ≡ Some a) × (f a ≡ Some x)
 and_then f None x h = absurd cc

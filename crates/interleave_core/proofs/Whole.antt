@@ -280,9 +280,11 @@ equal_from : (a b : ℕ) → (a == b) ≡ true → a ≡ b
 equal_from a b h = grind (arith, nat_tests)
 
 place_number : (w : World) (a p : ℕ) → place_at w a ≡ Some p → (place_of w.places p).at ≡ a
+unfolding place_at
 place_number w a p h = let k = found_at 0 a p w.places h in let same : k.0 ≡ p = omega (arith, k.3) in subst (λ (n : ℕ). (place_of w.places n).at ≡ a) same k.2
 
 number_of_place : (w : World) (a p : ℕ) → IsWorld w → p < length w.places → (place_of w.places p).at ≡ a → place_at w a ≡ Some p
+unfolding place_at
 number_of_place w a p world lt at = there 0 a w.places p lt at (λ q l e. one_begins w.places p q world.places lt l (e ∙ sym at)) ∙ let number : 0 + p ≡ p = omega arith in ap Some number
 
 note_by : (w : World) (v : Visit) (o : Option ℕ) (p : ℕ) (f : Fact) → Has (noted_one p f) (note w v o) → (o ≡ Some p) × (fact_at w p v ≡ Some f)

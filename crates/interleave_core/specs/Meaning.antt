@@ -1,5 +1,6 @@
 -- What the claim of the program says by this crate's clauses.
 use Rattle.std.specs.Prelude.{ℕ, ◌+◌, ◌*◌, ◌==◌, Bool, false, if◌then◌else◌, Option, Some, None, List, [], ◌∷◌, length, get_or, map, replicate, ◌-◌, true, nat_eq, option_map, option_and_then, slice_get, not, ◌&&◌, ◌||◌, nat_lt, nat_le, is_none, set, filter, zero, suc}
+use Rattle.std.specs.List.{find, position_from}
 use Rattle.std.specs.Option.{option_map_or}
 use Rattle.cov_base.specs.Meaning.{FactSet, no_facts, with_fact, is_full, fact_of, Memory, State, Visit, breakpoint}
 use Rattle.module_area.specs.Meaning.{fresh_word, word_at, PlanView, ControlledView, original_at, kind_at, window_at, tag_session, index_of, set_in}
@@ -43,12 +44,8 @@ abbrev pub budget_in : World → ℕ → ℕ
 budget_in w t = (task_of w.job t).budget
 
 -- the number of the place that begins at the address
-abbrev pub place_from : ℕ → List Place → ℕ → Option ℕ
-place_from n [] a = None
-place_from n (p ∷ ps) a = if a == p.at then Some n else place_from (n + 1) ps a
-
-abbrev pub place_at : World → ℕ → Option ℕ
-place_at w a = place_from 0 w.places a
+unfoldable pub place_at : World → ℕ → Option ℕ
+place_at w a = position_from (λ (p : Place). a == p.at) 0 w.places
 
 -- A task: its state, which changes only as an instruction is executed whole, and where it stands. Of the sessions that it
 -- controls: how many it has opened, whether the last of them is open, and at how many places of the one that the SVC in
@@ -87,12 +84,8 @@ abbrev pub sessions_by : World → ℕ → List ControlledView
 sessions_by w t = filter (λ (c : ControlledView). nat_eq c.by t) (plan_in w).controlled
 
 -- the task that controls session s
-abbrev pub controller_from : ℕ → List ControlledView → Option ℕ
-controller_from s [] = None
-controller_from s (c ∷ cs) = if nat_eq c.session s then Some c.by else controller_from s cs
-
 abbrev pub controller_of : World → ℕ → Option ℕ
-controller_of w s = controller_from s (plan_in w).controlled
+controller_of w s = option_map (λ (c : ControlledView). c.by) (find (λ (c : ControlledView). nat_eq c.session s) (plan_in w).controlled)
 
 -- the opening or the closing of a session
 pub record Change : Type 0 where
@@ -102,18 +95,10 @@ pub record Change : Type 0 where
 abbrev pub change : Bool → ControlledView → Change
 change closes c = record { closes = closes; session = c }
 
--- the session that comes next, and the one that is open
-abbrev pub next_session : World → ℕ → TaskPart → Option ControlledView
-next_session w t u = if u.is_open then None else slice_get (sessions_by w t) u.opened
-
-abbrev pub open_session : World → ℕ → TaskPart → Option ControlledView
-open_session w t u = if u.is_open then slice_get (sessions_by w t) (u.opened - 1) else None
-
 -- SVC 4 opens the next session where none is open, SVC 5 closes the open one
 abbrev pub asked : World → ℕ → TaskPart → ℕ → Option Change
 asked w t u call =
-    if nat_eq call 4 then option_map (change false) (next_session w t u)
-    else (if nat_eq call 5 then option_map (change true) (open_session w t u) else None)
+    if nat_eq call (if u.is_open then 5 else 4) then option_map (change u.is_open) (slice_get (sessions_by w t) (if u.is_open then u.opened - 1 else u.opened)) else None
 
 -- what the instruction that the task is at does to its sessions
 abbrev pub change_of : World → ℕ → TaskPart → Option Change
@@ -271,12 +256,9 @@ executes w t u Ready =
 executes w t u (Holding h) = same_due h.due Nothing && (h.subject || is_none (subject_place w (step_of w t u).visits))
 executes w t u stage = false
 
--- of this change the place at which a session is to be planted or closed before
-abbrev pub due_of : World → ℕ → TaskPart → Stage → Option Change → Option PlaceChange
-due_of w t u stage change = if executes w t u stage then option_and_then (next_place u.changed) change else None
-
+-- the place at which its session is to be planted or closed before
 abbrev pub change_due : World → ℕ → TaskPart → Stage → Option PlaceChange
-change_due w t u stage = due_of w t u stage (change_of w t u)
+change_due w t u stage = if executes w t u stage then option_and_then (next_place u.changed) (change_of w t u) else None
 
 -- the task after a Do, which is possible where no other event of the task is
 abbrev pub task_done : World → ℕ → TaskPart → Stage → Option TaskPart
@@ -292,11 +274,8 @@ breakpoint_of s = record { tag = 2 * s - 1; half = breakpoint }
 abbrev pub of_task : Parts → ℕ → (TaskPart → Option Stepped) → Option Stepped
 of_task c t step = if nat_lt t (length c.tasks) then step (part_of c t) else None
 
-abbrev pub closed_of : World → ℕ → ℕ → Cell
-closed_of w s p = record { tag = 2 * s; half = original_at (plan_in w) p }
-
 abbrev pub changed_cell : World → PlaceChange → Cell
-changed_cell w x = if x.closes then closed_of w x.session x.place.0 else breakpoint_of x.session
+changed_cell w x = if x.closes then record { tag = 2 * x.session; half = original_at (plan_in w) x.place.0 } else breakpoint_of x.session
 
 -- a session is planted where the tag is lower than the one that it gives
 abbrev pub may_change : Parts → Bool → ℕ → ℕ → PlaceChange → Bool
@@ -379,16 +358,7 @@ next_of w c t = if nat_lt t.0 (length c.tasks) then stage_event w t (part_of c t
 abbrev pub most_events : World → ℕ → ℕ
 most_events w t = (8 + length w.places) * (budget_in w t + 1) + 1
 
--- what is stored after an event, where it was possible
-abbrev pub after : Parts → Option Stepped → Parts
-after c None = c
-after c (Some x) = x.parts
-
--- the task's next events, at most so many
-abbrev pub go_events : World → ℕ → Parts → TaskNo → List Event
-go_events w zero c t = []
-go_events w (suc n) c t = option_map_or (λ (e : Event). e ∷ go_events w n (after c (parts_step w c e)) t) (next_of w c t) []
-
--- all that it makes until it has ended
-abbrev pub all_events : World → Parts → TaskNo → List Event
-all_events w c t = go_events w (most_events w t.0) c t
+-- what is stored after the task's next events, at most so many
+abbrev pub go : World → ℕ → Parts → TaskNo → Parts
+go w zero c t = c
+go w (suc n) c t = option_map_or (λ (x : Stepped). go w n x.parts t) (option_and_then (parts_step w c) (next_of w c t)) c

@@ -1,18 +1,18 @@
 -- What a task of a core keeps besides what the core stores of it, and what holds of a core at every moment.
-use Rattle.std.specs.Prelude.{◌≡◌, ◌≢◌, ℕ, ◌+◌, ◌-◌, ◌*◌, ◌<◌, ◌≤◌, Bool, true, false, nat_le, nat_lt, if◌then◌else◌, Option, Some, None, option_map, Result, IfOk, List, [], length, get_or, map, All, filter, nat_eq}
+use Rattle.std.specs.Prelude.{◌≡◌, ◌≢◌, ℕ, ◌+◌, ◌-◌, ◌*◌, ◌<◌, ◌≤◌, Bool, true, false, nat_le, nat_lt, if◌then◌else◌, Option, Some, None, option_map, option_and_then, Result, IfOk, List, [], length, get_or, map, All, filter, nat_eq}
 use Rattle.std.specs.List.{list_all}
 use Rattle.cov_base.specs.Meaning.{is_within, FactSet}
 use Rattle.cov_base.specs.declared.numbers.PlaceNo.{PlaceNo}
 use Rattle.cov_base.specs.declared.limits.TheConstants.{SESSION_LIMIT, PLACE_LIMIT}
 use Rattle.module_area.specs.declared.cells.Cell.{Cell}
-use Rattle.module_area.specs.Meaning.{word_at, set_in, PlanView, ControlledView, kind_at, is_over}
+use Rattle.module_area.specs.Meaning.{word_at, set_in, PlanView, ControlledView, kind_at, is_over, original_at}
 use Rattle.module_area.specs.Rule.{planted, IsForm, IsPlan}
 use Rattle.brk_table.specs.Meaning.{TablesView}
 use Rattle.brk_table.specs.Places.{AreSeen, ArePlaces, IsIn}
 use Rattle.space_map.specs.Space.{SpaceView, memory_of_space}
 use Rattle.session_book.specs.JobView.{IsJob}
 use Rattle.session_book.specs.Meaning.{task_of}
-use Rattle.interleave_core.specs.Meaning.{World, TaskPart, Parts, part_of, first_part, plan_in, memory_in, budget_in, Change, PlaceChange, sessions_by, change_of, after_change, Stepped, of_task, change_step, step_of, subject_place, is_spent, in_hand}
+use Rattle.interleave_core.specs.Meaning.{World, TaskPart, Parts, part_of, first_part, plan_in, memory_in, budget_in, Change, PlaceChange, sessions_by, change_of, executes, next_place, after_change, Stepped, of_task, change_step, step_of, subject_place, is_spent, in_hand}
 use Rattle.interleave_core.specs.declared.control.Change.{Change as Found}
 use Rattle.interleave_core.specs.declared.control.PlaceChange.{PlaceChange as PlaceFound}
 use Rattle.interleave_core.specs.declared.events.Shown.{Shown}
@@ -46,6 +46,14 @@ InPlan plan tables t r holds = (w : World) → plan ≡ plan_in w → w.places �
 
 abbrev pub ByPlan : PlanView → RunningView → (World → TaskPart → Type 0) → Type 0
 ByPlan plan r holds = (w : World) → plan ≡ plan_in w → holds w r.part
+
+-- what a cell has once the session was closed at place p
+abbrev pub closed_of : World → ℕ → ℕ → Cell
+closed_of w s p = record { tag = 2 * s; half = original_at (plan_in w) p }
+
+-- of this change the place at which a session is to be planted or closed before the instruction
+abbrev pub due_of : World → ℕ → TaskPart → Stage → Option Change → Option PlaceChange
+due_of w t u stage change = if executes w t u stage then option_and_then (next_place u.changed) change else None
 
 -- whether a change closes the session, where there is one
 abbrev pub closing : Option Change → Option Bool

@@ -1,8 +1,9 @@
 //! The sessions that tasks open and close.
 ghost use Rattle.std.specs.Prelude.{◌≡◌, ◌<◌, not, ◌||◌, nat_eq, option_map, slice_get, IsSome};
+ghost use Rattle.std.specs.List.{find};
 ghost use Rattle.module_area.specs.Notes.{is_closed};
 ghost use Rattle.cov_base.specs.declared.limits.TheConstants.{SESSION_LIMIT};
-ghost use Rattle.interleave_core.specs.Meaning.{controller_from, next_place};
+ghost use Rattle.interleave_core.specs.Meaning.{next_place};
 ghost use Rattle.interleave_core.specs.Views.{controlled_by, seen_change, seen_at, tag_in, are_closed};
 
 use crate::hands::tag_at;
@@ -65,7 +66,7 @@ pub(crate) fn next_place(change: &Change, done: u32) -> Option<PlaceChange>
 
 /// The task that controls the session, where one does.
 pub(crate) fn controller_of(controlled: &[Controlled], s: SessNo) -> Option<TaskNo>
-    ensures { option_map (λ t. t.0) result ≡ controller_from s.0 controlled.now }
+    ensures { option_map (λ t. t.0) result ≡ option_map (λ c. c.by) (find (λ c. nat_eq c.session s.0) controlled.now) }
 {
     for c in controlled {
         if c.session.0 == s.0 {

@@ -8,10 +8,10 @@ ghost use Rattle.session_book.specs.Meaning.{task_of};
 ghost use Rattle.s370_exec.specs.Meaning.{has_returned, visit_of};
 ghost use Rattle.interleave_core.specs.declared.stage.Stage.TheVariants.{Ready, Holding};
 ghost use Rattle.cov_base.specs.declared.limits.TheConstants.{SESSION_LIMIT, PLACE_LIMIT};
-ghost use Rattle.interleave_core.specs.Meaning.{World, place_from, first_part, Change as Told, change, next_session, open_session, change_of, place_due, subject_place, step_of, stage_after, is_awaiting, with_stage, in_hand, executed, instruction_executed, ready_done, task_goes_on, task_done, executes, due_of, change_due, stage_event, change_or_do, ending_of};
+ghost use Rattle.interleave_core.specs.Meaning.{World, first_part, place_at, Change as Told, asked, change_of, place_due, subject_place, step_of, stage_after, is_awaiting, with_stage, in_hand, executed, instruction_executed, ready_done, task_goes_on, task_done, executes, change_due, stage_event, change_or_do, ending_of};
 ghost use Rattle.interleave_core.specs.World.{world_of};
 ghost use Rattle.interleave_core.specs.Quiet.{has_unmarked};
-ghost use Rattle.interleave_core.specs.Views.{IsRunning, InWorlds, InPlaces, InPlan, ByPlan, Doing, Gives, DiffersInSessions, numbered, seen, seen_at, closing, with_part, changed_by};
+ghost use Rattle.interleave_core.specs.Views.{due_of, IsRunning, InWorlds, InPlaces, InPlan, ByPlan, Doing, Gives, DiffersInSessions, numbered, seen, seen_at, closing, with_part, changed_by};
 
 use crate::control::{Change, PlaceChange, next_place, nth_session};
 use crate::events::{Event, NotPossible};
@@ -59,7 +59,7 @@ impl<'a> Model for Running<'a> {
 
 /// The place that begins at the address.
 fn place_at(tables: &Tables, a: Addr) -> Option<PlaceNo>
-    ensures value { numbered result ≡ place_from 0 tables.now.places a }
+    ensures value { (w : World) → w.places ≡ tables.now.places → numbered result ≡ place_at w a }
     ensures exists { IfSome result (λ p. p.0 < length tables.now.places) }
 {
     // the proof reads off the number of places that they differ in address
@@ -188,7 +188,7 @@ impl<'a> Running<'a> {
 
     /// The opening of the task's next session, where none is open.
     fn opening<'p>(&self, t: TaskNo, plan: &'p Plan) -> Option<Change<'p>>
-        ensures value { ByPlan plan.now self.now (λ w u. seen result ≡ option_map (change false) (next_session w t.0 u)) }
+        ensures value { ByPlan plan.now self.now (λ w u. seen result ≡ asked w t.0 u 4) }
         ensures room { IsSome result → self.now.part.opened < SESSION_LIMIT }
     {
         if self.is_open {
@@ -206,7 +206,7 @@ impl<'a> Running<'a> {
     /// The closing of its open session.
     fn closing<'p>(&self, t: TaskNo, plan: &'p Plan) -> Option<Change<'p>>
         ensures closes { IfSome result (λ ch. ch.closes ≡ true) }
-        ensures value { ByPlan plan.now self.now (λ w u. seen result ≡ option_map (change true) (open_session w t.0 u)) }
+        ensures value { ByPlan plan.now self.now (λ w u. seen result ≡ asked w t.0 u 5) }
     {
         if !self.is_open {
             return None;

@@ -1,28 +1,29 @@
 -- The places that are planted before the first item.
-use Rattle.std.proofs.Common.{◌≡◌, ◌≢◌, eqb-true, ℕ, zero, suc, ◌+◌, ◌-◌, ◌<◌, ◌≤◌, Bool, true, false, ◌&&◌, nat_eq, nat_lt, if◌then◌else◌, Some, None, List, [], ◌∷◌, length, map, All, refl, sym, ap, ◌∙◌, arith}
+use Rattle.std.proofs.Common.{◌≡◌, ◌≢◌, eqb-true, ℕ, zero, suc, ◌+◌, ◌-◌, ◌<◌, ◌≤◌, Bool, true, false, ◌&&◌, nat_eq, nat_lt, if◌then◌else◌, Some, None, option_map, List, [], ◌∷◌, length, map, All, refl, sym, ap, ◌∙◌, arith}
 use Rattle.std.specs.Option.{option_and_then}
-use Rattle.std.specs.List.{flat_map, range_with_len}
+use Rattle.std.specs.List.{find, flat_map, range_with_len}
 use Rattle.std.proofs.lemmas.Bool.{lt-ltb}
 use Rattle.std.proofs.lemmas.Bool.Decides.{nat_tests}
 use Rattle.std.proofs.lemmas.List.{get_or-set_other}
 use Rattle.std.proofs.lemmas.List.Elements.{All-head, All-tail}
 use Rattle.module_area.specs.Meaning.{word_at, no_cell, fresh_word, ControlledView, window_at}
 use Rattle.module_area.specs.declared.places.Place.{Place}
-use Rattle.interleave_core.specs.Meaning.{World, Parts, plan_in, controller_from, controller_of, Stepped, parts_step, run_on, by_controller, whole_step, with_cell, breakpoint_of}
+use Rattle.interleave_core.specs.Meaning.{World, Parts, plan_in, controller_of, Stepped, parts_step, run_on, by_controller, whole_step, with_cell, breakpoint_of}
 use Rattle.interleave_core.specs.World.{IsWorld}
 use Rattle.interleave_core.specs.declared.events.Event.{Event}
 use Rattle.interleave_core.specs.declared.events.Event.TheVariants as event
 use Rattle.interleave_core.specs.declared.events.Shown.{Shown}
 use Rattle.interleave_core.specs.declared.events.Shown.TheVariants.{Planted}
 use Rattle.interleave_core.proofs.Runs.{run_on-append}
+use Rattle.interleave_core.proofs.Turns.{controller_in}
 use Rattle.schedule_play.specs.Meaning.{plant_at}
 
 -- no task controls a session that observes a place whole
-controller_none : (cs : List ControlledView) (s : ℕ) → All (λ (c : ControlledView). s ≢ c.session) cs → controller_from s cs ≡ None
+controller_none : (cs : List ControlledView) (s : ℕ) → All (λ (c : ControlledView). s ≢ c.session) cs → controller_in s cs ≡ None
 controller_none [] s h = refl
 controller_none (c ∷ cs) s h = by (nat_eq c.session s) refl (controller_none cs s (All-tail (λ (x : ControlledView). s ≢ x.session) c cs h))
   where
-    by : (b : Bool) → nat_eq c.session s ≡ b → controller_from s cs ≡ None → (if b then Some c.by else controller_from s cs) ≡ None
+    by : (b : Bool) → nat_eq c.session s ≡ b → controller_in s cs ≡ None → option_map (λ (d : ControlledView). d.by) (if b then Some c else find (λ (d : ControlledView). nat_eq d.session s) cs) ≡ None
     by true e more = absurd (All-head (λ (x : ControlledView). s ≢ x.session) c cs h (sym (eqb-true c.session s e)))
     by false e more = more
 

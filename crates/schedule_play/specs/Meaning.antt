@@ -1,12 +1,12 @@
 -- What the claim of the program says by this crate's clauses.
-use Rattle.std.specs.Prelude.{ℕ, ◌+◌, Bool, true, false, nat_eq, nat_lt, if◌then◌else◌, Option, Some, None, option_and_then, is_none, is_some, List, [], ◌∷◌, length, ◌≡◌, ◌++◌, ◌-◌, get_or, codes, decimal}
+use Rattle.std.specs.Prelude.{ℕ, ◌+◌, Bool, true, false, nat_eq, nat_lt, if◌then◌else◌, Option, Some, None, option_and_then, is_none, List, [], ◌∷◌, length, ◌≡◌, ◌++◌, ◌-◌, get_or, codes, decimal}
 use Rattle.std.specs.List.{flat_map, range_with_len}
 use Rattle.std.specs.Option.{option_map_or}
 use Rattle.cov_base.specs.declared.numbers.TaskNo.{TaskNo}
 use Rattle.module_area.specs.Meaning.{window_at, place_of}
 use Rattle.module_area.specs.declared.places.Place.{Place}
 use Rattle.session_book.specs.Meaning.{JobView, task_of, session_of}
-use Rattle.interleave_core.specs.Meaning.{World, Parts, plan_in, first_parts, Stepped, parts_step, run_on, set_of, all_events, next_of, results_of}
+use Rattle.interleave_core.specs.Meaning.{World, Parts, plan_in, first_parts, Stepped, parts_step, run_on, set_of, most_events, go, next_of, results_of}
 use Rattle.interleave_core.specs.MeaningOfEvents.{Stands}
 use Rattle.interleave_core.specs.declared.events.Event.{Event}
 use Rattle.interleave_core.specs.declared.events.Event.TheVariants as event
@@ -55,13 +55,9 @@ item_event w c (Plant t) = if_plants (next_of w c t)
 item_event w c (Close t) = if_closes (next_of w c t)
 item_event w c item = None
 
--- the task has ended
-abbrev pub gone : TaskNo → Parts → Option Stepped
-gone t c = if is_some (results_of c t.0).ending then Some (record { parts = c; shown = Done }) else None
-
--- an item, where it is possible: its event, or all events of a task that hasn't ended, which then has
+-- an item, where it is possible: its event, or all events of a task that hasn't ended
 abbrev pub play_item : World → Parts → Item → Option Stepped
-play_item w c (Go t) = if is_none (next_of w c t) then None else option_and_then (gone t) (run_on w c (all_events w c t))
+play_item w c (Go t) = if is_none (next_of w c t) then None else Some (record { parts = go w (most_events w t.0) c t; shown = Done })
 play_item w c item = option_and_then (parts_step w c) (item_event w c item)
 
 abbrev pub with_item : Played → Play → Play
