@@ -62,8 +62,8 @@ pub record StepsAs {O P : Type 0} (makes : O → TablesView → P → List Visit
   pub does : Does makes answers o t p old.control (solo_step (memory_at old) (stands old done)) (call_of (memory_at old) (stands old done)) q new (done + 1) result
 
 -- and it was told whether the task has ended, and how
-abbrev pub StepsAsTold : {O P : Type 0} → observer.Ghosts O P → O → TablesView → P → Bench → ℕ → P → Bench → Told → Ending → Type 0
-StepsAsTold by o t p old done q new told end = StepsAs by.Makes by.Answers o t p old done q new (next_of told end)
+abbrev pub StepsTold : {O P : Type 0} → observer.Ghosts O P → O → TablesView → P → Bench → ℕ → P → Bench → Told → Ending → Type 0
+StepsTold by o t p old done q new told end = StepsAs by.Makes by.Answers o t p old done q new (next_of told end)
 
 -- and of the subject of this EX, which was begun
 pub record StepsOn {O P : Type 0} (by : observer.Ghosts O P) (ex : Code) (o : O) (t : TablesView) (p : P) (old : Bench) (done : ℕ) (q : P) (new : Bench) (result : Next) : Type 0 where
@@ -76,6 +76,7 @@ pub record GoesOn {O P : Type 0} (by : observer.Ghosts O P) (o : O) (t : TablesV
   pub does : (first : P) → by.Makes o t first (own_visit old done ∷ []) p →
       Does by.Makes by.Answers o t first old.control (solo_step (memory_at old) (stands old done)) (call_of (memory_at old) (stands old done)) q new (done + 1) result
 
+-- and it was told whether the task has ended, and how
 abbrev pub GoesOnTold : {O P : Type 0} → observer.Ghosts O P → O → TablesView → P → Bench → ℕ → P → Bench → Told → Ending → Type 0
 GoesOnTold by o t p old done q new told end = GoesOn by o t p old done q new (next_of told end)
 

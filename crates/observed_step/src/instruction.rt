@@ -5,7 +5,7 @@ ghost use Rattle.module_area.specs.Meaning.{is_place, place_of};
 ghost use Rattle.s370_exec.specs.Meaning.{first_tests};
 ghost use Rattle.space_map.specs.Space.{memory_of_space};
 ghost use Rattle.observed_step.specs.Sights.{IsPlaced};
-ghost use Rattle.observed_step.specs.Steps.{CanStep, IsFetched, IsShown, StepsAs, StepsAsTold, StepsOn, GoesOn, GoesOnTold};
+ghost use Rattle.observed_step.specs.Steps.{CanStep, IsFetched, IsShown, StepsAs, StepsTold, StepsOn, GoesOn, GoesOnTold};
 
 use crate::bench::Bench;
 use crate::observer::{Observer, Sight};
@@ -201,7 +201,7 @@ fn step_far<O: Observer>(
     requires can { CanStep O.IsReady O.IsTied observer.now tables.now pass.old bench.old done 0 }
     requires no_place { is_place tables.now.places bench.old.cpu.ia ≡ false }
     ensures can { CanStep O.IsReady O.IsTied observer.now tables.now pass.new bench.new (done + 1) 0 }
-    ensures steps { StepsAsTold O.Observer observer.now tables.now pass.old bench.old done pass.new bench.new result end.new }
+    ensures steps { StepsTold O.Observer observer.now tables.now pass.old bench.old done pass.new bench.new result end.new }
 {
     let at = bench.cpu.at();
     let half = match fetch_first(&bench.space, at) {
@@ -245,7 +245,7 @@ fn step_placed<O: Observer>(
     requires place { place.0 < length tables.now.places }
     requires begins { (place_of tables.now.places place.0).at ≡ bench.old.cpu.ia }
     ensures can { CanStep O.IsReady O.IsTied observer.now tables.now pass.new bench.new (done + 1) 0 }
-    ensures steps { StepsAsTold O.Observer observer.now tables.now pass.old bench.old done pass.new bench.new result end.new }
+    ensures steps { StepsTold O.Observer observer.now tables.now pass.old bench.old done pass.new bench.new result end.new }
 {
     let sight = Sight {
         done,
@@ -272,7 +272,7 @@ fn step_told<O: Observer>(
     requires can { CanStep O.IsReady O.IsTied observer.now tables.now pass.old bench.old done 0 }
     requires placed { IsPlaced tables.now.places bench.old.cpu.ia place }
     ensures can { CanStep O.IsReady O.IsTied observer.now tables.now pass.new bench.new (done + 1) 0 }
-    ensures steps { StepsAsTold O.Observer observer.now tables.now pass.old bench.old done pass.new bench.new result end.new }
+    ensures steps { StepsTold O.Observer observer.now tables.now pass.old bench.old done pass.new bench.new result end.new }
 {
     match place {
         Some(place) => step_placed(observer, pass, tables, bench, done, place, end),
