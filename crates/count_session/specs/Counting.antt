@@ -48,7 +48,7 @@ abbrev pub IsLeft : CountCells → CountPass → ControlView → Option ℕ → 
 IsLeft cells old control call new after = (new ≡ old) × (after ≡ control)
 
 -- The task has run to this end with these services, and the pass has added what its run gives.
-pub record RanCounted (services : Option (List Service)) (cells : CountCells) (p q : CountPass) (old new : Task) (result : Ending) : Type 0 where
+pub record RanCounted (services : List Service) (cells : CountCells) (p q : CountPass) (old new : Task) (result : Ending) : Type 0 where
   pub memory : memory_at new.bench ≡ memory_at old.bench
   pub budget : new.budget ≡ old.budget
   pub done : new.done ≤ old.budget
@@ -57,7 +57,7 @@ pub record RanCounted (services : Option (List Service)) (cells : CountCells) (p
   pub adds : Adds (plan_in cells) (notes_of cells p) (notes_of cells q) (visits_of (run_from (course_of services) (plan_in cells) old).turns)
 
 -- so a task of a job with these services, whose storage is still there
-pub record HasRunCounted (services : Option (List Service)) (cells : CountCells) (p q : CountPass) (old new : Done) : Type 0 where
+pub record HasRunCounted (services : List Service) (cells : CountCells) (p q : CountPass) (old new : Done) : Type 0 where
   pub result : done_result new ≡ result_of_run (own_run (course_of services) (plan_in cells) old)
   pub filled : length new.task.bench.space.bytes ≡ (memory_at old.task.bench).private
   pub adds : Adds (plan_in cells) (notes_of cells p) (notes_of cells q) (visits_of (own_run (course_of services) (plan_in cells) old).turns)

@@ -1,5 +1,5 @@
 //! A task from its first instruction to its end, over cells in which breakpoints stay.
-ghost use Rattle.std.specs.Prelude.{◌≡◌, false, option_copied};
+ghost use Rattle.std.specs.Prelude.{◌≡◌, false};
 ghost use Rattle.observed_step.specs.Steps.{memory_at};
 ghost use Rattle.svc_monitor.specs.First.{IsOver};
 ghost use Rattle.count_session.specs.Counting.{RanCounted};
@@ -21,7 +21,7 @@ pub fn run_counted(
     cells: &CountCells,
     pass: &mut CountPass,
     tables: &Tables,
-    services: Option<&[Service]>,
+    services: &[Service],
     task: &mut Task<'_>,
 ) -> Ending
     requires area { IsPassOf cells.now pass.old }
@@ -29,7 +29,7 @@ pub fn run_counted(
     requires task { (notes_of cells.now pass.old).root ≡ false }
     requires nothing { (notes_of cells.now pass.old).adds ≡ 0 }
     ensures area { IsPassOf cells.now pass.new }
-    ensures ran { RanCounted (option_copied services.entry) cells.now pass.old pass.new task.old task.new result }
+    ensures ran { RanCounted services.now cells.now pass.old pass.new task.old task.new result }
 {
     let budget = task.budget;
     let end = run_alone(cells, pass, tables, services, &mut task.bench, budget);

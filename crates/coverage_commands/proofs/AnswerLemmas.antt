@@ -153,9 +153,9 @@ pub told_text : {K T E : Type 0} {written : K → Option (List ℕ)} {faults : K
 told_text text r answer w good bad = Told 0 text (refl, refl) (written_as text r answer w good bad)
 
 -- a run with services that are the job's
-pub with_own : (j : JobView) (tables : TablesView) {a : AreasChange} {form : (ℕ → ResultView) → (ℕ → ℕ → FactSet) → List ℕ} {k : SinkChange} {answer : ℕ} (o : Option (List Service)) → o ≡ j.services →
+pub with_own : (j : JobView) (tables : TablesView) {a : AreasChange} {form : (ℕ → ResultView) → (ℕ → ℕ → FactSet) → List ℕ} {k : SinkChange} {answer : ℕ} (o : List Service) → o ≡ j.services →
     IsTold (λ status text. (status ≡ 0) × Reports (course_of o) j tables a form text) k answer → IsTold (λ status text. (status ≡ 0) × Reports (course_of j.services) j tables a form text) k answer
-with_own j tables {a} {form} {k} {answer} o is told = subst (λ (p : Option (List Service)). IsTold (λ status text. (status ≡ 0) × Reports (course_of p) j tables a form text) k answer) is told
+with_own j tables {a} {form} {k} {answer} o is told = subst (λ (p : List Service). IsTold (λ status text. (status ≡ 0) × Reports (course_of p) j tables a form text) k answer) is told
 
 -- a schedule behind it
 pub played : (r : Ready) (status : ℕ) (text : List ℕ) → IsReplayed r.input.job r.tables r.input.lines r.input.rest.items status text → IsAnswerOf Replay (view_of r) status text

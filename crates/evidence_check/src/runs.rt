@@ -26,7 +26,7 @@ fn add_task(
     let visits = FirstVisits { task: t };
     let card = job.card(t as usize);
     let mut bench = begin_alone(alloc, job, tables, t as usize)?;
-    run_alone(&visits, found, tables, None, &mut bench, card.budget);
+    run_alone(&visits, found, tables, &[], &mut bench, card.budget);
     Ok(())
 }
 

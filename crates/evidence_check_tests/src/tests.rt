@@ -163,7 +163,7 @@ fn job(alloc: Global, executes: bool) -> Result<Job, Fail>
     let cards = JobCards {
         images: images(alloc)?,
         listings: vec![in alloc; None, None, None]?,
-        services: None,
+        services: Vec::new(alloc),
         phases: vec![in alloc; Name::read(b"P").ok_or("name")?]?,
         sessions: vec![in alloc; session]?,
         tasks: vec![in alloc; task]?,

@@ -121,7 +121,7 @@ fn job(alloc: Global) -> Result<Job, Fail>
     let cards = JobCards {
         images: images(alloc)?,
         listings: vec![in alloc; None]?,
-        services: None,
+        services: Vec::new(alloc),
         phases: vec![in alloc; Name::read(b"P").ok_or("name")?]?,
         sessions: vec![in alloc; s1, s2]?,
         tasks: vec![in alloc; a, c]?,

@@ -145,7 +145,7 @@ unfoldable pub trial_job : ℕ → ℕ → JobView
 trial_job number tasks = record {
   images = trial_module number ∷ [];
   listings = Some (listing_of (trial_code number)) ∷ [];
-  services = None;
+  services = [];
   phases = padded (codes "P") ∷ [];
   sessions = trial_session ∷ [];
   tasks = map trial_task (range_with_len 1 tasks);

@@ -47,7 +47,7 @@ pub fn trial(alloc: Global, number: u32, tasks: u32) -> Result<Job, NoMemory>
     let cards = JobCards {
         images: Images(vec![in alloc; image]?),
         listings: vec![in alloc; Some(listing_of(alloc, &code)?)]?,
-        services: None,
+        services: Vec::new(alloc),
         phases: vec![in alloc; letter(b'P')]?,
         sessions: vec![in alloc; session]?,
         tasks: tasks_of(alloc, tasks)?,

@@ -117,7 +117,7 @@ module_early (part.Listed i left texts) j k e early = sessions_of (with_module j
 module_early p j k e early = absurd cc
 
 service_sessions : (j k : DraftView) (v : Service) → with_service j v ≡ Some k → k.sessions ≡ j.sessions
-service_sessions j k v e = ap (λ (x : DraftView). x.sessions) (sym (service_added j k v e).is)
+service_sessions j k v e = ap (λ (x : DraftView). x.sessions) (sym (service_added j k v e))
 
 service_early : (p : Part) (j k : DraftView) → closed_service p j ≡ Some k → Early p j → k.sessions ≡ []
 service_early part.Services j k e early = sessions_of j k (same_Some j k e) early

@@ -134,7 +134,7 @@ phase_listings j after name e =
     ap (λ (x : DraftView). x.listings) (sym g.1)
 
 service_listings : (j after : DraftView) (s : Service) → with_service j s ≡ Some after → after.listings ≡ j.listings
-service_listings j after s e = ap (λ (x : DraftView). x.listings) (sym (service_added j after s e).is)
+service_listings j after s e = ap (λ (x : DraftView). x.listings) (sym (service_added j after s e))
 
 session_listings : (j after : DraftView) (name : List ℕ) (by : Option (List ℕ)) (names : List (List ℕ)) → with_session j name by names ≡ Some after → after.listings ≡ j.listings
 session_listings j after name by names e = ap (λ (x : DraftView). x.listings) (sym (session_added j after name by names e).is)

@@ -230,7 +230,7 @@ line_grown j i texts t m n =
 
 -- a service more
 
-service_alike : (j : DraftView) (services : Option (List Service)) (w : Limit) → holds w j ≡ holds w (record j { services = services })
+service_alike : (j : DraftView) (services : List Service) (w : Limit) → holds w j ≡ holds w (record j { services = services })
 service_alike j services limit.Sessions = refl
 service_alike j services limit.Input = refl
 service_alike j services limit.Modules = refl
@@ -244,9 +244,7 @@ service_alike j services limit.Budget = refl
 service_alike j services limit.Room = refl
 
 service_grown : (j k : DraftView) (v : Service) → with_service j v ≡ Some k → More j k None
-service_grown j k v e =
-    let m = service_added j k v e in
-    subst (λ (x : DraftView). More j x None) m.is (alike j _ (service_alike j (Some m.services)))
+service_grown j k v e = subst (λ (x : DraftView). More j x None) (service_added j k v e) (alike j _ (service_alike j (j.services ++ v ∷ [])))
 
 -- a phase more, a session more
 

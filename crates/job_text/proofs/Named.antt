@@ -1,10 +1,10 @@
 -- What runs or spells a job does so, too, where controllers may be missing.
-use Rattle.std.proofs.Common.{◌≡◌, ℕ, true, false, Option, Some, List, [], ◌∷◌, refl, ap, option_map, option_and_then, inl, inr}
+use Rattle.std.proofs.Common.{◌≡◌, ℕ, true, false, Option, Some, List, [], ◌∷◌, ◌++◌, refl, ap, option_map, option_and_then, inl, inr}
 use Rattle.std.specs.List.{list_any}
 use Rattle.std.specs.Str.{bytes_eq}
 use Rattle.std.proofs.lemmas.Option.{cond_some}
 use Rattle.session_book.specs.Meaning.{JobView}
-use Rattle.job_text.specs.Meaning.{LineView, listing_text, DraftView, Controllers, Named, are_met, CardView, Phase, End, card_at, with_task, indices_on, put_session, may_have, with_session, IsPhase, Spells, Lead, with_service, put_service}
+use Rattle.job_text.specs.Meaning.{LineView, listing_text, DraftView, Controllers, Named, are_met, CardView, Phase, End, card_at, with_task, indices_on, put_session, may_have, with_session, IsPhase, Spells, Lead, with_service}
 use Rattle.session_book.specs.declared.services.Service.{Service}
 use Rattle.job_text.specs.declared.grammar.Grammar.{Grammar}
 use Rattle.job_text.specs.declared.parts.Part.{Part}
@@ -28,14 +28,8 @@ session_added j after name by names e =
     record { new = g.0; may = h.0; modules = m.from; are = m.was; is = m.gives }
 
 -- a service that was added
-pub record AddedService (j after : DraftView) : Type 0 where
-  pub services : List Service
-  pub is : record j { services = Some services } ≡ after
-
-pub service_added : (j after : DraftView) (s : Service) → with_service j s ≡ Some after → AddedService j after
-service_added j after s e =
-    let m = map_some (λ (services : List Service). record j { services = Some services }) (option_and_then (put_service s) j.services) after e in
-    record { services = m.from; is = m.gives }
+pub service_added : (j after : DraftView) (s : Service) → with_service j s ≡ Some after → record j { services = j.services ++ s ∷ [] } ≡ after
+service_added j after s e = (cond_some _ _ after e).1
 
 named_phases : (ask : Controllers) (blocks : List (List LineView)) (j after : DraftView) → Lead (IsPhase ask) j blocks after → Lead (IsPhase Named) j blocks after
 named_phases ask [] j after are = are

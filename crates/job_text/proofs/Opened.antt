@@ -1,28 +1,18 @@
 -- What a service, a phase, a session or a task more makes of what was read.
-use Rattle.std.proofs.Common.{◌≡◌, ℕ, ◌+◌, ◌<◌, ◌≤◌, Bool, true, false, nat_le, if◌then◌else◌, Option, None, Some, IfSome, List, [], ◌∷◌, ◌++◌, length, length-append, option_map, subst, arith, nat_lt, nat_eq, refl}
-use Rattle.std.specs.List.{list_all}
+use Rattle.std.proofs.Common.{◌≡◌, ℕ, ◌+◌, ◌<◌, ◌≤◌, Bool, true, false, nat_le, if◌then◌else◌, Option, None, Some, IfSome, List, [], ◌∷◌, ◌++◌, length, length-append, option_map, subst, arith}
 use Rattle.std.proofs.lemmas.Bool.Decides.{nat_tests}
-use Rattle.cov_base.specs.Meaning.{ImageView}
 use Rattle.cov_base.specs.declared.limits.TheConstants.{PHASE_LIMIT, SESSION_LIMIT}
 use Rattle.session_book.specs.declared.services.Service.{Service}
 use Rattle.job_text.specs.Meaning.{DraftView, Present, are_met, with_service, with_phase, with_session, with_task}
 use Rattle.job_text.specs.declared.limit.Limit.TheVariants as limit
-use Rattle.job_text.specs.declared.parts.Part.{Part}
 use Rattle.job_text.specs.declared.parts.Part.TheVariants as part
 use Rattle.job_text.specs.declared.task.TaskPart.{TaskPart}
-use Rattle.job_text.specs.Steps.{state, take_text, take_listing, met_of, open_phase, add_session, HasRoom, Gives}
+use Rattle.job_text.specs.Steps.{state, met_of, open_phase, add_session, HasRoom, Gives}
 use Rattle.job_text.proofs.Guards.{guard_none}
 use Rattle.job_text.proofs.Named.{service_added, session_added}
 
-module _ (j : DraftView) (s : Service) (others : List Service) (e : j.services ≡ Some others) where
-  pub service_refused : list_all (λ (v : Service). nat_lt v.number s.number) others ≡ false → None ≡ with_service j s
-  service_refused f = rw (e, f) refl
-
-  pub service_put : list_all (λ (v : Service). nat_lt v.number s.number) others ≡ true → Some (record j { services = Some (others ++ s ∷ []) }) ≡ with_service j s
-  service_put f = rw (e, f) refl
-
 pub service_room : (j k : DraftView) (s : Service) → with_service j s ≡ Some k → HasRoom part.Modules j → HasRoom part.Services k
-service_room j k s e r = subst (λ (x : DraftView). HasRoom part.Services x) (service_added j k s e).is (record { new = tt; modules = r.modules; phases = r.phases })
+service_room j k s e r = subst (λ (x : DraftView). HasRoom part.Services x) (service_added j k s e) (record { new = tt; modules = r.modules; phases = r.phases })
 
 module _ (j k : DraftView) (name : List ℕ) (e : with_phase j name ≡ Some k) where
   pub phase_passes : PHASE_LIMIT ≤ length j.phases → option_map (λ s. s.over) (open_phase name j) ≡ Some (Some limit.Phases)
@@ -61,11 +51,3 @@ if_held P false x p = tt
 
 pub met_room : (j : DraftView) → HasRoom part.Modules j → IfSome (met_of Present j) (HasRoom part.Modules)
 met_room j r = if_held (HasRoom part.Modules) (are_met Present j) j r
-
--- a module that is open
-
-pub text_refused : (p : Part) (i : ImageView) (left : ℕ) (j : DraftView) (bytes : List ℕ) → p ≡ part.Texts i left → nat_le (length bytes) left ≡ false → take_text p j bytes ≡ None
-text_refused p i left j bytes e long = rw (e, long) refl
-
-pub listing_refused : (p : Part) (i : ImageView) (left : ℕ) (j : DraftView) (n : ℕ) → p ≡ part.Texts i left → nat_eq left 0 ≡ false → take_listing p j n ≡ None
-listing_refused p i left j n e more = rw (e, more) refl

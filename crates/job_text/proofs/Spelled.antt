@@ -7,7 +7,6 @@ use Rattle.std.specs.List.{concat}
 use Rattle.cov_base.specs.Meaning.{ImageView}
 use Rattle.session_book.specs.Meaning.{JobView}
 use Rattle.job_text.specs.Meaning.{DraftView, Controllers, are_met, bound, Present, LineView, listing_text, CardView, Cover, Module, Text, Listing, Phase, Session, Task, Reg, Data, Input, End, IsCard, card_at, no_job, with_module, with_task, joined, AreCards, IsListed, IsModule, IsTaskBlock, IsPhase, Spells, JobBegins, Lead, IsServiceCard, IsSessionCard, Serve}
-use Rattle.session_book.specs.declared.services.Service.{Service}
 use Rattle.job_text.specs.declared.grammar.Grammar.{Grammar}
 use Rattle.job_text.specs.TaskParts.{fresh_task, task_more}
 use Rattle.job_text.specs.declared.task.TaskPart.{TaskPart}

@@ -1,5 +1,5 @@
 -- The cards of a task, read one after the other, are those that spell it.
-use Rattle.std.proofs.Common.{◌≡◌, ℕ, ◌+◌, ◌≤◌, true, ◌&&◌, Option, Some, None, List, [], ◌∷◌, ◌++◌, length, refl, ap, subst, option_and_then, sym, ◌∙◌, arith, append_assoc, append-nil, zero, suc, map, get_or, All, AllPairs, ◌<◌}
+use Rattle.std.proofs.Common.{◌≡◌, ℕ, ◌+◌, ◌≤◌, true, ◌&&◌, Option, Some, None, List, [], ◌∷◌, ◌++◌, length, refl, ap, subst, option_and_then, sym, ◌∙◌, arith, append_assoc, append-nil, zero, suc, get_or, All, AllPairs, ◌<◌}
 use Rattle.std.proofs.lemmas.Bool.Decides.{nat_tests}
 use Rattle.std.proofs.lemmas.List.Elements.{All-cons, All-nil}
 use Rattle.std.specs.List.{concat}

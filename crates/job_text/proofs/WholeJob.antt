@@ -157,7 +157,7 @@ modules_so_far (block ∷ blocks) j after are s = modules_so_far blocks are.mid 
 -- services
 
 service_so_far : (j after : DraftView) (v : Service) → with_service j v ≡ Some after → SoFar j → SoFar after
-service_so_far j after v e s = rw (← (service_added j after v e).is) (record {
+service_so_far j after v e s = rw (← service_added j after v e) (record {
   listings = s.listings;
   each = s.each;
   apart = s.apart;
@@ -423,7 +423,7 @@ modules_none (block ∷ blocks) j after are e = modules_none blocks are.mid afte
 
 services_none : (ls : List LineView) (j after : DraftView) → Lead IsServiceCard j ls after → j.sessions ≡ [] → after.sessions ≡ []
 services_none [] j after are e = rw (← are) e
-services_none (l ∷ ls) j after are e = services_none ls are.mid after are.follows (ap (λ (x : DraftView). x.sessions) (sym (service_added j are.mid are.is.service are.is.adds).is) ∙ e)
+services_none (l ∷ ls) j after are e = services_none ls are.mid after are.follows (ap (λ (x : DraftView). x.sessions) (sym (service_added j are.mid are.is.service are.is.adds)) ∙ e)
 
 phases_met : (blocks : List (List LineView)) (j after : DraftView) → Lead (IsPhase Present) j blocks after → are_met Present j ≡ true → are_met Present after ≡ true
 phases_met [] j after are e = rw (← are) e

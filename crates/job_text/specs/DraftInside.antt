@@ -1,5 +1,5 @@
 -- What of a job was read whole, by its fields.
-use Rattle.std.specs.Prelude.{◌≡◌, map, option_map}
+use Rattle.std.specs.Prelude.{◌≡◌, map}
 use Rattle.session_book.specs.Names.{module_names, task_names}
 use Rattle.session_book.specs.declared.job_names.JobNames.{JobNames}
 use Rattle.job_text.specs.Meaning.{SessionDraft, DraftView}
@@ -10,7 +10,7 @@ abbrev pub names_in : DraftView → JobNames
 names_in j = record { modules = module_names j.images; phases = j.phases; sessions = map (λ (s : SessionDraft). s.name) j.sessions; tasks = task_names j.tasks }
 
 abbrev pub draft_view : Inside → DraftView
-draft_view d = record { images = d.images.items; listings = d.listings.items; services = option_map (λ v. v.items) d.services; phases = d.phases.items; sessions = d.sessions.items; tasks = d.tasks.items }
+draft_view d = record { grammar = d.grammar; images = d.images.items; listings = d.listings.items; services = d.services.items; phases = d.phases.items; sessions = d.sessions.items; tasks = d.tasks.items }
 
 abbrev pub HasNames : Inside → Type 0
 HasNames d = d.names ≡ names_in (draft_view d)

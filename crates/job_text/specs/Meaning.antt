@@ -28,10 +28,11 @@ pub record SessionDraft : Type 0 where
   pub by : Option (List ℕ)
 
 pub record DraftView : Type 0 where
+  -- which cards it may have
+  pub grammar : Grammar
   pub images : List ImageView
   pub listings : List (Option (List (List ℕ)))
-  -- none where no SERVICE card may come
-  pub services : Option (List Service)
+  pub services : List Service
   pub phases : List (List ℕ)
   pub sessions : List SessionDraft
   pub tasks : List TaskView
@@ -71,12 +72,8 @@ bound j = record { images = j.images; listings = j.listings; services = j.servic
 
 -- What a card adds to a job, where it may.
 
-abbrev pub no_services : Grammar → Option (List Service)
-no_services grammar.Plain = None
-no_services grammar.Services = Some []
-
 abbrev pub no_job : Grammar → DraftView
-no_job g = record { images = []; listings = []; services = no_services g; phases = []; sessions = []; tasks = [] }
+no_job g = record { grammar = g; images = []; listings = []; services = []; phases = []; sessions = []; tasks = [] }
 
 abbrev pub has_module : DraftView → List ℕ → Bool
 has_module j name = list_any (λ i. bytes_eq i.name name) j.images
@@ -91,12 +88,13 @@ fits j name base size = not (has_module j name) && list_all (is_clear base size)
 abbrev pub with_module : DraftView → ImageView → Option (List (List ℕ)) → DraftView
 with_module j i listing = record j { images = j.images ++ i ∷ []; listings = j.listings ++ listing ∷ [] }
 
--- the services and this one, whose number is above theirs
-abbrev pub put_service : Service → List Service → Option (List Service)
-put_service s others = if list_all (λ v. nat_lt v.number s.number) others then Some (others ++ s ∷ []) else None
+abbrev pub has_services : Grammar → Bool
+has_services grammar.Plain = false
+has_services grammar.Services = true
 
+-- one whose number is above those of the others, where the grammar has services
 abbrev pub with_service : DraftView → Service → Option DraftView
-with_service j s = option_map (λ services. record j { services = Some services }) (option_and_then (put_service s) j.services)
+with_service j s = if has_services j.grammar && list_all (λ v. nat_lt v.number s.number) j.services then Some (record j { services = j.services ++ s ∷ [] }) else None
 
 abbrev pub with_phase : DraftView → List ℕ → Option DraftView
 with_phase j name = if list_any (λ p. bytes_eq p name) j.phases then None else Some (record j { phases = j.phases ++ name ∷ [] })

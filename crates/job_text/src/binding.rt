@@ -87,6 +87,7 @@ pub(crate) fn bound_job(alloc: Global, job: Draft) -> Result<Job, NoMemory>
     ensures { IfOk result (λ whole. whole ≡ drafts.bound job) }
 {
     let Draft {
+        grammar: _,
         images,
         listings,
         services,

@@ -9,6 +9,7 @@ ghost use Rattle.job_text.specs.Steps as machine;
 ghost use Rattle.job_text.specs.declared.parts.Part.TheVariants as kind;
 
 use crate::binding::are_met;
+use crate::grammar::Grammar;
 use crate::parts::{Draft, Part, SessionDraft};
 use cov_base::{Name, NoMemory};
 use listing_lines::ListingLines;
@@ -155,6 +156,7 @@ fn put_module(job: Draft, image: Image, listing: Option<ListingLines>) -> Result
     ensures { IfOk result (λ d. d ≡ adding.with_module job image listing) }
 {
     let Draft {
+        grammar,
         mut images,
         mut listings,
         services,
@@ -167,6 +169,7 @@ fn put_module(job: Draft, image: Image, listing: Option<ListingLines>) -> Result
     images.push(image)?;
     listings.push(listing)?;
     Ok(Draft {
+        grammar,
         images,
         listings,
         services,
@@ -184,6 +187,7 @@ fn put_task(job: Draft, task: TaskCard) -> Result<Draft, NoMemory>
 {
     let phase = this_phase(&job);
     let Draft {
+        grammar,
         images,
         listings,
         services,
@@ -195,6 +199,7 @@ fn put_task(job: Draft, task: TaskCard) -> Result<Draft, NoMemory>
     let names = names.with_task(task.name)?;
     tasks.push(TaskCard { phase, ..task })?;
     Ok(Draft {
+        grammar,
         images,
         listings,
         services,
@@ -211,11 +216,35 @@ fn are_below(services: &[Service], number: u8) -> bool
     services.iter().all(|service| service.number < number)
 }
 
+fn has_services(grammar: Grammar) -> bool
+    ensures { result ≡ adding.has_services grammar }
+{
+    match grammar {
+        Grammar::Plain => false,
+        Grammar::Services => true,
+    }
+}
+
 /// The job with a service more; none where it can't have one, or the number isn't above those of the others.
 pub(crate) fn with_service(job: Draft, service: Service) -> Result<Option<Draft>, NoMemory>
     ensures { IfOk result (λ o. o ≡ adding.with_service job service) }
 {
+    if !has_services(job.grammar) || !are_below(&job.services, service.number) {
+        return Ok(None);
+    }
     let Draft {
+        grammar,
+        images,
+        listings,
+        mut services,
+        phases,
+        sessions,
+        tasks,
+        names,
+    } = job;
+    services.push(service)?;
+    Ok(Some(Draft {
+        grammar,
         images,
         listings,
         services,
@@ -223,25 +252,7 @@ pub(crate) fn with_service(job: Draft, service: Service) -> Result<Option<Draft>
         sessions,
         tasks,
         names,
-    } = job;
-    match services {
-        None => Ok(None),
-        Some(mut services) => {
-            if !are_below(&services, service.number) {
-                return Ok(None);
-            }
-            services.push(service)?;
-            Ok(Some(Draft {
-                images,
-                listings,
-                services: Some(services),
-                phases,
-                sessions,
-                tasks,
-                names,
-            }))
-        }
-    }
+    }))
 }
 
 /// The job with a phase more; none where a phase has the name.
@@ -249,6 +260,7 @@ pub(crate) fn with_phase(job: Draft, name: Name) -> Result<Option<Draft>, NoMemo
     ensures { IfOk result (λ o. o ≡ adding.with_phase job name) }
 {
     let Draft {
+        grammar,
         images,
         listings,
         services,
@@ -263,6 +275,7 @@ pub(crate) fn with_phase(job: Draft, name: Name) -> Result<Option<Draft>, NoMemo
     let names = names.with_phase(name)?;
     phases.push(name)?;
     Ok(Some(Draft {
+        grammar,
         images,
         listings,
         services,
@@ -288,6 +301,7 @@ fn put_session(job: Draft, session: SessionDraft) -> Result<Draft, NoMemory>
     ensures { IfOk result (λ d. d ≡ adding.with_draft job session) }
 {
     let Draft {
+        grammar,
         images,
         listings,
         services,
@@ -299,6 +313,7 @@ fn put_session(job: Draft, session: SessionDraft) -> Result<Draft, NoMemory>
     let names = names.with_session(session.name)?;
     sessions.push(session)?;
     Ok(Draft {
+        grammar,
         images,
         listings,
         services,

@@ -1,5 +1,6 @@
 //! How far a job was read.
 
+use crate::grammar::Grammar;
 use crate::task::TaskPart;
 use cov_base::Name;
 use listing_lines::ListingLines;
@@ -27,10 +28,10 @@ impl Model for SessionDraft {
 /// What of a job was read whole, with its names, by which modules, phases, sessions and tasks are found.
 #[derive(Drop)]
 pub(crate) struct Draft {
+    pub grammar: Grammar,
     pub images: Vec<Image>,
     pub listings: Vec<Option<ListingLines>>,
-    /// None where no SERVICE card may come.
-    pub services: Option<Vec<Service>>,
+    pub services: Vec<Service>,
     pub phases: Vec<Name>,
     pub sessions: Vec<SessionDraft>,
     pub tasks: Vec<TaskCard>,

@@ -55,16 +55,13 @@ impl LineReader {
     pub(crate) fn new(alloc: Global, grammar: Grammar) -> LineReader
         ensures { result ≡ machine.start grammar }
     {
-        let services = match grammar {
-            Grammar::Plain => None,
-            Grammar::Services => Some(Vec::new(alloc)),
-        };
         LineReader {
             part: Part::Start,
             job: Draft {
+                grammar,
                 images: Vec::new(alloc),
                 listings: Vec::new(alloc),
-                services,
+                services: Vec::new(alloc),
                 phases: Vec::new(alloc),
                 sessions: Vec::new(alloc),
                 tasks: Vec::new(alloc),

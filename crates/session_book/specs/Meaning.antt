@@ -38,8 +38,8 @@ pub record JobView : Type 0 where
   pub images : List ImageView
   -- for each module the lines of its listing, where it has one
   pub listings : List (Option (List (List ℕ)))
-  -- in the order of their cards; none where the job was read without SERVICE cards
-  pub services : Option (List Service)
+  -- in the order of their cards
+  pub services : List Service
   pub phases : List (List ℕ)
   pub sessions : List SessionView
   pub tasks : List TaskView

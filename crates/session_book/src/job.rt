@@ -1,5 +1,5 @@
 //! The job that the cards spell.
-ghost use Rattle.std.specs.Prelude.{◌≡◌, ◌<◌, ◌≤◌, IfOk, IfSome, length, option_copied};
+ghost use Rattle.std.specs.Prelude.{◌≡◌, ◌<◌, ◌≤◌, IfOk, IfSome, length};
 ghost use Rattle.session_book.specs.JobView.{IsJob, IsSession, IsTask};
 ghost use Rattle.session_book.specs.Meaning.{session_of, task_of, task_named};
 ghost use Rattle.session_book.specs.Names.{names_of, session_named};
@@ -54,25 +54,23 @@ impl Model for TaskCard {
     ghost view = { λ t. record { name = t.name; phase = t.phase; entry = t.entry; private = t.private; budget = t.budget; room = t.room; regs = t.regs; cards = t.cards.items; input = t.input.items } };
 }
 
-/// What the cards of a job say. For each module there is one entry of `listings`, none where it isn't monitored. The services
-/// are none where the job was read without SERVICE cards.
+/// What the cards of a job say. For each module there is one entry of `listings`, none where it isn't monitored.
 #[derive(Drop)]
 pub struct JobCards {
     pub images: Images,
     pub listings: Vec<Option<ListingLines>>,
-    pub services: Option<Vec<Service>>,
+    pub services: Vec<Service>,
     pub phases: Vec<Name>,
     pub sessions: Vec<Session>,
     pub tasks: Vec<TaskCard>,
 }
 
 impl Model for JobCards {
-    ghost use Rattle.std.specs.Prelude.{option_map};
     ghost use Rattle.session_book.specs.Meaning.{JobView};
 
     ghost Value = { JobView };
 
-    ghost view = { λ j. record { images = j.images; listings = j.listings.items; services = option_map (λ v. v.items) j.services; phases = j.phases.items; sessions = j.sessions.items; tasks = j.tasks.items } };
+    ghost view = { λ j. record { images = j.images; listings = j.listings.items; services = j.services.items; phases = j.phases.items; sessions = j.sessions.items; tasks = j.tasks.items } };
 }
 
 /// The whole job, as its cards say, with its names, by which sessions and tasks are found.
@@ -80,7 +78,7 @@ impl Model for JobCards {
 pub struct Job {
     pub images: Images,
     pub listings: Vec<Option<ListingLines>>,
-    services: Option<Vec<Service>>,
+    services: Vec<Service>,
     pub phases: Vec<Name>,
     pub sessions: Vec<Session>,
     pub tasks: Vec<TaskCard>,
@@ -134,14 +132,11 @@ impl Job {
         }
     }
 
-    /// Its services in the order of their cards; none where it was read without SERVICE cards.
-    pub fn services(&self) -> Option<&[Service]>
-        ensures { option_copied result ≡ self.now.services }
+    /// Its services in the order of their cards.
+    pub fn services(&self) -> &[Service]
+        ensures { result.now ≡ self.now.services }
     {
-        match &self.services {
-            None => None,
-            Some(services) => Some(services.as_slice()),
-        }
+        &self.services
     }
 
     /// The number of the session of the name; none exactly where no session has it.

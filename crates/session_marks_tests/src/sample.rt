@@ -53,7 +53,7 @@ pub(crate) fn job(alloc: Global) -> Result<Job, Fail>
             None,
             Some(ListingLines::new(alloc)),
         ]?,
-        services: None,
+        services: Vec::new(alloc),
         phases: vec![in alloc; Name::read(b"P").ok_or("name")?]?,
         sessions: vec![in alloc; session]?,
         tasks: Vec::new(alloc),

@@ -1,6 +1,5 @@
 -- A task that has run to its end, with a pass that has made the run's visits.
-use Rattle.std.specs.Borrow.{Bor}
-use Rattle.std.specs.Prelude.{◌≡◌, ℕ, Option, List, option_copied}
+use Rattle.std.specs.Prelude.{◌≡◌, ℕ, List}
 use Rattle.cov_base.specs.Meaning.{Visit}
 use Rattle.module_area.specs.Meaning.{PlanView}
 use Rattle.observed_step.specs.Meaning.{visits_of}
@@ -20,5 +19,5 @@ pub record RanAlong {P : Type 0} (course : Course) (makes : P → List Visit →
   pub made : (plan : PlanView) → makes p (visits_of (course plan (memory_at old) budget (stands old 0)).turns) q
 
 -- that of a job with these services
-abbrev pub Ran : {P : Type 0} → Option (Bor (List Service)) → (P → List Visit → P → Type 0) → P → ℕ → Bench → TaskEnd → Bench → P → Type 0
-Ran services makes p budget old end new q = RanAlong (course_of (option_copied services)) makes p budget old end new q
+abbrev pub Ran : {P : Type 0} → List Service → (P → List Visit → P → Type 0) → P → ℕ → Bench → TaskEnd → Bench → P → Type 0
+Ran services makes p budget old end new q = RanAlong (course_of services) makes p budget old end new q

@@ -16,26 +16,24 @@ pub fn run_alone<O: Observer>(
     observer: &O,
     pass: &mut O::Pass,
     tables: &Tables,
-    services: Option<&[Service]>,
+    services: &[Service],
     bench: &mut Bench<'_>,
     budget: u32,
 ) -> TaskEnd
     requires can { CanStep O.IsReady O.IsTied observer.now tables.now pass.old bench.old 0 0 }
     requires calls { IgnoresCalls O.Answers observer.now }
     ensures memory { memory_at bench.new ≡ memory_at bench.old }
-    ensures ran { Ran services.entry (O.Makes observer.now tables.now) pass.old budget bench.old result bench.new pass.new }
+    ensures ran { Ran services.now (O.Makes observer.now tables.now) pass.old budget bench.old result bench.new pass.new }
     ensures most { result.done ≤ budget }
     ensures can { CanStep O.IsReady O.IsTied observer.now tables.now pass.new bench.new result.done 0 }
 {
     let watch = Watch { observer, tables };
-    match services {
-        None => run(&watch, pass, &mut NoHook, bench, budget),
-        Some(services) => {
-            let mut hook = Services {
-                services,
-                caller: None,
-            };
-            run(&watch, pass, &mut hook, bench, budget)
-        }
+    if services.is_empty() {
+        return run(&watch, pass, &mut NoHook, bench, budget);
     }
+    let mut hook = Services {
+        services,
+        caller: None,
+    };
+    run(&watch, pass, &mut hook, bench, budget)
 }

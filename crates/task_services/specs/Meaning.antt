@@ -1,5 +1,5 @@
 -- What the claim of the program says by this crate's clauses.
-use Rattle.std.specs.Prelude.{ℕ, if◌then◌else◌, ◌==◌, Option, Some, None, List, slice_index, slice_set}
+use Rattle.std.specs.Prelude.{ℕ, if◌then◌else◌, ◌==◌, Option, Some, None, List, [], ◌∷◌, slice_index, slice_set}
 use Rattle.std.specs.List.{find}
 use Rattle.cov_base.specs.Meaning.{Memory, CpuView, Machine}
 use Rattle.s370_state.specs.declared.endings.Ending.{Ending}
@@ -81,7 +81,7 @@ by_next k m s next = let b = by_call k m s next in by_return b b.next
 abbrev pub with_services : List Service → Course
 with_services services plan m budget s = course_on by_next m budget (record { services = services; caller = None }) s
 
--- The course of a job's tasks, by its services: alone where the job was read without SERVICE cards.
-abbrev pub course_of : Option (List Service) → Course
-course_of None = solo
-course_of (Some services) = with_services services
+-- The course of a job's tasks, by its services: alone where it has none.
+abbrev pub course_of : List Service → Course
+course_of [] = solo
+course_of (s ∷ ss) = with_services (s ∷ ss)

@@ -1,5 +1,4 @@
 //! The runner of a job's tasks.
-ghost use Rattle.std.specs.Prelude.{option_copied};
 ghost use Rattle.task_services.specs.Meaning.{course_of};
 
 use crate::run::run_under;
@@ -11,16 +10,16 @@ use session_book::Service;
 use std::alloc::Global;
 use task_run::{NoExtra, Runner, Task, run_task};
 
-/// Runs each task with the job's services, alone where it was read without SERVICE cards.
+/// Runs each task with the job's services, alone where it has none.
 #[derive(Drop)]
 pub struct JobRunner<'a> {
-    pub services: Option<&'a [Service]>,
+    pub services: &'a [Service],
 }
 
 impl<'a, C: Cells> Runner<C> for JobRunner<'a> {
     type Extra = NoExtra;
 
-    ghost course = { λ r. course_of (option_copied r.services) };
+    ghost course = { λ r. course_of r.services.now };
 
     ghost begins = { λ plan t extra notes. Unit {0} };
 
@@ -39,9 +38,10 @@ impl<'a, C: Cells> Runner<C> for JobRunner<'a> {
         extra: &mut NoExtra,
         task: &mut Task<'_>,
     ) -> Ending {
-        match self.services {
-            None => run_task(cells, pass, tables, plan, task),
-            Some(services) => run_under(cells, pass, tables, plan, services, task),
+        if self.services.is_empty() {
+            run_task(cells, pass, tables, plan, task)
+        } else {
+            run_under(cells, pass, tables, plan, self.services, task)
         }
     }
 }

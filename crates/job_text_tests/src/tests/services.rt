@@ -170,9 +170,7 @@ fn tells_the_line_of_a_card_that_is_bad(rt: HostRuntime) -> Result<(), Fail> {
 
 /// Whether the job has these services, each with its entry, in this order.
 fn has_services(job: &Job, wanted: &[(u8, u32)]) -> bool {
-    let Some(services) = job.services() else {
-        return false;
-    };
+    let services = job.services();
     services.len() == wanted.len()
         && services.iter().zip(wanted.iter()).all(|(service, wanted)| *wanted
             == (service.number, service.entry.get()))
@@ -209,7 +207,7 @@ fn has_the_services_in_their_order(rt: HostRuntime) -> Result<(), Fail> {
 fn has_none_without_the_grammar(rt: HostRuntime) -> Result<(), Fail> {
     let a = rt.alloc();
     match read_job(a, Grammar::Plain, b"COVERJOB 1\nENDJOB\n") {
-        Ok(read) => assert!(rt; read.job.services().is_none()),
+        Ok(read) => assert!(rt; read.job.services().is_empty()),
         Err(_) => assert!(rt; false),
     }
     assert!(rt;

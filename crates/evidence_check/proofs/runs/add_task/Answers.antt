@@ -1,4 +1,4 @@
-use Rattle.std.proofs.Common.{None, ap, refl, ◌∙◌}
+use Rattle.std.proofs.Common.{[], ap, refl, ◌∙◌}
 use Rattle.session_book.specs.Meaning.{TaskView}
 use Rattle.task_alone.proofs.RunLemmas.{ran_of}
 use Rattle.evidence_check.proofs.runs.add_task.Goals as goal
@@ -6,6 +6,6 @@ use Rattle.evidence_check.proofs.runs.add_task.Goals as goal
 pub returns : goal.returns
 returns c =
     let begun = c.in_ok-bench.ensures in
-    let ran = ran_of None c.args.job.now c.args.tables.now.places c.args.t c.run_alone.ensures.ran refl begun.memory begun.state
+    let ran = ran_of [] c.args.job.now c.args.tables.now.places c.args.t c.run_alone.ensures.ran refl begun.memory begun.state
     (ap (λ (t : TaskView). t.budget) (c.card.view_is ∙ c.card-card.ensures.value)) in
     record { noted = ran.made }

@@ -8,7 +8,7 @@ use Rattle.job_text.specs.Meaning.{Present}
 use Rattle.job_text.specs.declared.pieces.Pieces.{Pieces}
 use Rattle.job_text.proofs.EndedLines.{LfNext, lf_next, lf_none, used_all}
 use Rattle.job_text.proofs.LineLemmas.{ended_line}
-use Rattle.job_text.proofs.Readings.{taken_few, taken_on, told_nothing, line_taken, line_told, rest_taken, is_open, is_ended}
+use Rattle.job_text.proofs.Readings.{taken_few, taken_on, line_taken, line_told, rest_taken, is_open, is_ended}
 use Rattle.job_text.proofs.pieces.Pieces.feed.Goals as goal
 
 pub ended_line-requires-clause-few : goal.ended_line-requires-clause-few
@@ -46,12 +46,6 @@ returns-in_err-ended_line-clause-fault c = λ before h.
     let p = err_from_is_err_and c.from_residual.result c.from_residual.ensures.1 in
     let n = lf_next c.args.piece.now c.loop-size.used c.in-Some.size c.loop-size.invariant.inside (sym c.in-Some.ensures) in
     rw (p.1, p.2, ← c.loop-size.invariant.grammar) (told_at before c.args.piece.now c.loop-size.used c.in-Some.size c.loop-size.pieces _ n (c.loop-size.invariant.taken before h) c.loop-size.invariant.reading c.in_err-ended_line.ensures.fault)
-
-pub returns-in_err-extend_from_slice-clause-fault :
-    goal.returns-in_err-extend_from_slice-clause-fault
-returns-in_err-extend_from_slice-clause-fault c = λ before h.
-    let p = err_from_is_err_and c.from_residual-in_err-extend_from_slice.result c.from_residual-in_err-extend_from_slice.ensures.1 in
-    rw (p.1, p.2) (told_nothing _ (before ++ c.args.piece.now))
 
 pub overflow_add-used-in-Some-2 : goal.overflow_add-used-in-Some-2
 overflow_add-used-in-Some-2 c =
