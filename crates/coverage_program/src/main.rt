@@ -1,8 +1,10 @@
 //! The coverage utility.
 #![tactic(auto)]
 
-use cov_outside::{OpenGate, StdSink, StdSource};
-use coverage_commands::cover;
+mod serving;
+
+use crate::serving::serve;
+use cov_outside::{StdSink, StdSource};
 use shared_area::SharedAreas;
 use std::alloc::AllocError;
 use std::io::BufWriter;
@@ -10,7 +12,7 @@ use std::process::ExitCode;
 use std::{env, io};
 
 /// The words after the program's name.
-fn words_of(rt: &HostRuntime) -> io::Result<Vec<String>> {
+fn given_words(rt: &HostRuntime) -> io::Result<Vec<String>> {
     let mut words = Vec::new(rt.alloc());
     for (i, word) in env::args(rt)?.enumerate() {
         if i > 0 {
@@ -20,33 +22,22 @@ fn words_of(rt: &HostRuntime) -> io::Result<Vec<String>> {
     Ok(words)
 }
 
-fn main(rt: HostRuntime) -> ExitCode {
-    let words = match words_of(&rt) {
-        Ok(words) => words,
-        Err(e) if e.kind() == io::ErrorKind::OutOfMemory => return ExitCode::from(7),
-        // Words that aren't text are none of the table.
-        Err(_) => Vec::new(rt.alloc()),
-    };
-    let Ok(mut areas) = SharedAreas::new(rt.alloc(), 16) else {
-        return ExitCode::from(7);
-    };
-    let mut source = StdSource::new(rt.stdin());
-    let Ok(writer) = BufWriter::with_capacity(rt.alloc(), 65_536, rt.stdout()) else {
-        return ExitCode::from(7);
-    };
-    let mut sink = StdSink::new(writer);
-    let status = cover(
-        &rt,
-        rt.alloc(),
-        &words,
-        &mut source,
-        &mut sink,
-        &mut areas,
-        &OpenGate,
-    );
-    // What is still held goes out before the exit tells of it.
-    match sink.flush() {
-        Ok(()) => ExitCode::from(status.0),
-        Err(_) => ExitCode::from(6),
+/// The words after the program's name; none where one of them isn't text, which no command has.
+fn words_of(rt: &HostRuntime) -> Result<Vec<String>, AllocError> {
+    match given_words(rt) {
+        Ok(words) => Ok(words),
+        Err(e) if e.kind() == io::ErrorKind::OutOfMemory => Err(AllocError),
+        Err(_) => Ok(Vec::new(rt.alloc())),
     }
+}
+
+fn main(rt: HostRuntime) -> ExitCode {
+    let alloc = rt.alloc();
+    let writer = BufWriter::with_capacity(alloc, 65_536, rt.stdout());
+    let areas = SharedAreas::new(alloc, 16);
+    let (Ok(words), Ok(writer), Ok(mut areas)) = (words_of(&rt), writer, areas) else {
+        return ExitCode::from(7);
+    };
+    let (mut source, mut sink) = (StdSource::new(rt.stdin()), StdSink::new(writer));
+    ExitCode::from(serve(&rt, alloc, &words, &mut source, &mut sink, &mut areas).0)
 }
