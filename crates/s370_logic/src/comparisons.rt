@@ -5,6 +5,7 @@ ghost use Rattle.std.specs.Prelude.{◌≡◌, ◌+◌, ◌<◌, ◌≤◌, true
 ghost use Rattle.std.specs.Ordering.{nat_cmp};
 ghost use Rattle.cov_base.specs.Meaning.{can_reach};
 ghost use Rattle.s370_state.specs.Row.{Performs};
+ghost use Rattle.s370_state.specs.Fields.{AreBytes};
 ghost use Rattle.s370_state.specs.Meaning.{order_code};
 ghost use Rattle.s370_logic.specs.Meaning.{compared, logic_row};
 
@@ -22,7 +23,27 @@ fn compare(cpu: &mut Cpu, r: u8, v: u32) -> Next
     Next::On
 }
 
+/// Compares n bytes that stand in rows, up to the first unequal pair.
+#[inline(always)]
+#[tactic(auto, using(crate::proofs::Steps::compared_none))]
+fn compare_rows<P: Space>(_space: &P, a: Addr, b: Addr, n: u32, x: &[u8], y: &[u8]) -> u8
+    requires first { AreBytes (P.memory _space.now) (P.bytes _space.now) a n x.now }
+    requires second { AreBytes (P.memory _space.now) (P.bytes _space.now) b n y.now }
+    ensures value { result ≡ compared (P.memory _space.now) (P.bytes _space.now) a b n }
+    ensures below { result ≤ 2 }
+{
+    for i in 0..n as usize {
+        let code = order_code(x[i].cmp(&y[i]));
+        if code != 0 {
+            return code;
+        }
+    }
+    0
+}
+
 /// Compares n bytes, left to right, up to the first unequal pair.
+#[cold]
+#[inline(never)]
 #[tactic(auto, using(crate::proofs::Steps::compared_none, crate::proofs::Steps::compared_more, crate::proofs::Steps::compared_decided))]
 fn compare_bytes<P: Space>(space: &P, a: Addr, b: Addr, n: u32) -> u8
     requires reach { can_reach (P.memory space.now) a n ≡ true }
@@ -38,6 +59,22 @@ fn compare_bytes<P: Space>(space: &P, a: Addr, b: Addr, n: u32) -> u8
         }
     }
     0
+}
+
+/// Compares n bytes, where they stand in rows by these.
+fn compare_operands<P: Space>(space: &P, a: Addr, b: Addr, n: u32) -> u8
+    requires reach { can_reach (P.memory space.now) a n ≡ true }
+    requires reach_second { can_reach (P.memory space.now) b n ≡ true }
+    ensures value { result ≡ compared (P.memory space.now) (P.bytes space.now) a b n }
+    ensures below { result ≤ 2 }
+{
+    match space.slice(a, n) {
+        Some(x) => match space.slice(b, n) {
+            Some(y) => compare_rows(space, a, b, n, x, y),
+            None => compare_bytes(space, a, b, n),
+        },
+        None => compare_bytes(space, a, b, n),
+    }
 }
 
 /// CLR: compares R1 with R2.
@@ -80,6 +117,6 @@ pub fn compare_fields<P: Space>(cpu: &mut Cpu, space: &mut P, code: &Code) -> Ne
     if let Err(e) = test_read_both(space, a, n, b, n) {
         return Next::Ended(e);
     }
-    cpu.set_cc(compare_bytes(space, a, b, n));
+    cpu.set_cc(compare_operands(space, a, b, n));
     Next::On
 }

@@ -1,4 +1,5 @@
 pub mod Answers
+pub mod Fields
 pub mod Io
 pub mod Meaning
 pub mod Parts

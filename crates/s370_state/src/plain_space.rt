@@ -138,5 +138,29 @@ impl Space for PlainSpace {
         self.put(at.plus(0), (value / 16_777_216) as u8);
     }
 
+    fn slice(&self, at: Addr, len: u32) -> Option<&[u8]> {
+        let (a, n) = (at.get() as usize, len as usize);
+        if a + n <= self.bytes.len() && a + n <= 16_777_216 {
+            Some(&self.bytes[a..a + n])
+        } else {
+            None
+        }
+    }
+
+    #[tactic(auto, using(crate::proofs::Stores::none_stored, crate::proofs::Stores::one_stored, crate::proofs::Stores::all_stored, crate::proofs::Tested::store_at))]
+    fn put_slice(&mut self, at: Addr, from: &[u8]) {
+        for i in 0..from.len() {
+            self.put(at.plus(i as u32), from[i]);
+        }
+    }
+
+    #[tactic(auto, using(crate::proofs::Copies::copied_none, crate::proofs::Copies::copied_more, crate::proofs::Tested::reach_at, crate::proofs::Tested::store_at))]
+    fn copy(&mut self, to: Addr, from: Addr, len: u32) {
+        for i in 0..len {
+            let byte = self.byte(from.plus(i));
+            self.put(to.plus(i), byte);
+        }
+    }
+
     ghost filled = { λ s. unfold memory_of in s.in_size };
 }

@@ -1,8 +1,9 @@
 //! A task's storage: what it may reach, store and read.
-ghost use Rattle.std.specs.Prelude.{◌≡◌, ℕ, ◌/◌, ◌<◌, ◌^◌, List, true, length, slice_set};
+ghost use Rattle.std.specs.Prelude.{◌≡◌, ℕ, ◌/◌, ◌<◌, ◌≤◌, ◌^◌, List, true, length, slice_set, IfSome};
 ghost use Rattle.cov_base.specs.Meaning.{Memory, byte_at, is_accessible, is_private, can_reach, can_store, wrap};
 ghost use Rattle.s370_state.specs.Answers.{reach_answer, store_answer, touch_answer, half_answer, first_answer};
-ghost use Rattle.s370_state.specs.Meaning.{number_at, store_number};
+ghost use Rattle.s370_state.specs.Fields.{AreBytes, copied};
+ghost use Rattle.s370_state.specs.Meaning.{number_at, store_number, store_bytes};
 
 use cov_base::Addr;
 
@@ -60,6 +61,11 @@ pub trait Space {
         requires { can_reach (memory self.now) at 4 ≡ true }
         ensures { result ≡ number_at (memory self.now) (bytes self.now) at 4 };
 
+    /// The bytes of an operand, where they stand in a row in private storage or in one module. It may be None for any operand,
+    /// whose bytes are then had one at a time.
+    fn slice(&self, at: Addr, len: u32) -> Option<&[u8]>
+        ensures { IfSome result (λ s. AreBytes (memory self.now) (bytes self.now) at len s.now) };
+
     /// Changes the byte at a private address, and no other.
     fn put(&mut self, at: Addr, value: u8)
         requires { is_private (memory self.old) at ≡ true }
@@ -71,6 +77,20 @@ pub trait Space {
         requires { can_store (memory self.old) at 4 ≡ true }
         ensures memory { memory self.new ≡ memory self.old }
         ensures bytes { bytes self.new ≡ store_number (bytes self.old) at 4 value };
+
+    /// Changes the bytes from a private address on, of which each is private, and no other.
+    fn put_slice(&mut self, at: Addr, from: &[u8])
+        requires most { length from.now ≤ 16777216 }
+        requires store { can_store (memory self.old) at (length from.now) ≡ true }
+        ensures memory { memory self.new ≡ memory self.old }
+        ensures bytes { bytes self.new ≡ store_bytes (bytes self.old) at from.now };
+
+    /// Copies bytes to private ones, one at a time and left to right, so that ranges that overlap repeat what was copied before.
+    fn copy(&mut self, to: Addr, from: Addr, len: u32)
+        requires store { can_store (memory self.old) to len ≡ true }
+        requires reach { can_reach (memory self.old) from len ≡ true }
+        ensures memory { memory self.new ≡ memory self.old }
+        ensures bytes { bytes self.new ≡ copied (memory self.old) (bytes self.old) to from len };
 
     /// Private storage has all its bytes, so that what is put at a private address stands there.
     ghost filled: { (s : Self) → length (bytes s) ≡ (memory s).private };

@@ -1,9 +1,11 @@
 -- The recursions of moves, one byte on.
-use Rattle.std.proofs.Common.{◌≡◌, ℕ, ◌+◌, ◌-◌, ◌<◌, ◌≤◌, true, List, slice_set, refl, add-one, arith}
+use Rattle.std.proofs.Common.{◌≡◌, ℕ, zero, suc, ◌+◌, ◌-◌, ◌<◌, ◌≤◌, true, List, slice_set, refl, add-one, arith}
 use Rattle.cov_base.specs.Meaning.{Memory, byte_at, wrap, can_reach, is_accessible}
+use Rattle.s370_state.specs.Fields.{copied}
 use Rattle.s370_state.proofs.Tested.{reach_at}
 use Rattle.s370_storage.specs.Meaning.{moved, with_part, inverted, left_of}
 use Rattle.s370_storage.specs.declared.moves.Part.{Part}
+use Rattle.s370_storage.specs.declared.moves.Part.TheVariants.{Byte}
 
 pub moved_none : (p : Part) (m : Memory) (bytes : List ℕ) (a b : ℕ) → moved p m bytes a b 0 ≡ bytes
 unfolding moved
@@ -12,6 +14,12 @@ moved_none p m bytes a b = refl
 pub moved_more : (p : Part) (m : Memory) (bytes : List ℕ) (a b n : ℕ) → moved p m bytes a b (n + 1) ≡ slice_set (moved p m bytes a b n) (wrap (a + n)) (with_part p (byte_at m (moved p m bytes a b n) (wrap (a + n))) (byte_at m (moved p m bytes a b n) (wrap (b + n))))
 unfolding moved
 moved_more p m bytes a b n = rw add-one refl
+
+-- whole bytes
+pub moved_copied : (m : Memory) (bytes : List ℕ) (a b n : ℕ) → copied m bytes a b n ≡ moved Byte m bytes a b n
+unfolding copied moved
+moved_copied m bytes a b zero = refl
+moved_copied m bytes a b (suc n) = rw (moved_copied m bytes a b n) refl
 
 pub inverted_none : (m : Memory) (bytes : List ℕ) (a b : ℕ) → inverted m bytes a b 0 ≡ bytes
 unfolding inverted

@@ -1,16 +1,11 @@
--- How function bytes are tested as they are looked up, and what a move makes of a byte.
+-- How function bytes are tested as they are looked up.
 use Rattle.std.specs.Prelude.{◌≡◌, ℕ, ◌+◌, ◌<◌, true, false, Option, Result, IfOk, IfErr, IfSome, List}
-use Rattle.cov_base.specs.Meaning.{Memory, byte_at, wrap}
+use Rattle.cov_base.specs.Meaning.{Memory}
 use Rattle.s370_state.specs.Meaning.{all_reached, touched, touch_ending}
 use Rattle.s370_state.specs.declared.endings.Ending.{Ending}
 use Rattle.s370_state.specs.declared.endings.Ending.TheVariants.{Abend}
-use Rattle.s370_storage.specs.Meaning.{with_part, functions, selected, looked_up}
-use Rattle.s370_storage.specs.declared.moves.Part.{Part}
+use Rattle.s370_storage.specs.Meaning.{functions, selected, looked_up}
 use Rattle.s370_storage.specs.declared.translate.Found.{Found}
-
--- what byte i of the operand at a becomes by a move from b
-abbrev pub moved_byte : Part → Memory → List ℕ → ℕ → ℕ → ℕ → ℕ
-moved_byte p m bytes a b i = with_part p (byte_at m bytes (wrap (a + i))) (byte_at m bytes (wrap (b + i)))
 
 -- the function bytes of the first n arguments are accessible
 abbrev pub AreReached : Memory → List ℕ → ℕ → ℕ → ℕ → Type 0

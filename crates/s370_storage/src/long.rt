@@ -8,7 +8,6 @@ ghost use Rattle.s370_state.specs.Row.{Performs};
 ghost use Rattle.s370_state.specs.Parts.{Follows};
 ghost use Rattle.s370_storage.specs.Meaning.{long, passed, lesser, overlaps, padded, long_moved, moves_apart, long_moves, extended, unequal, compares, long_compares, storage_row};
 
-use crate::moves::{Part, move_bytes};
 use cov_base::Addr;
 use s370_decode::{Code, Op};
 use s370_state::{
@@ -91,7 +90,7 @@ fn fill<P: Space>(space: &mut P, o: &Long)
 }
 
 /// Moves as many bytes as both operands have, and pads the rest of the first.
-#[tactic(auto, using(crate::proofs::LongSteps::store_prefix, crate::proofs::LongSteps::reach_prefix))]
+#[tactic(auto, using(crate::proofs::LongSteps::store_prefix, crate::proofs::LongSteps::reach_prefix, crate::proofs::Steps::moved_copied))]
 fn move_and_fill<P: Space>(space: &mut P, o: &Long)
     requires store { can_store (P.memory space.old) o.now.first o.now.first_length ≡ true }
     requires reach { can_reach (P.memory space.old) o.now.first o.now.first_length ≡ true }
@@ -100,7 +99,7 @@ fn move_and_fill<P: Space>(space: &mut P, o: &Long)
     ensures bytes { P.bytes space.new ≡ long_moved (P.memory space.old) (P.bytes space.old) o.now }
 {
     let n = o.first_length.min(o.second_length);
-    move_bytes(Part::Byte, space, o.first, o.second, n);
+    space.copy(o.first, o.second, n);
     fill(space, o);
 }
 

@@ -5,7 +5,6 @@ ghost use Rattle.std.specs.Prelude.{◌≡◌, ◌+◌, ◌-◌, ◌*◌, ◌/�
 ghost use Rattle.cov_base.specs.Meaning.{byte_at, can_reach, can_store, wrap};
 ghost use Rattle.s370_state.specs.Row.{Performs};
 ghost use Rattle.s370_storage.specs.Meaning.{with_part, moved, moves, left_of, inverted, storage_row};
-ghost use Rattle.s370_storage.specs.Lookups.{moved_byte};
 
 use cov_base::Addr;
 use s370_decode::{Code, Op};
@@ -32,26 +31,9 @@ fn with_part(part: Part, x: u8, y: u8) -> u8
     }
 }
 
-/// What byte i of the first operand becomes. The byte that stands there is read only where a part of it stays.
-#[inline(always)]
-fn next_byte<P: Space>(part: Part, space: &P, a: Addr, b: Addr, i: u32, n: u32) -> u8
-    requires reach { can_reach (P.memory space.now) a n ≡ true }
-    requires reach_second { can_reach (P.memory space.now) b n ≡ true }
-    requires below { i < n }
-    ensures { result ≡ moved_byte part (P.memory space.now) (P.bytes space.now) a b i }
-{
-    match part {
-        Part::Byte => byte_of(space, b, i, n),
-        Part::Numeric | Part::Zone => {
-            with_part(part, byte_of(space, a, i, n), byte_of(space, b, i, n))
-        }
-    }
-}
-
-/// Moves n bytes, one at a time, left to right, so that operands that overlap repeat what was moved before.
-#[inline(always)]
+/// Moves that part of n bytes, one at a time, left to right, so that operands that overlap repeat what was moved before.
 #[tactic(auto, using(crate::proofs::Steps::moved_none, crate::proofs::Steps::moved_more))]
-pub fn move_bytes<P: Space>(part: Part, space: &mut P, a: Addr, b: Addr, n: u32)
+fn move_halves<P: Space>(part: Part, space: &mut P, a: Addr, b: Addr, n: u32)
     requires store { can_store (P.memory space.old) a n ≡ true }
     requires reach { can_reach (P.memory space.old) a n ≡ true }
     requires reach_second { can_reach (P.memory space.old) b n ≡ true }
@@ -59,13 +41,14 @@ pub fn move_bytes<P: Space>(part: Part, space: &mut P, a: Addr, b: Addr, n: u32)
     ensures bytes { P.bytes space.new ≡ moved part (P.memory space.old) (P.bytes space.old) a b n }
 {
     for i in 0..n {
-        let value = next_byte(part, space, a, b, i, n);
+        let value = with_part(part, byte_of(space, a, i, n), byte_of(space, b, i, n));
         put_into(space, a, i, n, value);
     }
 }
 
 /// Moves that part of L+1 bytes.
 #[inline(always)]
+#[tactic(auto, using(s370_state::proofs::Performs::passes, s370_state::proofs::Performs::refuses, crate::proofs::Steps::moved_copied))]
 fn move_parts<P: Space>(part: Part, cpu: &Cpu, space: &mut P, code: &Code) -> Next
     ensures { Performs P.memory P.bytes (moves part code.now) cpu.now space.old cpu.now space.new result }
 {
@@ -75,7 +58,10 @@ fn move_parts<P: Space>(part: Part, cpu: &Cpu, space: &mut P, code: &Code) -> Ne
     if let Err(e) = test_store_read(space, a, n, b, n) {
         return Next::Ended(e);
     }
-    move_bytes(part, space, a, b, n);
+    match part {
+        Part::Byte => space.copy(a, b, n),
+        Part::Numeric | Part::Zone => move_halves(part, space, a, b, n),
+    }
     Next::On
 }
 

@@ -1,9 +1,9 @@
 -- Each place is reached, and shows its original.
-use Rattle.std.proofs.Common.{◌≡◌, ℕ, ◌+◌, ◌-◌, ◌*◌, ◌<◌, ◌≤◌, zero, suc, Bool, true, false, ◌||◌, nat_lt, if◌then◌else◌, List, [], ◌∷◌, length, get_or, slice_index, refl, sym, ◌∙◌, arith, inl, inr}
+use Rattle.std.proofs.Common.{◌≡◌, ℕ, ◌+◌, ◌-◌, ◌*◌, ◌<◌, ◌≤◌, zero, suc, Bool, true, false, ◌||◌, nat_lt, if◌then◌else◌, List, [], ◌∷◌, length, take, drop, get_or, slice_index, refl, sym, ◌∙◌, arith, inl, inr}
 use Rattle.std.specs.List.{All, AllPairs, Contains, list_any}
 use Rattle.std.proofs.lemmas.Bool.Decides.{nat_tests}
 use Rattle.std.proofs.lemmas.List.Elements.{All-get_or}
-use Rattle.std.proofs.lemmas.List.{get_or_read}
+use Rattle.std.proofs.lemmas.List.{get_or_read, get_or-take, get_or-drop}
 use Rattle.cov_base.specs.Meaning.{length_of, ImageView, wrap, byte_at}
 use Rattle.module_area.specs.declared.places.Place.{Place}
 use Rattle.module_area.specs.Meaning.{no_place}
@@ -95,3 +95,13 @@ half_read images i a base x y bytes f one h p q l s t =
     let first : x ≡ image_byte images a = get_or_read bytes (a - base) x (omega arith) s 0 ∙ rw (p, q) refl ∙ sym (image_byte-contained images i a f one h) in
     let second : y ≡ image_byte images (a + 1) = get_or_read bytes (a - base + 1) y l t 0 ∙ rw (p, q, let e : a - i.base + 1 ≡ a + 1 - i.base = omega arith in e) refl ∙ sym (image_byte-contained images i (a + 1) f one next) in
     cc
+
+-- the bytes of a range in one module
+pub list_read : (images : List ImageView) (i : ImageView) (a base n : ℕ) (bytes : List ℕ) → AreImages images → Contains images i → in_image i a ≡ true → base ≡ i.base → bytes ≡ i.bytes → a - base + n ≤ length bytes →
+    (j : ℕ) → j < n → slice_index (take n (drop (a - base) bytes)) j ≡ image_byte images (a + j)
+list_read images i a base n bytes f one h p q l j k =
+    let from = in_image-from i a h in
+    let to : a - base + n ≤ length i.bytes = rw q at l in
+    let there : in_image i (a + j) ≡ true = in_image-inside i (a + j) (omega arith) (omega arith) in
+    let place : a - i.base + j ≡ a + j - i.base = omega arith in
+    get_or-take n (drop (a - base) bytes) j 0 k ∙ (get_or-drop (a - base) bytes j 0 ∙ rw (p, q, place) (sym (image_byte-contained images i (a + j) f one there)))

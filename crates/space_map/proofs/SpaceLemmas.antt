@@ -7,7 +7,9 @@ use Rattle.std.proofs.Math.Seq.{take-append_seam}
 use Rattle.std.proofs.lemmas.Bool.{le-leb, lt-leb, lt-ltb}
 use Rattle.cov_base.specs.Meaning.{Memory, ImageView, wrap, byte_at, can_reach, can_store, first_touch}
 use Rattle.s370_state.specs.Answers.{first_answer}
-use Rattle.s370_state.specs.Meaning.{number_at, store_number}
+use Rattle.s370_state.specs.Fields.{AreBytes, copied}
+use Rattle.s370_state.specs.Meaning.{number_at, store_number, store_bytes}
+use Rattle.s370_state.proofs.Copies.{copied_list}
 use Rattle.s370_state.proofs.Tested.{word_of_bytes, word_stored}
 use Rattle.module_area.specs.declared.places.Place.{Place}
 use Rattle.brk_table.specs.Meaning.{memory_of, in_image, image_byte}
@@ -120,3 +122,17 @@ word_put bytes a v h l =
 -- a vector whose bytes are all put anew
 pub whole_put : (n : ℕ) (new old : List ℕ) → n ≡ length new → take n (new ++ drop (length new) old) ≡ new
 whole_put n new old h = rw h (take-append_seam new (drop (length new) old))
+
+-- a range of a module
+pub list_bytes : (s : SpaceView) (monitored : Bool) (a n : ℕ) (list : List ℕ) → IsSpace s monitored → 1048576 ≤ a → a + n ≤ 16777216 → length list ≡ n → ((i : ℕ) → i < n → slice_index list i ≡ image_byte s.images (a + i)) →
+    AreBytes (memory_of_space s) s.bytes a n list
+list_bytes s monitored a n list k from to size each = record {
+  size = size;
+  each = λ i l. let w : wrap (a + i) ≡ a + i = omega arith in rw (w, byte_at-image (length s.bytes) s.images s.places s.bytes (a + i) (omega arith)) (each i l);
+}
+
+-- and a copy of it
+pub list_copied : (s : SpaceView) (monitored : Bool) (a b n : ℕ) (list : List ℕ) → IsSpace s monitored → 1048576 ≤ b → b + n ≤ 16777216 → length list ≡ n → ((i : ℕ) → i < n → slice_index list i ≡ image_byte s.images (b + i)) →
+    store_bytes s.bytes a list ≡ copied (memory_of_space s) s.bytes a b n
+list_copied s monitored a b n list k from to size each =
+    sym (copied_list (memory_of_space s) s.bytes list a b n size (λ done i l. let w : wrap (b + i) ≡ b + i = omega arith in rw (w, byte_at-image (length s.bytes) s.images s.places done (b + i) (omega arith)) (each i l)))

@@ -1,6 +1,8 @@
 //! The bytes that private storage begins with.
-ghost use Rattle.std.specs.Prelude.{◌≡◌, ◌+◌, ◌≤◌, length, All, IfOk};
-ghost use Rattle.s370_state.specs.Meaning.{store_number};
+ghost use Rattle.std.specs.Prelude.{◌≡◌, ◌+◌, ◌<◌, ◌≤◌, length, All, IfOk};
+ghost use Rattle.cov_base.specs.Meaning.{Memory};
+ghost use Rattle.s370_state.specs.Fields.{copied};
+ghost use Rattle.s370_state.specs.Meaning.{store_number, store_bytes};
 ghost use Rattle.module_area.specs.Meaning.{with_card, first_bytes};
 
 use cov_base::PRIVATE_LIMIT;
@@ -43,4 +45,33 @@ pub fn put_bytes(bytes: &mut [u8], a: usize, value: u32)
     bytes[a + 2] = (value / 256 % 256) as u8;
     bytes[a + 1] = (value / 65_536 % 256) as u8;
     bytes[a] = (value / 16_777_216) as u8;
+}
+
+/// Stores the bytes of a list.
+#[inline(always)]
+#[tactic(auto, using(s370_state::proofs::Stores::none_stored, s370_state::proofs::Stores::all_stored))]
+pub fn put_list(bytes: &mut [u8], a: usize, list: &[u8])
+    requires inside { 0 < length list.now → a + length list.now ≤ length bytes.old }
+    requires most { length bytes.old ≤ PRIVATE_LIMIT }
+    ensures value { bytes.new ≡ store_bytes bytes.old a list.now }
+    ensures filled { length bytes.new ≡ length bytes.old }
+{
+    for i in 0..list.len() {
+        bytes[a + i] = list[i];
+    }
+}
+
+/// Copies n bytes, one at a time and left to right.
+#[inline(always)]
+#[tactic(auto, using(s370_state::proofs::Copies::copied_none))]
+pub fn copy_bytes(bytes: &mut [u8], a: usize, b: usize, n: usize)
+    requires to { 0 < n → a + n ≤ length bytes.old }
+    requires from { b + n ≤ length bytes.old }
+    requires most { length bytes.old ≤ PRIVATE_LIMIT }
+    ensures value { (m : Memory) → m.private ≡ length bytes.old → bytes.new ≡ copied m bytes.old a b n }
+    ensures filled { length bytes.new ≡ length bytes.old }
+{
+    for i in 0..n {
+        bytes[a + i] = bytes[b + i];
+    }
 }

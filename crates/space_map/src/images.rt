@@ -1,5 +1,5 @@
 //! Modules by address.
-ghost use Rattle.std.specs.Prelude.{◌≡◌, ℕ, ◌<◌, ◌≤◌, ◌-◌, ◌+◌, ◌*◌, true, false, IsTrue, IfSome, IsSome, IsNone, slice_index, Contains};
+ghost use Rattle.std.specs.Prelude.{◌≡◌, ℕ, ◌<◌, ◌≤◌, ◌-◌, ◌+◌, ◌*◌, true, false, IsTrue, IfSome, IsSome, IsNone, slice_index, Contains, length};
 ghost use Rattle.std.specs.List.{list_any};
 ghost use Rattle.module_area.specs.Images.{AreImages};
 ghost use Rattle.brk_table.specs.Meaning.{in_image, image_byte};
@@ -71,6 +71,24 @@ pub fn image_half(images: &Images, a: u32) -> Option<u16>
     let n = (a - image.base.get()) as usize;
     if n + 1 < image.bytes.len() {
         Some(u16::from(image.bytes[n]) * 256 + u16::from(image.bytes[n + 1]))
+    } else {
+        None
+    }
+}
+
+/// The bytes of a range that stands in one module.
+pub fn image_field(images: &Images, a: u32, len: u32) -> Option<&[u8]>
+    requires { AreImages images.now }
+    ensures from { IsSome result → 1048576 ≤ a }
+    ensures below { IsSome result → a + len ≤ 16777216 }
+    ensures size { IfSome result (λ s. length s.now ≡ len) }
+    ensures each { IfSome result (λ s. (i : ℕ) → i < len → slice_index s.now i ≡ image_byte images.now (a + i)) }
+{
+    let image = image_at(&images.0, a)?;
+    let from = (a - image.base.get()) as usize;
+    let n = len as usize;
+    if from + n <= image.bytes.len() {
+        Some(&image.bytes[from..from + n])
     } else {
         None
     }

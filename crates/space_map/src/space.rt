@@ -3,6 +3,7 @@ ghost use Rattle.std.specs.Prelude.{◌≡◌, ◌+◌, ◌*◌, Some, None, if�
 ghost use Rattle.cov_base.specs.Meaning.{wrap, byte_at, is_accessible, can_reach, can_store, first_touch};
 ghost use Rattle.cov_base.specs.declared.limits.TheConstants.{PRIVATE_LIMIT};
 ghost use Rattle.s370_state.specs.Answers.{reach_answer};
+ghost use Rattle.s370_state.specs.Fields.{copied};
 ghost use Rattle.s370_state.specs.Meaning.{number_at};
 ghost use Rattle.module_area.specs.Images.{AreImages};
 ghost use Rattle.brk_table.specs.Kept.{AreCodes, AreKept};
@@ -11,8 +12,8 @@ ghost use Rattle.brk_table.specs.Places.{IsIn, AreSeen};
 ghost use Rattle.module_area.specs.Meaning.{first_bytes};
 ghost use Rattle.space_map.specs.Space.{row_of, memory_of_space, half_in_space};
 
-use crate::bytes::{first_bytes, put_bytes};
-use crate::images::{image_byte, image_half, is_image, is_in_one_image};
+use crate::bytes::{copy_bytes, first_bytes, put_bytes, put_list};
+use crate::images::{image_byte, image_field, image_half, is_image, is_in_one_image};
 use brk_table::Tables;
 use cov_base::{Addr, NoMemory};
 use module_area::{DataCard, Images};
@@ -146,6 +147,22 @@ impl<'a> TaskSpace<'a> {
             self.byte(at.plus(2)),
             self.byte(at.plus(3)),
         ])
+    }
+
+    // A copy whose source stands neither in private storage nor in one module.
+    #[cold]
+    #[inline(never)]
+    #[tactic(auto, using(s370_state::proofs::Copies::copied_none, s370_state::proofs::Copies::copied_more, s370_state::proofs::Tested::reach_at, s370_state::proofs::Tested::store_at))]
+    fn copy_by_bytes(&mut self, to: Addr, from: Addr, len: u32)
+        requires store { can_store (memory_of_space self.old) to len ≡ true }
+        requires reach { can_reach (memory_of_space self.old) from len ≡ true }
+        ensures memory { memory_of_space self.new ≡ memory_of_space self.old }
+        ensures bytes { self.new.bytes ≡ copied (memory_of_space self.old) self.old.bytes to from len }
+    {
+        for i in 0..len {
+            let byte = self.byte(from.plus(i));
+            self.put(to.plus(i), byte);
+        }
     }
 
     // A halfword byte by byte. It is rare, and kept out of the task's loop.
@@ -303,6 +320,36 @@ impl<'a> Space for TaskSpace<'a> {
     #[tactic(auto, using(crate::proofs::SpaceLemmas::word_put, crate::proofs::SpaceLemmas::within))]
     fn put_word(&mut self, at: Addr, value: u32) {
         put_bytes(self.bytes.as_mut_slice(), at.get() as usize, value);
+    }
+
+    #[inline(always)]
+    fn slice(&self, at: Addr, len: u32) -> Option<&[u8]> {
+        let (a, n) = (at.get() as usize, len as usize);
+        if a + n <= self.bytes.len() {
+            return Some(&self.bytes[a..a + n]);
+        }
+        match image_field(self.images, at.get(), len) {
+            Some(list) => Some(list),
+            None => None,
+        }
+    }
+
+    #[inline(always)]
+    fn put_slice(&mut self, at: Addr, from: &[u8]) {
+        put_list(self.bytes.as_mut_slice(), at.get() as usize, from);
+    }
+
+    #[inline(always)]
+    fn copy(&mut self, to: Addr, from: Addr, len: u32) {
+        let images = self.images;
+        let (a, b, n) = (to.get() as usize, from.get() as usize, len as usize);
+        if b + n <= self.bytes.len() {
+            copy_bytes(self.bytes.as_mut_slice(), a, b, n);
+        } else if let Some(list) = image_field(images, from.get(), len) {
+            put_list(self.bytes.as_mut_slice(), a, list);
+        } else {
+            self.copy_by_bytes(to, from, len);
+        }
     }
 
     ghost filled = { λ s. unfold memory_of in refl };

@@ -1,6 +1,6 @@
 use Rattle.std.proofs.Common.{◌≡◌}
 use Rattle.s370_storage.specs.Meaning.{moved}
-use Rattle.s370_storage.proofs.moves.move_bytes.Given as goal
+use Rattle.s370_storage.proofs.moves.move_halves.Given as goal
 
 abbrev pub invariant-loop-i : goal.invariant-loop-i
 invariant-loop-i g l = record {
