@@ -7,6 +7,7 @@ from __future__ import annotations
 
 import collections
 import functools
+import itertools
 import os
 import random
 from concurrent.futures import ThreadPoolExecutor
@@ -192,12 +193,16 @@ def compare(program: str, seed: int, count: int) -> tuple[collections.Counter[st
     """So many cases and fields: how many operands were special, also of instructions that were done, and the differences."""
     told: collections.Counter[str] = collections.Counter()
     faults = []
+    left = groups(seed, count)
     with ThreadPoolExecutor(os.cpu_count()) as pool:
-        for group, results in pool.map(lambda it: (it, it.run(program)), groups(seed, count)):
-            for task, had in zip(group.tasks, results):
-                wanted, kinds = group.model(task)
-                told.update(["cases", had.ending.split()[0], *kinds, *(f"{it}, done" for it in kinds if had.ending.startswith("BADSVC"))])
-                faults += filter(None, [difference(seed, task, had, wanted)])
+        # A few at a time, since their storage is large.
+        while some := list(itertools.islice(left, 4)):
+            for group, results in zip(some, pool.map(lambda it: it.run(program), some)):
+                for task, had in zip(group.tasks, results):
+                    wanted, kinds = group.model(task)
+                    done = [f"{it}, done" for it in kinds if had.ending.startswith("BADSVC")]
+                    told.update(["cases", had.ending.split()[0], *kinds, *done])
+                    faults += filter(None, [difference(seed, task, had, wanted)])
     return told, faults
 
 

@@ -1,9 +1,9 @@
 """The programs that tests/speed measures: as jobs, and the same bytes on Hercules' bare machine."""
 from __future__ import annotations
 
+import pathlib
 import re
 import struct
-import time
 from dataclasses import dataclass, field
 
 import trial
@@ -116,7 +116,7 @@ class Subject:
         return ("\n".join([*rows, "ENDJOB"]) + "\n").encode()
 
     def seconds(self, herc: Hercules, rounds: int) -> tuple[float, list[int]]:
-        """How long Hercules takes for them, and the registers behind, 14 of which is its own."""
+        """The processor's time that Hercules takes for them, and the registers behind, 14 of which is its own."""
         page = bytearray(PRIVATE)
         page[DATA : DATA + len(self.data)] = self.data
         first = [{**self.registers, 3: rounds, 14: RETURN, 15: BASE}.get(n, 0) for n in range(16)]
@@ -129,12 +129,18 @@ class Subject:
         herc.load(0, bytes(page))
         herc.load(BASE, self.text)
         herc.say("sysreset")
-        begun = time.monotonic()
+        begun = spent(herc.process.pid)
         herc.say("restart")
-        herc.wait_for(rb"PSW=000A0000 0000D0E0")
-        took = time.monotonic() - begun
+        # Asked too, since a message may be lost.
+        herc.wait_for(rb"PSW=000A0000 0000D0E0", "psw")
+        took = spent(herc.process.pid) - begun
         herc.say("stop")
         return took, list(struct.unpack(">16I", herc.saved(BEHIND, 64)))
+
+
+def spent(process: int) -> float:
+    """The processor's time of a process until now, in seconds."""
+    return sum(int(it.read_text("ascii").split()[0]) for it in pathlib.Path(f"/proc/{process}/task").glob("*/schedstat")) / 1e9
 
 
 def done(report: bytes) -> int:
