@@ -1,5 +1,5 @@
 -- Words and bytes have one status: each answer but its own is contradicted by what they are.
-use Rattle.std.proofs.Common.{◌≡◌, ℕ, ◌+◌, ◌<◌, Bool, true, false, Option, Some, None, List, [], ◌∷◌, ◌++◌, length, drop, refl, sym, ◌∙◌, ap, subst, arith}
+use Rattle.std.proofs.Common.{◌≡◌, ℕ, ◌+◌, Bool, true, false, Option, Some, None, List, [], ◌∷◌, ◌++◌, length, drop, refl, sym, ◌∙◌, ap, subst, arith}
 use Rattle.cov_base.specs.Meaning.{no_facts}
 use Rattle.cov_base.specs.declared.facts.Fact.{Fact}
 use Rattle.brk_table.specs.Meaning.{TablesView, first_place}
@@ -7,7 +7,7 @@ use Rattle.evidence_check.specs.Meaning.{facts_of_modules, places_claims, module
 use Rattle.evidence_check.specs.declared.firsts.First.{First}
 use Rattle.cov_base.specs.Meaning.{FactSet}
 use Rattle.job_text.specs.Meaning.{lines_of}
-use Rattle.marks_file.specs.Meaning.{MarkedView, MarksView, HasFile, rows, first_bad, file_fields}
+use Rattle.marks_file.specs.Meaning.{MarkedView, MarksView, rows, first_bad, file_fields}
 use Rattle.marks_file.proofs.FileLemmas.{marks_found, one_end, file_found}
 use Rattle.module_area.specs.declared.places.Place.{Place}
 use Rattle.schedule_play.specs.Meaning.{Play, Bad, Whole, play_of}
@@ -16,7 +16,7 @@ use Rattle.session_marks.specs.Meaning.{session_marks, session_rows}
 use Rattle.session_marks.proofs.SessionLemmas.{own_same}
 use Rattle.table_combine.specs.Meaning.{Difference, first_difference}
 use Rattle.table_combine.proofs.AnswerLemmas.{one_answer}
-use Rattle.coverage_commands.specs.Meaning.{ReadyView, IsReady, BeginsWith, IsNoFile, BadField, Past, IsUnited, United, BadFile, OtherFile, IsShown, Shown, Fileless, OtherShown, judged, judged_by, IsVerdict, NoStart, OfFile, IsPlayed, IsAnswerOf, IsAnswer, Refused, OfFiles, OfJob, way_of, with_session}
+use Rattle.coverage_commands.specs.Meaning.{ReadyView, IsReady, BeginsWith, IsNoFile, BadField, Past, IsUnited, United, BadFile, OtherFile, IsShown, Shown, Fileless, OtherShown, judged, judged_by, IsVerdict, NoStart, OfFile, IsPlayed, IsAnswerOf, IsAnswer, Refused, OfFiles, OfJob, way_of}
 use Rattle.coverage_commands.specs.declared.asked.Wanted.{Wanted}
 use Rattle.refusals.specs.Meaning.{RefusalView, refusal, bad_marks_line}
 use Rattle.coverage_commands.proofs.ReadyLemmas.{not_both, ready_or_refused, one_refusal, IsSame, one_ready, one_rest, one_number, one_marks}
@@ -95,16 +95,16 @@ own_showing r m t h = showing r r m t refl (λ sets. refl) h
 
 -- ---- a file and evidence behind a job
 
-same_claims : (a b : TablesView) (firsts : ℕ → Fact → Option First) (row : ℕ) (ms : List MarkedView) (ns bs : List ℕ) → ((n : ℕ) → first_place a.tables n ≡ first_place b.tables n) → modules_claims a firsts row ms ns bs ≡ modules_claims b firsts row ms ns bs
+same_claims : (a b : TablesView) (firsts : ℕ → Fact → Option First) (row : ℕ) (ms : List MarkedView) (ns bs : List ℕ) → a.tables ≡ b.tables → modules_claims a firsts row ms ns bs ≡ modules_claims b firsts row ms ns bs
 same_claims a b firsts row [] ns bs h = refl
 same_claims a b firsts row (m ∷ ms) [] bs h = refl
 same_claims a b firsts row (m ∷ ms) (n ∷ ns) bs h =
-    ap (λ i. places_claims firsts (row + 1) i m.places bs ++ modules_claims a firsts (row + 1 + length m.places) ms ns (past_places m.places bs)) (h n)
+    ap (λ i. places_claims firsts (row + 1) i m.places bs ++ modules_claims a firsts (row + 1 + length m.places) ms ns (past_places m.places bs)) (ap (λ ts. first_place ts n) h)
     ∙ ap (λ t. places_claims firsts (row + 1) (first_place b.tables n) m.places bs ++ t) (same_claims a b firsts (row + 1 + length m.places) ms ns (past_places m.places bs) h)
 
-same_refuted : (j : JobView) (a b : TablesView) (s : ℕ) (ms : List MarkedView) (bs : List ℕ) → a.places ≡ b.places → ((n : ℕ) → first_place a.tables n ≡ first_place b.tables n) → evidence_claims j a s ms bs ≡ evidence_claims j b s ms bs
-same_refuted j a b s ms bs places firsts =
-    ap (λ ps. modules_claims a (session_first j ps s) 0 ms (session_of j s).modules (drop 8 bs)) places ∙ same_claims a b (session_first j b.places s) 0 ms (session_of j s).modules (drop 8 bs) firsts
+same_refuted : (j : JobView) (a b : TablesView) (s : ℕ) (ms : List MarkedView) (bs : List ℕ) → a.places ≡ b.places → a.tables ≡ b.tables → evidence_claims j a s ms bs ≡ evidence_claims j b s ms bs
+same_refuted j a b s ms bs places tables =
+    ap (λ ps. modules_claims a (session_first j ps s) 0 ms (session_of j s).modules (drop 8 bs)) places ∙ same_claims a b (session_first j b.places s) 0 ms (session_of j s).modules (drop 8 bs) tables
 
 same_judged : (name : List ℕ) (r o : ReadyView) (ms : List MarkedView) (end : ℕ) → IsSame r o → o.rest ≡ r.rest → o.number ≡ r.number → session_rows o.job o.tables o.number ≡ session_rows r.job r.tables r.number →
     judged name o.job o.tables o.number ms (drop end o.rest) ≡ judged name r.job r.tables r.number ms (drop end r.rest)
@@ -119,7 +119,7 @@ same_judged name r o ms end same rests numbers table =
     ∙ (ap (λ x. judged name x o.tables o.number ms bytes) same.jobs
     ∙ (ap (λ n. judged name r.job o.tables n ms bytes) numbers
     ∙ (ap (λ t. judged_by name (first_difference 0 t (rows ms)) bad refuted facts) rows_same
-    ∙ ap (λ c. judged_by name (first_difference 0 (session_rows r.job r.tables r.number) (rows ms)) bad (first_refuted c) facts) (same_refuted r.job o.tables r.tables r.number ms bytes same.places same.firsts))))
+    ∙ ap (λ c. judged_by name (first_difference 0 (session_rows r.job r.tables r.number) (rows ms)) bad (first_refuted c) facts) (same_refuted r.job o.tables r.tables r.number ms bytes same.places same.tables))))
 
 pub one_verdict : (name : List ℕ) (r o : ReadyView) (v w : RefusalView) → IsSame r o → o.rest ≡ r.rest → o.number ≡ r.number → session_rows o.job o.tables o.number ≡ session_rows r.job r.tables r.number →
     IsVerdict name r.job r.tables r.number r.rest v → IsVerdict name o.job o.tables o.number o.rest w → v ≡ w
@@ -175,13 +175,13 @@ one_of Combine b r o m n t u h g p q = absurd p
 one_of (Show name w) b r o m n t u h g p q =
     let same = one_ready (Show name w) b r o h g in
     let numbers = one_number (Show name w) b r o (asked_name name false) refl h g in
-    one_showing r m n (own_showing r m t p) (showing r o n u (one_rest (Show name w) b r o refl h g) (λ sets. one_marks r o sets same numbers h.match) q)
+    one_showing r m n (own_showing r m t p) (showing r o n u (one_rest (Show name w) b r o refl h g) (λ sets. one_marks r o sets same numbers) q)
 one_of (Prove name) b r o m n t u h g p q = p.0 ∙ sym q.0
 one_of (Verify name) b r o m n t u h g p q =
     let same = one_ready (Verify name) b r o h g in
     let numbers = one_number (Verify name) b r o (asked_name name true) refl h g in
     ap (λ (v : RefusalView). v.status)
-    (one_verdict name r o (refusal m t) (refusal n u) same (one_rest (Verify name) b r o refl h g) numbers (ap rows (one_marks r o (λ x. no_facts) same numbers h.match)) p q)
+    (one_verdict name r o (refusal m t) (refusal n u) same (one_rest (Verify name) b r o refl h g) numbers (ap rows (one_marks r o (λ x. no_facts) same numbers)) p q)
 one_of Unknown b r o m n t u h g p q = absurd p
 
 files_jobless : (c : Command) → c ≡ Combine → (way_of c).reads_job ≡ true → ⊥

@@ -1,7 +1,7 @@
 -- Jobs that are ready for a command, and bytes that have none: of the same bytes these are one, and exclude each other.
-use Rattle.std.proofs.Common.{◌≡◌, ◌≢◌, ℕ, Bool, true, false, not, if◌then◌else◌, is_some, Option, Some, None, List, [], ◌∷◌, drop, map, refl, sym, ◌∙◌, ap, subst}
+use Rattle.std.proofs.Common.{◌≡◌, ◌≢◌, ℕ, Bool, true, false, not, if◌then◌else◌, is_some, Option, Some, None, List, drop, refl, sym, ◌∙◌, ap, subst}
 use Rattle.cov_base.specs.Meaning.{FactSet}
-use Rattle.brk_table.specs.Meaning.{TablesView, first_place}
+use Rattle.brk_table.specs.Meaning.{TablesView}
 use Rattle.brk_table.specs.declared.faults.BuildFault.{BuildFault}
 use Rattle.brk_table.specs.declared.faults.BuildFault.TheVariants as build
 use Rattle.listing_reader.specs.declared.lines.ListFault.{ListFault}
@@ -13,20 +13,19 @@ use Rattle.job_input.proofs.OneInput.{one_bytes, one_job}
 use Rattle.job_tables.specs.Meaning.{job_fault, Match}
 use Rattle.job_tables.specs.declared.faults.TablesFault.{TablesFault}
 use Rattle.job_tables.specs.declared.faults.TablesFault.TheVariants as first
-use Rattle.job_tables.proofs.OneTables.{one_places, one_first, one_count}
+use Rattle.job_tables.proofs.OneTables.{one_places, one_tables}
 use Rattle.job_text.specs.Meaning.{lines_of}
 use Rattle.job_text.specs.declared.jobs.JobFault.{JobFault}
 use Rattle.job_text.specs.declared.jobs.JobFault.TheVariants as fault
 use Rattle.job_text.proofs.Excluded as excluded
-use Rattle.marks_file.specs.Meaning.{MarkedView}
 use Rattle.session_book.specs.Meaning.{JobView, session_of}
-use Rattle.session_marks.specs.Meaning.{marked_module, session_marks}
+use Rattle.session_marks.specs.Meaning.{session_marks}
 use Rattle.coverage_commands.specs.Meaning.{ReadyView, IsReady, IsRefused, Jobless, NoSession, Controlled, BadListing, HasAsked, HasNamed, controlled_asked, first_controlled, if_controlled, session_number, with_session, way_of}
 use Rattle.coverage_commands.specs.declared.asked.Wanted.{Wanted}
 use Rattle.coverage_commands.specs.declared.asked.Asked.{Asked}
 use Rattle.coverage_commands.specs.declared.asked.Asked.TheVariants.{AnyJob, WithSession, AllWhole}
 use Rattle.job_input.specs.declared.form.Form.{Form}
-use Rattle.refusals.specs.Meaning.{RefusalView, refusal, read_refusal, jobless_refusal, list_refusal, build_refusal, tables_refusal}
+use Rattle.refusals.specs.Meaning.{RefusalView, read_refusal, jobless_refusal, list_refusal, build_refusal, tables_refusal}
 use Rattle.command_words.specs.declared.words.Command.{Command}
 
 pub not_both : (b : Bool) → b ≡ true → b ≡ false → ⊥
@@ -165,10 +164,9 @@ one_refusal form asked b r q (BadListing j e has asks some told) (BadListing k f
 
 pub record IsSame (r o : ReadyView) : Type 0 where
   pub jobs : o.job ≡ r.job
+  pub tables : o.tables.tables ≡ r.tables.tables
   pub places : o.tables.places ≡ r.tables.places
-  pub firsts : (n : ℕ) → first_place o.tables.tables n ≡ first_place r.tables.tables n
   pub lines : o.lines ≡ r.lines
-  pub mine : Match r.job o.tables
 
 pub one_ready : (c : Command) (b : List ℕ) (r o : ReadyView) → IsReady c b r → IsReady c b o → IsSame r o
 one_ready c b r o h g =
@@ -176,10 +174,9 @@ one_ready c b r o h g =
     let mine : Match r.job o.tables = subst (λ (i : JobView). Match i o.tables) (sym one.1) g.match in
     record {
       jobs = sym one.1;
+      tables = one_tables r.job o.tables r.tables mine h.match;
       places = one_places r.job o.tables r.tables mine h.match;
-      firsts = λ n. one_first r.job o.tables r.tables n mine h.match;
       lines = g.lines ∙ (sym one.0 ∙ sym h.lines);
-      mine = mine;
     }
 
 -- where more than a job may come it is the same that came
@@ -192,15 +189,9 @@ one_number c b r o wanted e h g =
     let found : Some o.number ≡ Some r.number = sym (g.named wanted e) ∙ (ap (λ (i : JobView). session_number i wanted.name) (one_ready c b r o h g).jobs ∙ h.named wanted e) in
     cc
 
-one_module : (j : JobView) (a b : TablesView) (sets : ℕ → FactSet) (m : ℕ) → Match j a → Match j b → a.places ≡ b.places → marked_module j a sets m ≡ marked_module j b sets m
-one_module j a b sets m p q places = rw (places, one_first j a b m p q, one_count j a b m p q) refl
+-- by the same tables and sets it has the same marks
+pub one_session : (j : JobView) (a b : TablesView) (sets : ℕ → FactSet) (s : ℕ) → a.tables ≡ b.tables → a.places ≡ b.places → session_marks j a sets s ≡ session_marks j b sets s
+one_session j a b sets s tables places = rw (tables, places) refl
 
-one_modules : (j : JobView) (a b : TablesView) (sets : ℕ → FactSet) (ms : List ℕ) → Match j a → Match j b → a.places ≡ b.places → map (marked_module j a sets) ms ≡ map (marked_module j b sets) ms
-one_modules j a b sets [] p q places = refl
-one_modules j a b sets (m ∷ ms) p q places = ap (λ (x : MarkedView). x ∷ map (marked_module j a sets) ms) (one_module j a b sets m p q places) ∙ ap (λ (x : List MarkedView). marked_module j b sets m ∷ x) (one_modules j a b sets ms p q places)
-
--- and the same marks by the same sets
-pub one_marks : (r o : ReadyView) (sets : ℕ → FactSet) → IsSame r o → o.number ≡ r.number → Match r.job r.tables → session_marks o.job o.tables sets o.number ≡ session_marks r.job r.tables sets r.number
-one_marks r o sets same numbers match' =
-    ap (λ (i : JobView). session_marks i o.tables sets o.number) same.jobs
-    ∙ (ap (λ (i : ℕ). session_marks r.job o.tables sets i) numbers ∙ one_modules r.job o.tables r.tables sets (session_of r.job r.number).modules same.mine match' same.places)
+pub one_marks : (r o : ReadyView) (sets : ℕ → FactSet) → IsSame r o → o.number ≡ r.number → session_marks o.job o.tables sets o.number ≡ session_marks r.job r.tables sets r.number
+one_marks r o sets same numbers = rw (same.jobs, numbers) (one_session r.job o.tables r.tables sets r.number same.tables same.places)

@@ -8,7 +8,6 @@ use Rattle.cov_base.specs.Meaning.{ImageView}
 use Rattle.listing_reader.specs.Meaning.{listing_of, fault_of}
 use Rattle.listing_reader.specs.declared.lines.Line.{Line}
 use Rattle.listing_reader.specs.declared.lines.ListFault.{ListFault}
-use Rattle.listing_reader.specs.declared.lines.ListFault.TheVariants as list
 use Rattle.listing_reader.proofs.Laws.{listing_or_fault}
 use Rattle.module_area.specs.declared.places.Place.{Place}
 use Rattle.brk_table.specs.Meaning.{first_fault, TableView, TablesView, all_places}

@@ -1,6 +1,5 @@
 use Rattle.std.proofs.Common.{List, sym, subst, ap, All}
 use Rattle.cov_base.specs.Meaning.{ImageView}
-use Rattle.module_area.specs.declared.places.Place.{Place}
 use Rattle.brk_table.specs.Meaning.{all_places}
 use Rattle.brk_table.specs.Places.{IsIn}
 use Rattle.brk_table.specs.Kept.{AreCodes}
