@@ -1,5 +1,5 @@
 -- What the drains of a job's run tell of its controlled sessions.
-use Rattle.std.proofs.Common.{◌≡◌, inl, inr, ℕ, zero, suc, ◌+◌, ◌-◌, ◌<◌, ◌≤◌, Bool, true, false, ◌||◌, if◌then◌else◌, Option, Some, None, IfSome, List, [], ◌∷◌, length, get_or, map, take, All, refl, sym, ap, ◌∙◌, subst, arith, nat_eq, eqb-true}
+use Rattle.std.proofs.Common.{◌≡◌, inl, inr, ℕ, zero, suc, ◌+◌, ◌-◌, ◌<◌, ◌≤◌, Bool, true, false, ◌||◌, if◌then◌else◌, Option, Some, None, IfSome, List, [], ◌∷◌, length, get_or, map, All, refl, sym, ap, ◌∙◌, subst, arith, nat_eq, eqb-true}
 use Rattle.std.proofs.lemmas.Bool.Decides.{nat_tests}
 use Rattle.std.specs.List.{filter, list_any}
 use Rattle.std.proofs.lemmas.List.{get_or-map}
@@ -21,12 +21,11 @@ use Rattle.job_run.specs.Tasks.{done_result, no_result}
 use Rattle.job_run.specs.declared.outcome.Done.{Done}
 use Rattle.job_run.proofs.TaskLemmas.{begun_walk}
 use Rattle.early_report.specs.DrainView.{DrainView}
-use Rattle.early_report.specs.Meaning.{others, closing_count, early_of}
+use Rattle.early_report.specs.Meaning.{others, closing_count}
 use Rattle.early_report.specs.Drains.{controller_in, controller_of}
 use Rattle.early_report.specs.Text.{drained_in, drained_of, taken_at}
 use Rattle.early_report.specs.Told.{IsTold, HasTold}
 use Rattle.early_report.specs.declared.drains.Stage.{Stage}
-use Rattle.brk_table.specs.Meaning.{TablesView}
 use Rattle.coverage_commands.specs.Meaning.{AreDrained, IsDrained, closing_of, other_tasks}
 
 -- ---- a session and its drain

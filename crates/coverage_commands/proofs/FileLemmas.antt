@@ -1,5 +1,5 @@
 -- What the program answers of marks files, cause by cause.
-use Rattle.std.proofs.Common.{◌≡◌, ℕ, ◌<◌, ◌≤◌, true, false, Some, List, length, refl, sym, ◌∙◌, ap, subst, arith}
+use Rattle.std.proofs.Common.{◌≡◌, ℕ, ◌<◌, ◌≤◌, true, List, length, refl, sym, ◌∙◌, ap, subst, arith}
 use Rattle.std.proofs.lemmas.List.{take_all}
 use Rattle.marks_file.specs.Meaning.{MarksView, keeps_rules, file_bytes, HasFile}
 use Rattle.marks_file.specs.declared.version.Version.TheVariants.{Second}

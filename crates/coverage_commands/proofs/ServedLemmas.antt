@@ -1,22 +1,18 @@
 -- All that is promised of a call follows from its answer.
-use Rattle.std.proofs.Common.{◌≡◌, ◌≢◌, ◌⊎◌, inl, inr, ℕ, ◌<◌, ◌≤◌, Bool, true, false, Some, None, List, length, drop, take, refl, sym, ◌∙◌, ap, subst, arith}
+use Rattle.std.proofs.Common.{◌≡◌, ◌≢◌, ◌⊎◌, inl, inr, ℕ, ◌≤◌, Bool, true, false, Some, List, length, drop, take, refl, sym, ◌∙◌, ap, subst}
 use Rattle.cov_outside.specs.Meaning.{Rose}
 use Rattle.cov_outside.specs.declared.whole.ReadFault.{ReadFault}
 use Rattle.cov_outside.specs.declared.whole.ReadFault.TheVariants as read
 use Rattle.evidence_check.specs.Meaning.{facts_of_modules}
 use Rattle.evidence_check.specs.Verified.{Passes}
 use Rattle.evidence_check.proofs.VerifiedLemmas.{verified_passes}
-use Rattle.interleave_core.specs.Meaning.{Parts}
-use Rattle.job_input.specs.Meaning.{SourceChange, CameWhole, HasJob, IsReadFault, input_limit}
-use Rattle.job_input.proofs.OneInput.{came_is, left_is, one_job, read_wanting, too_many}
-use Rattle.job_tables.specs.Meaning.{job_fault}
+use Rattle.job_input.specs.Meaning.{SourceChange, CameWhole, IsReadFault, input_limit}
+use Rattle.job_input.proofs.OneInput.{left_is, read_wanting, too_many}
 use Rattle.job_text.specs.Meaning.{lines_of}
 use Rattle.job_text.proofs.WholeJob.{job_keeps}
-use Rattle.schedule_play.specs.declared.playing.Played.{Played}
-use Rattle.session_book.specs.Meaning.{JobView}
 use Rattle.session_book.specs.JobView.{IsJob}
-use Rattle.coverage_commands.specs.Meaning.{ReadyView, IsReady, IsAnswerOf, IsAnswer, Refused, OfFiles, OfJob, IsRunText, ComesReady, Read, Made, IsUnread, IsCause, Usage, Unread, Came, Finished, NoMemoryToRun, NoMemoryToMake, HoldsTrue, IsVerdict, OfFile, HasStatus, ToUsage, ToLarge, ToMatched, ToAnswer, IsComplete, IsUntouched, IsServed, Answers, SinkChange, AreasChange, HasAsked, way_of}
-use Rattle.refusals.specs.Meaning.{RefusalView, refusal, read_refusal, verified_line}
+use Rattle.coverage_commands.specs.Meaning.{ReadyView, IsReady, IsAnswerOf, IsAnswer, Refused, OfFiles, OfJob, IsRunText, ComesReady, Read, Made, IsCause, Usage, Unread, Came, Finished, NoMemoryToRun, NoMemoryToMake, HoldsTrue, IsVerdict, OfFile, HasStatus, ToUsage, ToLarge, ToMatched, ToAnswer, IsComplete, IsUntouched, IsServed, Answers, SinkChange, AreasChange, way_of}
+use Rattle.refusals.specs.Meaning.{refusal, read_refusal, verified_line}
 use Rattle.command_words.specs.declared.words.Command.{Command}
 use Rattle.command_words.specs.declared.words.Command.TheVariants.{Run, Exits, Early, Count, Marks, Trial, Table, Ends, Replay, Combine, Show, Prove, Verify, Unknown}
 use Rattle.coverage_commands.proofs.CheckedLemmas.{judged_verified, own_of}

@@ -1,5 +1,5 @@
 -- What a generated job comes to.
-use Rattle.std.proofs.Common.{◌≡◌, ℕ, ◌≤◌, true, false, Option, Some, None, List, [], refl, sym, ap, subst, arith, IfSome, length}
+use Rattle.std.proofs.Common.{◌≡◌, ℕ, ◌≤◌, Option, Some, None, List, [], refl, sym, subst, arith, IfSome, length}
 use Rattle.std.proofs.lemmas.List.Elements.{All-cons, All-nil}
 use Rattle.std.proofs.lemmas.List.FromFn.{length-map-range_with_len}
 use Rattle.brk_table.specs.Meaning.{TablesView}

@@ -2,7 +2,7 @@ use Rattle.std.proofs.Common.{refl}
 use Rattle.report_text.specs.Meaning.{report_of}
 use Rattle.coverage_commands.specs.Calls.{Told, Wanting}
 use Rattle.coverage_commands.specs.Meaning.{areas_change}
-use Rattle.coverage_commands.proofs.AnswerLemmas.{are_results, are_sets, reports, written_as}
+use Rattle.coverage_commands.proofs.AnswerLemmas.{reports, written_as}
 use Rattle.coverage_commands.proofs.running.write_report.Goals as goal
 
 pub returns : goal.returns
