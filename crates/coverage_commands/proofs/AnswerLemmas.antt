@@ -6,6 +6,9 @@ use Rattle.cov_outside.specs.declared.whole.ReadFault.TheVariants as read
 use Rattle.module_area.specs.declared.places.Place.{Place}
 use Rattle.brk_table.specs.Meaning.{TablesView}
 use Rattle.cov_base.specs.Meaning.{FactSet}
+use Rattle.marks_file.specs.Meaning.{MarksView, file_bytes, keeps_rules}
+use Rattle.marks_file.specs.declared.version.Version.TheVariants.{Second}
+use Rattle.session_marks.specs.Meaning.{session_file}
 use Rattle.session_book.specs.Meaning.{ResultView, JobView, session_of}
 use Rattle.job_input.specs.Meaning.{SourceChange, IsReadFault}
 use Rattle.job_input.specs.Inputs.{IsInput, IsInputFault, CameJobless}
@@ -18,7 +21,7 @@ use Rattle.job_tables.specs.declared.faults.TablesFault.{TablesFault}
 use Rattle.job_text.specs.declared.jobs.JobFault.{JobFault}
 use Rattle.job_text.specs.declared.jobs.JobFault.TheVariants as fault
 use Rattle.report_text.specs.Conditions.{AreResultsOf, AreSetsOf}
-use Rattle.coverage_commands.specs.Meaning.{HoldsBesides, IsReady, Jobless, BadListing, Controlled, if_controlled, controlled_asked, Refused, OfJob, IsAnswerOf, IsPlayed, IsRunText, IsCause, Unread, Came, Finished, NoMemoryToRun, Read, IsWritten, Answers, SinkChange, AreasChange, sink_change, HasAsked, Reports, session_number, way_of}
+use Rattle.coverage_commands.specs.Meaning.{ReadyView, HoldsBesides, IsReady, Jobless, BadListing, Controlled, if_controlled, controlled_asked, Refused, OfJob, IsAnswerOf, IsPlayed, IsRunText, IsCause, Unread, Came, Finished, NoMemoryToRun, Read, IsMarksText, IsWritten, named_file, Answers, SinkChange, AreasChange, sink_change, HasAsked, Reports, session_number, way_of}
 use Rattle.coverage_commands.specs.declared.asked.Wanted.{Wanted}
 use Rattle.coverage_commands.specs.declared.asked.Asked.{Asked}
 use Rattle.coverage_commands.specs.declared.asked.Asked.TheVariants.{AnyJob, WithSession, AllWhole}
@@ -35,9 +38,7 @@ use Rattle.command_words.specs.declared.words.Command.TheVariants.{Run, Exits, E
 use Rattle.job_run.specs.Outcomes.{IsOutcomeBy}
 use Rattle.refusals.specs.Refusals.{input_refusal}
 use Rattle.schedule_play.specs.Meaning.{Play}
-use Rattle.session_book.specs.declared.services.Service.{Service}
 use Rattle.task_run.specs.Meaning.{Course}
-use Rattle.task_services.specs.Meaning.{course_of}
 use Rattle.job_run.specs.Meaning.{Account}
 use Rattle.job_run.specs.Runs.{HasLeftBy}
 use Rattle.job_run.specs.Sets.{SetsView, set_in}
@@ -69,6 +70,15 @@ reports course j tables a tasks sets form l o = record {
   are_final = λ s p some most here. set_is_left course j tables.places a.before a.after sets s p l o.job o.size here;
   is_text = refl;
 }
+
+-- the marks of a session, which keep the rules
+pub marked : (course : Course) (r : ReadyView) (a : AreasChange) (tasks : List Done) (sets : SetsView) (marks : MarksView) → HasLeftBy course r.job r.tables.places a.before a.after sets.finals → IsOutcomeBy course r.job r.tables.places tasks sets →
+    keeps_rules marks ≡ true → marks ≡ session_file r.job r.tables (λ p. set_in sets r.number p) r.number → IsMarksText course r a (file_bytes Second marks)
+unfolding reports
+marked course r a tasks sets marks l o rules is = subst (λ (m : MarksView). IsMarksText course r a (file_bytes Second m)) (sym is) (record {
+  reports = reports course r.job r.tables a tasks sets (λ results sets'. file_bytes Second (named_file r sets')) l o;
+  rules = subst (λ (m : MarksView). keeps_rules m ≡ true) is rules;
+})
 
 -- a text that was written, as its status tells
 pub written_as : {K T E : Type 0} {written : K → Option (List ℕ)} {faults : K → ℕ} {old new : K} (text : List ℕ) (r : Result T E) (answer : ℕ) → Writes written faults old new r text →
@@ -152,10 +162,9 @@ pub told_text : {K T E : Type 0} {written : K → Option (List ℕ)} {faults : K
     OnOk r (answer ≡ 0) → OnErr r (answer ≡ 6) → IsTold (IsText text) (sink_change written faults old new) answer
 told_text text r answer w good bad = Told 0 text (refl, refl) (written_as text r answer w good bad)
 
--- a run with services that are the job's
-pub with_own : (j : JobView) (tables : TablesView) {a : AreasChange} {form : (ℕ → ResultView) → (ℕ → ℕ → FactSet) → List ℕ} {k : SinkChange} {answer : ℕ} (o : List Service) → o ≡ j.services →
-    IsTold (λ status text. (status ≡ 0) × Reports (course_of o) j tables a form text) k answer → IsTold (λ status text. (status ≡ 0) × Reports (course_of j.services) j tables a form text) k answer
-with_own j tables {a} {form} {k} {answer} o is told = subst (λ (p : List Service). IsTold (λ status text. (status ≡ 0) × Reports (course_of p) j tables a form text) k answer) is told
+-- a run along a course that is the job's
+pub with_own : (is : Course → AreasChange → List ℕ → Type 0) {own other : Course} {a : AreasChange} {k : SinkChange} {answer : ℕ} → other ≡ own → IsTold (λ status text. (status ≡ 0) × is other a text) k answer → IsTold (λ status text. (status ≡ 0) × is own a text) k answer
+with_own is {a = a} {k = k} {answer = answer} same told = subst (λ (course : Course). IsTold (λ status text. (status ≡ 0) × is course a text) k answer) same told
 
 -- a schedule behind it
 pub played : (r : Ready) (status : ℕ) (text : List ℕ) → IsReplayed r.input.job r.tables r.input.lines r.input.rest.items status text → IsAnswerOf Replay (view_of r) status text

@@ -9,8 +9,6 @@ use Rattle.module_area.specs.declared.areas.Areas as areas
 use Rattle.job_input.specs.Meaning.{SourceChange, CameWhole, source_change}
 use Rattle.job_input.specs.Inputs.{IsInput}
 use Rattle.job_run.specs.Meaning.{Account}
-use Rattle.marks_file.specs.Meaning.{file_bytes}
-use Rattle.marks_file.specs.declared.version.Version.TheVariants.{Second}
 use Rattle.refusals.specs.Meaning.{bad_schedule_line, no_memory_line, refusal}
 use Rattle.report_text.specs.Meaning.{report_of}
 use Rattle.schedule_play.specs.Meaning.{Bad, IsRun, Whole, replay_text}
@@ -18,11 +16,10 @@ use Rattle.schedule_play.specs.Play.{play_behind}
 use Rattle.schedule_play.specs.declared.playing.Played.{Played}
 use Rattle.session_book.specs.JobView.{IsJob}
 use Rattle.session_book.specs.Meaning.{JobView}
-use Rattle.session_marks.specs.Meaning.{session_file}
 use Rattle.task_ends.specs.Meaning.{end_of, ends_text, unlisted_of}
 use Rattle.task_run.specs.Meaning.{Course}
 use Rattle.command_words.specs.declared.words.Command.{Command}
-use Rattle.coverage_commands.specs.Meaning.{Answers, Counts, HasVerified, IsEarlyReport, IsServed, IsUnread, IsVerdict, IsWritten, Reports, SinkChange, areas_change, asked, sink_change, way_of}
+use Rattle.coverage_commands.specs.Meaning.{Answers, Counts, HasVerified, IsEarlyReport, IsMarksText, IsServed, IsUnread, IsVerdict, IsWritten, Reports, SinkChange, areas_change, asked, sink_change, way_of}
 use Rattle.coverage_commands.specs.Changes.{no_change}
 use Rattle.coverage_commands.specs.Ready.{view_of}
 use Rattle.coverage_commands.specs.Words.{without_threads}
@@ -94,8 +91,7 @@ WritesReport a k course r areas0 areas1 sink0 sink1 answer =
 
 abbrev pub WritesMarks : {A C P K : Type 0} → areas.Ghosts A C P → sink.Ghosts K → Course → Ready → A → A → K → K → Status → Type 0
 WritesMarks a k course r areas0 areas1 sink0 sink1 answer =
-    Tells k (λ status text. (status ≡ 0) × Reports course r.input.job r.tables (areas_change a.ledger a.finals a.made areas0 areas1)
-    (λ results sets. file_bytes Second (session_file r.input.job r.tables (sets r.session.0) r.session.0)) text) sink0 sink1 answer
+    Tells k (λ status text. (status ≡ 0) × IsMarksText course (view_of r) (areas_change a.ledger a.finals a.made areas0 areas1) text) sink0 sink1 answer
 
 abbrev pub WritesEarly : {A C P K : Type 0} → areas.Ghosts A C P → sink.Ghosts K → Ready → A → A → K → K → Status → Type 0
 WritesEarly a k r areas0 areas1 sink0 sink1 answer =

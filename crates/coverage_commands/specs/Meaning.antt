@@ -1,5 +1,5 @@
 -- What the claim of the program says by this crate's clauses.
-use Rattle.std.specs.Prelude.{ℕ, List, Option, Bool, true, false, ◌&&◌, nat_le, nat_lt, if◌then◌else◌, Some, None, [], ◌∷◌, ◌++◌, bytes_eq, codes, decimal, ◌≡◌, ◌+◌, IsSome, ◌≤◌, length, drop, ◌≢◌, ◌<◌, ◌⊎◌, String, map, string_bytes}
+use Rattle.std.specs.Prelude.{ℕ, List, Option, Bool, true, false, if◌then◌else◌, Some, None, [], ◌∷◌, ◌++◌, bytes_eq, codes, ◌≡◌, ◌+◌, IsSome, ◌≤◌, length, drop, ◌≢◌, ◌<◌, ◌⊎◌, String, map, string_bytes}
 use Rattle.command_words.specs.Meaning.{command_of}
 use Rattle.cov_outside.specs.declared.streams.Sink as sink
 use Rattle.cov_outside.specs.declared.streams.Source as source
@@ -298,13 +298,22 @@ pub record IsEarlyReport (r : ReadyView) (a : AreasChange) (text : List ℕ) : T
   pub are_drained : AreDrained r.job r.tables.places drained
   pub reports : Reports solo r.job r.tables a (λ results sets. early_of r.job r.tables results sets drained) text
 
--- what a command that runs a job's tasks over areas writes: the report, a session's marks file, of its name and one run, or the
--- summary of a generated job; `run` and `marks` run them with the job's services
+-- the marks of the session that is named, of its name and one run, by these sets
+abbrev pub named_file : ReadyView → (ℕ → ℕ → FactSet) → MarksView
+named_file r sets = session_file r.job r.tables (sets r.number) r.number
+
+-- their file, which keeps the rules of marks files
+pub record IsMarksText (course : Course) (r : ReadyView) (a : AreasChange) (text : List ℕ) : Type 0 where
+  pub reports : Reports course r.job r.tables a (λ results sets. file_bytes Second (named_file r sets)) text
+  pub rules : keeps_rules (named_file r reports.sets) ≡ true
+
+-- what a command that runs a job's tasks over areas writes: the report, the marks of a session, or the summary of a generated
+-- job; `run` and `marks` run them with the job's services
 abbrev pub IsRunText : Command → ReadyView → AreasChange → List ℕ → Type 0
 IsRunText (Run g) r a text = Reports (course_of r.job.services) r.job r.tables a (report_of r.job r.tables) text
 IsRunText Exits r a text = Reports with_exits r.job r.tables a (report_of r.job r.tables) text
 IsRunText Early r a text = IsEarlyReport r a text
-IsRunText (Marks name g) r a text = Reports (course_of r.job.services) r.job r.tables a (λ results sets. file_bytes Second (session_file r.job r.tables (sets r.number) r.number)) text
+IsRunText (Marks name g) r a text = IsMarksText (course_of r.job.services) r a text
 IsRunText (Trial number tasks) r a text = Reports solo r.job r.tables a (trial_text number tasks r.tables.places) text
 IsRunText c r a text = ⊥
 

@@ -1,4 +1,8 @@
-use Rattle.std.proofs.Common.{refl}
+use Rattle.std.proofs.Common.{ap, refl}
+use Rattle.report_text.specs.Meaning.{report_of}
+use Rattle.task_services.specs.Meaning.{course_of}
+use Rattle.coverage_commands.specs.Meaning.{IsMarksText, Reports}
+use Rattle.coverage_commands.specs.Ready.{view_of}
 use Rattle.job_text.proofs.WholeJob.{job_keeps}
 use Rattle.coverage_commands.proofs.AnswerLemmas.{answered, ran, with_own}
 use Rattle.command_words.specs.declared.words.Command.TheVariants.{Run, Exits, Early, Count, Marks}
@@ -7,7 +11,8 @@ use Rattle.coverage_commands.proofs.answering.answer_tasks.Goals as goal
 pub returns-in-Run : goal.returns-in-Run
 returns-in-Run g c =
     let ready = rw c.in-Run.is at c.requires.ready in
-    rw c.in-Run.is (λ s i. ran (Run c.in-Run.field-0) s _ _ _ c.args.ready.now _ refl refl ready i (λ status text h. h) (with_own c.args.ready.now.input.job c.args.ready.now.tables _ c.services.ensures c.write_report.ensures))
+    rw c.in-Run.is (λ s i. ran (Run c.in-Run.field-0) s _ _ _ c.args.ready.now _ refl refl ready i (λ status text h. h)
+    (with_own (λ course a. Reports course c.args.ready.now.input.job c.args.ready.now.tables a (report_of c.args.ready.now.input.job c.args.ready.now.tables)) (ap course_of c.services.ensures) c.write_report.ensures))
 
 pub returns-in-Exits : goal.returns-in-Exits
 returns-in-Exits g c =
@@ -27,4 +32,5 @@ returns-in-Count g c =
 pub returns-in-Marks : goal.returns-in-Marks
 returns-in-Marks g c =
     let ready = rw c.in-Marks.is at c.requires.ready in
-    rw c.in-Marks.is (λ s i. ran (Marks c.in-Marks.name c.in-Marks.grammar) s _ _ _ c.args.ready.now _ refl refl ready i (λ status text h. h) (with_own c.args.ready.now.input.job c.args.ready.now.tables _ c.services.ensures c.write_marks.ensures))
+    rw c.in-Marks.is (λ s i. ran (Marks c.in-Marks.name c.in-Marks.grammar) s _ _ _ c.args.ready.now _ refl refl ready i (λ status text h. h)
+    (with_own (λ course. IsMarksText course (view_of c.args.ready.now)) (ap course_of c.services.ensures) c.write_marks.ensures))

@@ -1,0 +1,5 @@
+pub mod TableLemmas
+pub mod SetLemmas
+pub mod PlainLemmas
+pub mod CallLemmas
+pub mod LawLemmas
