@@ -2,32 +2,29 @@
 use Rattle.std.proofs.Common.{inl, inr, ◌≡◌, ℕ, Option, Some, None, List, length, take, refl, sym, ◌∙◌, subst, arith}
 use Rattle.std.specs.Io.KnownBytes.{Appends, Keeps}
 use Rattle.std.proofs.Math.Seq.{take-length}
-use Rattle.cov_outside.specs.Meaning.{AppendsSome, raised}
+use Rattle.cov_outside.specs.Meaning.{raised}
 use Rattle.command_words.specs.declared.words.Command.{Command}
 use Rattle.job_input.specs.Meaning.{SourceChange}
 use Rattle.coverage_commands.specs.Meaning.{AreasChange, IsServed, IsWritten, SinkChange}
 
-appends : (old mid new : Option (List ℕ)) (text : List ℕ) → Keeps mid new → Appends old mid text → Appends old new text
-appends None mid new text k a = tt
-appends (Some xs) None new text k a = absurd a
-appends (Some xs) (Some ys) None text k a = absurd k
-appends (Some xs) (Some ys) (Some zs) text k a = k ∙ a
+kept : (old mid new : Option (List ℕ)) (text : List ℕ) → Keeps mid new → Appends old mid text → Appends old new text
+kept None mid new text k a = tt
+kept (Some xs) None new text k a = absurd a
+kept (Some xs) (Some ys) None text k a = absurd k
+kept (Some xs) (Some ys) (Some zs) text k a = k ∙ a
 
-some : (old mid new : Option (List ℕ)) (text : List ℕ) → Keeps mid new → AppendsSome old mid text → AppendsSome old new text
-some old mid new text k a = (a.0, a.1, appends old mid new (take a.0 text) k a.2)
+-- the sink as it is later
+abbrev behind : SinkChange → Option (List ℕ) → ℕ → SinkChange
+behind k grown later = record k { grown = grown; later = later }
 
-all : (old mid new : Option (List ℕ)) (text : List ℕ) → Keeps mid new → Appends old mid text → AppendsSome old new text
-all old mid new text k a = (length text, omega arith, subst (Appends old new) (sym (take-length text)) (appends old mid new text k a))
+whole : (k : SinkChange) (grown : Option (List ℕ)) (later status answer : ℕ) (text : List ℕ) → Keeps k.grown grown → later ≡ k.later → IsWritten status text k answer → IsWritten status text (behind k grown later) answer
+whole k grown later status answer text keeps same (inl w) = inl (w.0, kept k.written k.grown grown text keeps w.1, omega (arith, w.2, same))
+whole k grown later status answer text keeps same (inr w) = inr (w.0, (w.1.0, w.1.1, kept k.written k.grown grown (take w.1.0 text) keeps w.1.2), omega (arith, w.2, same))
 
--- all of it was handed on
-whole : (k : SinkChange) (grown : Option (List ℕ)) (later status answer : ℕ) (text : List ℕ) → Keeps k.grown grown → later ≡ k.later → IsWritten status text k answer → IsWritten status text (record k { grown = grown; later = later }) answer
-whole k grown later status answer text kept same (inl w) = inl (w.0, appends k.written k.grown grown text kept w.1, omega (arith, w.2, same))
-whole k grown later status answer text kept same (inr w) = inr (w.0, some k.written k.grown grown text kept w.1, omega (arith, w.2, same))
-
--- some of it wasn't
-cut : (k : SinkChange) (grown : Option (List ℕ)) (later status answer : ℕ) (text : List ℕ) → Keeps k.grown grown → later ≡ raised k.later → IsWritten status text k answer → IsWritten status text (record k { grown = grown; later = later }) 6
-cut k grown later status answer text kept one (inl w) = inr (refl, all k.written k.grown grown text kept w.1, omega (arith, w.2, one))
-cut k grown later status answer text kept one (inr w) = inr (refl, some k.written k.grown grown text kept w.1, omega (arith, w.2, one))
+cut : (k : SinkChange) (grown : Option (List ℕ)) (later status answer : ℕ) (text : List ℕ) → Keeps k.grown grown → later ≡ raised k.later → IsWritten status text k answer → IsWritten status text (behind k grown later) 6
+cut k grown later status answer text keeps one (inl w) =
+    inr (refl, (length text, omega arith, subst (Appends k.written grown) (sym (take-length text)) (kept k.written k.grown grown text keeps w.1)), omega (arith, w.2, one))
+cut k grown later status answer text keeps one (inr w) = inr (refl, (w.1.0, w.1.1, kept k.written k.grown grown (take w.1.0 text) keeps w.1.2), omega (arith, w.2, one))
 
 told_so : {c : Command} {s : SourceChange} {a : AreasChange} (k n : SinkChange) (answer result : ℕ) → ((status : ℕ) (text : List ℕ) → IsWritten status text k answer → IsWritten status text n result) → IsServed c s a k answer → IsServed c s a n result
 told_so k n answer result told h = record {
@@ -36,8 +33,10 @@ told_so k n answer result told h = record {
   untouched = h.untouched;
 }
 
-pub handed_on : {c : Command} {s : SourceChange} {a : AreasChange} (k : SinkChange) (grown : Option (List ℕ)) (later answer : ℕ) → Keeps k.grown grown → later ≡ k.later → IsServed c s a k answer → IsServed c s a (record k { grown = grown; later = later }) answer
-handed_on k grown later answer kept same h = told_so k _ answer answer (λ status text. whole k grown later status answer text kept same) h
+-- the writer has handed on what it held
+pub handed_on : {c : Command} {s : SourceChange} {a : AreasChange} (k : SinkChange) (grown : Option (List ℕ)) (later answer : ℕ) → Keeps k.grown grown → later ≡ k.later → IsServed c s a k answer → IsServed c s a (behind k grown later) answer
+handed_on k grown later answer keeps same h = told_so k (behind k grown later) answer answer (λ status text. whole k grown later status answer text keeps same) h
 
-pub lost : {c : Command} {s : SourceChange} {a : AreasChange} (k : SinkChange) (grown : Option (List ℕ)) (later answer : ℕ) → Keeps k.grown grown → later ≡ raised k.later → IsServed c s a k answer → IsServed c s a (record k { grown = grown; later = later }) 6
-lost k grown later answer kept one h = told_so k _ answer 6 (λ status text. cut k grown later status answer text kept one) h
+-- it has failed at that
+pub lost : {c : Command} {s : SourceChange} {a : AreasChange} (k : SinkChange) (grown : Option (List ℕ)) (later answer : ℕ) → Keeps k.grown grown → later ≡ raised k.later → IsServed c s a k answer → IsServed c s a (behind k grown later) 6
+lost k grown later answer keeps one h = told_so k (behind k grown later) answer 6 (λ status text. cut k grown later status answer text keeps one) h

@@ -5,13 +5,11 @@ use Rattle.coverage_program.proofs.FlushLemmas.{handed_on, lost}
 use Rattle.coverage_program.proofs.serving.serve.Goals as goal
 
 pub returns-in-Ok : goal.returns-in-Ok
-returns-in-Ok g c = record {
-  served = handed_on (sink_change (written_by g.W.Write.contents) write_faults c.args.sink.now c.cover-status.new.sink) _ _ _ c.flush.ensures.kept c.in-Ok.ensures.no_fault c.cover-status.ensures;
-  none_held = λ other. c.in-Ok.ensures.none_held;
-}
+returns-in-Ok g c =
+    let k = sink_change (written_by g.W.Write.contents) write_faults c.args.sink.now c.cover-status.new.sink in
+    (handed_on k _ _ _ c.flush.ensures.kept c.in-Ok.ensures.no_fault c.cover-status.ensures, λ other. c.in-Ok.ensures.none_held)
 
 pub returns-in-Err : goal.returns-in-Err
-returns-in-Err g c = record {
-  served = lost (sink_change (written_by g.W.Write.contents) write_faults c.args.sink.now c.cover-status.new.sink) _ _ _ c.flush.ensures.kept c.in-Err.ensures.one c.cover-status.ensures;
-  none_held = λ other. absurd (other refl);
-}
+returns-in-Err g c =
+    let k = sink_change (written_by g.W.Write.contents) write_faults c.args.sink.now c.cover-status.new.sink in
+    (lost k _ _ _ c.flush.ensures.kept c.in-Err.ensures.one c.cover-status.ensures, λ other. absurd (other refl))
