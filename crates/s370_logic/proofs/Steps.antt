@@ -1,8 +1,10 @@
 -- The recursions over an operand's bytes, one byte on, and a doubleword by its words.
-use Rattle.std.proofs.Common.{◌≡◌, ℕ, ◌+◌, ◌*◌, ◌/◌, ◌%◌, ◌<◌, zero, suc, true, false, ◌&&◌, ◌==◌, List, slice_set, refl, add-one, add_assoc, arith, inl, inr}
+use Rattle.std.proofs.Common.{◌≡◌, ℕ, ◌+◌, ◌*◌, ◌/◌, ◌%◌, ◌<◌, zero, suc, true, false, ◌&&◌, ◌==◌, List, slice_set, refl, add-one, add_assoc, arith, ◌⊎◌, inl, inr}
 use Rattle.std.proofs.Math.Nat.{eq-or-lt_of_le}
 use Rattle.std.proofs.lemmas.Bool.Decides.{nat_tests}
 use Rattle.std.specs.Ordering.{nat_cmp}
+use Rattle.std.specs.Cmp.{nat_cmp_is}
+use Rattle.std.specs.declared.cmp.Ordering.TheVariants.{Less, Equal, Greater}
 use Rattle.cov_base.specs.Meaning.{Memory, byte_at, wrap}
 use Rattle.s370_state.specs.Meaning.{number_at, store_number, order_code}
 use Rattle.s370_logic.specs.Meaning.{joined, joined_byte, are_zero, compared}
@@ -33,6 +35,18 @@ compared_none m bytes a b = refl
 pub compared_more : (m : Memory) (bytes : List ℕ) (a b n : ℕ) → compared m bytes a b n ≡ 0 → compared m bytes a b (n + 1) ≡ order_code (nat_cmp (byte_at m bytes (wrap (a + n))) (byte_at m bytes (wrap (b + n))))
 unfolding compared
 compared_more m bytes a b n h = rw (add-one, h) refl
+
+parted : (x y : ℕ) → (x ≡ y → ⊥) → (x < y) ⊎ (y < x)
+parted x y h = grind arith
+
+pub equal_code : (x y : ℕ) → x ≡ y → order_code (nat_cmp x y) ≡ 0
+equal_code x y e = rw (← nat_cmp_is x y Equal e) refl
+
+pub unequal_code : (x y : ℕ) → (x ≡ y → ⊥) → 0 < order_code (nat_cmp x y)
+unequal_code x y h = elim (parted x y h) [
+  | inl l ↦ rw (← nat_cmp_is x y Less l) (omega arith)
+  | inr g ↦ rw (← nat_cmp_is x y Greater g) (omega arith)
+]
 
 -- an unequal pair decides, whatever follows it
 pub compared_decided : (m : Memory) (bytes : List ℕ) (a b n i code : ℕ) → i < n → compared m bytes a b i ≡ 0 → code ≡ order_code (nat_cmp (byte_at m bytes (wrap (a + i))) (byte_at m bytes (wrap (b + i)))) → 0 < code → code ≡ compared m bytes a b n

@@ -33,9 +33,8 @@ fn compare_rows<P: Space>(_space: &P, a: Addr, b: Addr, n: u32, x: &[u8], y: &[u
     ensures below { result ≤ 2 }
 {
     for i in 0..n as usize {
-        let code = order_code(x[i].cmp(&y[i]));
-        if code != 0 {
-            return code;
+        if x[i] != y[i] {
+            return order_code(x[i].cmp(&y[i]));
         }
     }
     0
