@@ -1,8 +1,10 @@
 -- The digits of packed decimal fields, a byte at a time.
-use Rattle.std.proofs.Common.{if◌then◌else◌, ◌≡◌, ℕ, ◌+◌, ◌-◌, ◌*◌, ◌/◌, ◌%◌, ◌^◌, ◌<◌, ◌≤◌, zero, suc, Bool, true, false, ◌&&◌, Option, Some, None, List, [], ◌∷◌, ◌++◌, length, length-append, slice_set, refl, ap, sym, ◌∙◌, arith, lit<, append_assoc, add-one, ◌⊎◌, inl, inr}
+use Rattle.std.proofs.Common.{if◌then◌else◌, ◌≡◌, ℕ, ◌+◌, ◌-◌, ◌*◌, ◌/◌, ◌%◌, ◌^◌, ◌<◌, ◌≤◌, zero, suc, Bool, true, false, ◌&&◌, Option, Some, None, List, [], ◌∷◌, ◌++◌, length, length-append, take, drop, slice_set, refl, ap, sym, ◌∙◌, arith, lit<, append_assoc, add-one, ◌⊎◌, inl, inr}
 use Rattle.std.proofs.Math.Nat.{pow-suc, pow-le-pow_right}
 use Rattle.std.proofs.lemmas.Nat.{pow-add, mul-pow}
 use Rattle.std.proofs.lemmas.Bool.Decides.{nat_tests}
+use Rattle.std.proofs.lemmas.List.{take_more_set, drop-set, drop-drop}
+use Rattle.std.proofs.Math.Seq.{take-add}
 use Rattle.std.proofs.lemmas.List.Folds.{list_all-append}
 use Rattle.std.specs.List.{list_all}
 use Rattle.std.proofs.lemmas.Bool.{and_parts}
@@ -133,14 +135,6 @@ bytes_of-last zero (h ∷ hs) x y e = absurd (omega (arith, e))
 bytes_of-last (suc k) (h ∷ []) x y e = absurd (omega (arith, e))
 bytes_of-last (suc k) (h ∷ g ∷ hs) x y e = ap (λ (t : List ℕ). (h * 16 + g) ∷ t) (bytes_of-last k hs x y (omega (arith, e)))
 
-pub length-bytes_of : (k : ℕ) (hs : List ℕ) → length hs ≡ 2 * k → length (bytes_of hs) ≡ k
-unfolding bytes_of
-length-bytes_of zero [] e = refl
-length-bytes_of (suc k) [] e = absurd (omega (arith, e))
-length-bytes_of zero (h ∷ hs) e = absurd (omega (arith, e))
-length-bytes_of (suc k) (h ∷ []) e = absurd (omega (arith, e))
-length-bytes_of (suc k) (h ∷ g ∷ hs) e = ap (λ (n : ℕ). suc n) (length-bytes_of k hs (omega (arith, e)))
-
 pub store_bytes-last : (bs bytes : List ℕ) (a b : ℕ) → store_bytes bytes a (bs ++ b ∷ []) ≡ slice_set (store_bytes bytes a bs) (wrap (a + length bs)) b
 unfolding store_bytes
 store_bytes-last [] bytes a b = let e : a + 0 ≡ a = omega arith in rw e refl
@@ -148,35 +142,40 @@ store_bytes-last (x ∷ xs) bytes a b =
     let e : a + suc (length xs) ≡ a + 1 + length xs = omega arith in
     rw e (store_bytes-last xs (slice_set bytes (wrap a) x) (a + 1) b)
 
--- a byte behind those of 2k digits
-stored_behind : (bytes : List ℕ) (a k v x y : ℕ) → store_bytes bytes a (bytes_of (digits_of (2 * k) v ++ x ∷ (y ∷ []))) ≡ slice_set (store_bytes bytes a (bytes_of (digits_of (2 * k) v))) (wrap (a + k)) (x * 16 + y)
-stored_behind bytes a k v x y =
-    let count : length (digits_of (2 * k) v) ≡ 2 * k = length-digits_of (2 * k) v in
-    rw (bytes_of-last k (digits_of (2 * k) v) x y count, store_bytes-last (bytes_of (digits_of (2 * k) v)) bytes a (x * 16 + y), length-bytes_of k (digits_of (2 * k) v) count) refl
-
-pub no_pairs : (bytes : List ℕ) (a k v : ℕ) → k ≡ 0 → store_bytes bytes a (bytes_of (digits_of (2 * k) v)) ≡ bytes
-unfolding store_bytes bytes_of digits_of
-no_pairs bytes a zero v e = refl
-no_pairs bytes a (suc k) v e = absurd (omega (arith, e))
-
 two_digits : (k v : ℕ) → digits_of (suc (suc k)) v ≡ digits_of k (v / 100) ++ v / 10 % 10 ∷ (v % 10 ∷ [])
 unfolding digits_of
 two_digits k v =
     let e : v / 10 / 10 ≡ v / 100 = omega arith in
     rw (e, append_assoc) refl
 
-pub last_pair : (bytes : List ℕ) (a k v b : ℕ) → 0 < k → b ≡ v / 10 % 10 * 16 + v % 10 →
-    slice_set (store_bytes bytes a (bytes_of (digits_of (2 * (k - 1)) (v / 100)))) (wrap (a + (k - 1))) b ≡ store_bytes bytes a (bytes_of (digits_of (2 * k) v))
-last_pair bytes a k v b h e =
-    let two : 2 * k ≡ suc (suc (2 * (k - 1))) = omega arith in
-    rw (two, two_digits (2 * (k - 1)) v, e) (sym (stored_behind bytes a (k - 1) (v / 100) (v / 10 % 10) (v % 10)))
+-- rows of bytes, filled from the right
+
+pub no_row : (row : List ℕ) (n v : ℕ) → n ≡ 0 → take n row ≡ bytes_of (digits_of (2 * n) v)
+unfolding bytes_of digits_of
+no_row row zero v e = refl
+no_row row (suc n) v e = absurd (omega (arith, e))
+
+pub pair_behind : (row done : List ℕ) (n v b : ℕ) → 0 < n → n ≤ length row → take (n - 1) done ≡ bytes_of (digits_of (2 * (n - 1)) (v / 100)) → drop (n - 1) done ≡ drop (n - 1) (slice_set row (n - 1) b) → b ≡ v / 10 % 10 * 16 + v % 10 →
+    take n done ≡ bytes_of (digits_of (2 * n) v)
+pair_behind row done n v b p l h r e =
+    let back : n - 1 + 1 ≡ n = omega arith in
+    let two : 2 * n ≡ suc (suc (2 * (n - 1))) = omega arith in
+    let split : take n done ≡ take (n - 1) done ++ take 1 (drop (n - 1) done) = rw back at (take-add (n - 1) 1 done) in
+    let seen : drop (n - 1) done ≡ b ∷ drop n row = r ∙ (rw back at (drop-set row (n - 1) b (omega arith))) in
+    split ∙ rw (h, seen, two, two_digits (2 * (n - 1)) v, bytes_of-last (n - 1) (digits_of (2 * (n - 1)) (v / 100)) (v / 10 % 10) (v % 10) (length-digits_of (2 * (n - 1)) (v / 100)), e) refl
+
+pub rest_behind : (row done : List ℕ) (n b : ℕ) → 0 < n → n ≤ length row → drop (n - 1) done ≡ drop (n - 1) (slice_set row (n - 1) b) → drop n done ≡ drop n row
+rest_behind row done n b p l r =
+    let back : n - 1 + 1 ≡ n = omega arith in
+    let seen : drop (n - 1) done ≡ b ∷ drop n row = r ∙ (rw back at (drop-set row (n - 1) b (omega arith))) in
+    (rw back at (sym (drop-drop 1 (n - 1) done))) ∙ rw seen refl
 
 one_digit : (k v : ℕ) → digits_of (k + 1) v ≡ digits_of k (v / 10) ++ v % 10 ∷ []
 unfolding digits_of
 one_digit k v = rw add-one refl
 
-pub field_stored : (bytes : List ℕ) (a l v b : ℕ) (minus : Bool) → b ≡ v % 10 * 16 + sign_half minus →
-    slice_set (store_bytes bytes a (bytes_of (digits_of (2 * l) (v / 10)))) (wrap (a + l)) b ≡ store_field bytes a l v minus
+pub field_row : (bytes : List ℕ) (a l v b : ℕ) (minus : Bool) (row : List ℕ) → l < length row → take l row ≡ bytes_of (digits_of (2 * l) (v / 10)) → b ≡ v % 10 * 16 + sign_half minus →
+    store_bytes bytes a (take (l + 1) (slice_set row l b)) ≡ store_field bytes a l v minus
 unfolding store_field
-field_stored bytes a l v b minus e =
-    rw (e, one_digit (2 * l) v, append_assoc) (sym (stored_behind bytes a l (v / 10) (v % 10) (sign_half minus)))
+field_row bytes a l v b minus row h d e =
+    rw (take_more_set row l b h, d, e, one_digit (2 * l) v, append_assoc, bytes_of-last l (digits_of (2 * l) (v / 10)) (v % 10) (sign_half minus) (length-digits_of (2 * l) (v / 10))) refl

@@ -1,11 +1,12 @@
 //! Packed decimal fields in storage (Principles of Operation, "Decimal Instructions", "Data Format"). A field of length code
 //! l has l + 1 bytes: 2l + 1 digits, then the sign in the last half byte.
-ghost use Rattle.std.specs.Prelude.{◌≡◌, ◌+◌, ◌-◌, ◌*◌, ◌/◌, ◌%◌, ◌^◌, ◌<◌, ◌≤◌, ◌&&◌, true, false, IfSome, IfNone, ℤ, pos, neg_ℤ, ◌<ℤ◌};
+ghost use Rattle.std.specs.Prelude.{◌≡◌, ◌+◌, ◌-◌, ◌*◌, ◌/◌, ◌%◌, ◌^◌, ◌<◌, ◌≤◌, ◌&&◌, true, false, take, drop, length, IfSome, IfNone, ℤ, pos, neg_ℤ, ◌<ℤ◌};
 ghost use Rattle.std.specs.List.{list_all};
 ghost use Rattle.cov_base.specs.Meaning.{can_reach, can_store};
-ghost use Rattle.s370_state.specs.Meaning.{is_sign, is_minus, sign_half, is_digit, halves_at, decimal, field_at, number, digits_of, bytes_of, store_bytes, store_field};
+ghost use Rattle.s370_state.specs.Fields.{AreBytes};
+ghost use Rattle.s370_state.specs.Meaning.{is_sign, is_minus, sign_half, is_digit, halves_at, decimal, field_at, number, digits_of, bytes_of, store_field};
 
-use crate::operands::{byte_of, put_into};
+use crate::operands::byte_of;
 use crate::space::Space;
 use cov_base::Addr;
 
@@ -61,19 +62,19 @@ fn is_last(byte: u8) -> bool
     is_digit(byte / 16) && is_sign(byte % 16)
 }
 
-/// The number of the digits in the first n bytes of an operand; none where a half byte of these is no digit.
-fn pairs<P: Space>(space: &P, at: Addr, n: u32, len: u32) -> Option<u128>
+/// The number of the digits in the first n bytes of a row; none where a half byte of these is no digit.
+#[inline(always)]
+fn pairs<P: Space>(_space: &P, at: Addr, n: u32, row: &[u8]) -> Option<u128>
     requires most { n ≤ 15 }
-    requires inside { n ≤ len }
-    requires reach { can_reach (P.memory space.now) at len ≡ true }
-    ensures good { IfSome result (λ _. list_all is_digit (halves_at (P.memory space.now) (P.bytes space.now) at n) ≡ true) }
-    ensures value { IfSome result (λ v. v ≡ decimal 0 (halves_at (P.memory space.now) (P.bytes space.now) at n)) }
+    requires row { AreBytes (P.memory _space.now) (P.bytes _space.now) at (n + 1) row.now }
+    ensures good { IfSome result (λ _. list_all is_digit (halves_at (P.memory _space.now) (P.bytes _space.now) at n) ≡ true) }
+    ensures value { IfSome result (λ v. v ≡ decimal 0 (halves_at (P.memory _space.now) (P.bytes _space.now) at n)) }
     ensures below { IfSome result (λ v. v < 100 ^ n) }
-    ensures bad { IfNone result (list_all is_digit (halves_at (P.memory space.now) (P.bytes space.now) at n) ≡ false) }
+    ensures bad { IfNone result (list_all is_digit (halves_at (P.memory _space.now) (P.bytes _space.now) at n) ≡ false) }
 {
     let mut v: u128 = 0;
     for i in 0..n {
-        let byte = byte_of(space, at, i, len);
+        let byte = row[i as usize];
         if !is_pair(byte) {
             return None;
         }
@@ -82,17 +83,17 @@ fn pairs<P: Space>(space: &P, at: Addr, n: u32, len: u32) -> Option<u128>
     Some(v)
 }
 
-/// What the field of length code l holds, whose bytes were tested; none where a digit or the sign is bad.
-pub fn field_at<P: Space>(space: &P, at: Addr, l: u8) -> Option<Field>
+/// What the field of length code l holds, whose bytes stand in a row; none where a digit or the sign is bad.
+fn field_in<P: Space>(_space: &P, at: Addr, l: u8, row: &[u8]) -> Option<Field>
     requires length { l ≤ 15 }
-    requires reach { can_reach (P.memory space.now) at (l + 1) ≡ true }
-    ensures field { result ≡ field_at (P.memory space.now) (P.bytes space.now) at l }
+    requires row { AreBytes (P.memory _space.now) (P.bytes _space.now) at (l + 1) row.now }
+    ensures field { result ≡ field_at (P.memory _space.now) (P.bytes _space.now) at l }
     ensures below { IfSome result (λ f. f.magnitude < 10 ^ (2 * l + 1)) }
     ensures most { IfSome result (λ f. f.magnitude < 10000000000000000000000000000000) }
 {
     let n = u32::from(l);
-    let last = byte_of(space, at, n, n + 1);
-    match pairs(space, at, n, n + 1) {
+    let last = row[usize::from(l)];
+    match pairs(_space, at, n, row) {
         Some(high) => {
             if is_last(last) {
                 Some(Field {
@@ -104,6 +105,36 @@ pub fn field_at<P: Space>(space: &P, at: Addr, l: u8) -> Option<Field>
             }
         }
         None => None,
+    }
+}
+
+/// The bytes of an operand one at a time, and zeros behind them.
+#[cold]
+#[inline(never)]
+fn gathered<P: Space>(space: &P, at: Addr, n: u32) -> [u8; 16]
+    requires most { n ≤ 16 }
+    requires reach { can_reach (P.memory space.now) at n ≡ true }
+    ensures { AreBytes (P.memory space.now) (P.bytes space.now) at n (take n result) }
+{
+    let mut row = [0u8; 16];
+    for i in 0..n {
+        row[i as usize] = byte_of(space, at, i, n);
+    }
+    row
+}
+
+/// What the field of length code l holds, whose bytes were tested; none where a digit or the sign is bad.
+pub fn field_at<P: Space>(space: &P, at: Addr, l: u8) -> Option<Field>
+    requires length { l ≤ 15 }
+    requires reach { can_reach (P.memory space.now) at (l + 1) ≡ true }
+    ensures field { result ≡ field_at (P.memory space.now) (P.bytes space.now) at l }
+    ensures below { IfSome result (λ f. f.magnitude < 10 ^ (2 * l + 1)) }
+    ensures most { IfSome result (λ f. f.magnitude < 10000000000000000000000000000000) }
+{
+    let n = u32::from(l) + 1;
+    match space.slice(at, n) {
+        Some(row) => field_in(space, at, l, row),
+        None => field_in(space, at, l, &gathered(space, at, n)[..n as usize]),
     }
 }
 
@@ -122,29 +153,64 @@ pub fn number(f: Field) -> i128
     }
 }
 
-/// The first k of an operand's n bytes become the 2k low digits of v.
-#[tactic(auto, using(crate::proofs::Digits::no_pairs, crate::proofs::Digits::last_pair))]
-fn put_pairs<P: Space>(space: &mut P, at: Addr, k: u32, n: u32, v: u128)
-    requires inside { k ≤ n }
-    requires store { can_store (P.memory space.old) at n ≡ true }
-    ensures memory { P.memory space.new ≡ P.memory space.old }
-    ensures bytes { P.bytes space.new ≡ store_bytes (P.bytes space.old) at (bytes_of (digits_of (2 * k) v)) }
+/// The first n bytes of a row become the 2n low digits of v.
+fn put_low(row: &mut [u8], n: usize, v: u64)
+    requires inside { n ≤ length row.old }
+    requires most { n ≤ 15 }
+    ensures digits { take n row.new ≡ bytes_of (digits_of (2 * n) v) }
+    ensures rest { drop n row.new ≡ drop n row.old }
+    ensures filled { length row.new ≡ length row.old }
 {
-    if k == 0 {
+    if n == 0 {
         return;
     }
-    put_pairs(space, at, k - 1, n, v / 100);
-    put_into(space, at, k - 1, n, (v / 10 % 10 * 16 + v % 10) as u8);
+    row[n - 1] = (v / 10 % 10 * 16 + v % 10) as u8;
+    put_low(row, n - 1, v / 100);
+}
+
+/// The same of a number that may need more than 64 bits, whose division is long.
+fn put_digits(row: &mut [u8], n: usize, v: u128)
+    requires inside { n ≤ length row.old }
+    requires most { n ≤ 15 }
+    ensures digits { take n row.new ≡ bytes_of (digits_of (2 * n) v) }
+    ensures rest { drop n row.new ≡ drop n row.old }
+    ensures filled { length row.new ≡ length row.old }
+{
+    if v < 18_446_744_073_709_551_616 {
+        put_low(row, n, v as u64);
+        return;
+    }
+    if n == 0 {
+        return;
+    }
+    row[n - 1] = (v / 10 % 10 * 16 + v % 10) as u8;
+    put_digits(row, n - 1, v / 100);
+}
+
+/// A magnitude's digits but the last, and that one.
+fn digits_and_last(v: u128) -> (u128, u8)
+    ensures digits { result.0 ≡ v / 10 }
+    ensures last { result.1 ≡ v % 10 }
+{
+    if v < 18_446_744_073_709_551_616 {
+        let low = v as u64;
+        (u128::from(low / 10), (low % 10) as u8)
+    } else {
+        (v / 10, (v % 10) as u8)
+    }
 }
 
 /// The field of length code l, whose bytes were tested, becomes the low digits of a magnitude and a sign.
-#[tactic(auto, using(crate::proofs::Digits::field_stored))]
 pub fn put_field<P: Space>(space: &mut P, at: Addr, l: u8, v: u128, minus: bool)
+    requires length { l ≤ 15 }
     requires store { can_store (P.memory space.old) at (l + 1) ≡ true }
     ensures memory { P.memory space.new ≡ P.memory space.old }
     ensures bytes { P.bytes space.new ≡ store_field (P.bytes space.old) at l v minus }
 {
-    let n = u32::from(l);
-    put_pairs(space, at, n, n + 1, v / 10);
-    put_into(space, at, n, n + 1, (v % 10) as u8 * 16 + sign_half(minus));
+    let mut row = [0u8; 16];
+    let n = usize::from(l);
+    let (digits, last) = digits_and_last(v);
+    put_digits(&mut row, n, digits);
+    row[n] = last * 16 + sign_half(minus);
+    space.put_slice(at, &row[..n + 1]);
 }

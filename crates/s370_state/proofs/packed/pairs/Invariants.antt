@@ -5,7 +5,7 @@ use Rattle.s370_state.proofs.packed.pairs.Given as goal
 
 abbrev pub invariant-loop-i : goal.invariant-loop-i
 invariant-loop-i g l = record {
-  good : list_all is_digit (halves_at (g.P.Space.memory l.space) (g.P.Space.bytes l.space) l.at l.i) ≡ true;
-  value : l.v ≡ decimal 0 (halves_at (g.P.Space.memory l.space) (g.P.Space.bytes l.space) l.at l.i);
+  good : list_all is_digit (halves_at (g.P.Space.memory l._space) (g.P.Space.bytes l._space) l.fn.at l.i) ≡ true;
+  value : l.v ≡ decimal 0 (halves_at (g.P.Space.memory l._space) (g.P.Space.bytes l._space) l.fn.at l.i);
   below : l.v < 100 ^ l.i;
 }
