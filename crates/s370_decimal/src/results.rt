@@ -4,7 +4,7 @@ ghost use Rattle.cov_base.specs.Meaning.{can_store};
 ghost use Rattle.s370_state.specs.Meaning.{next_after, store_field};
 ghost use Rattle.s370_decimal.specs.Meaning.{kept, code_of};
 
-use crate::fields::{fits, power};
+use crate::fields::power;
 use cov_base::Addr;
 use s370_state::{Cpu, Next, Space, next_after, put_field};
 
@@ -19,16 +19,26 @@ pub struct Kept {
     pub lost: bool,
 }
 
-/// What a field of length code l keeps of a whole result.
-#[tactic(auto, unfolding(crate::specs::Meaning::kept))]
+/// What a field of length code l keeps of a whole result, which mostly fits, so that it needs no division.
+#[tactic(auto, unfolding(crate::specs::Meaning::kept), using(crate::proofs::Powers::remainder_small))]
 pub fn keep(l: u8, v: u128, minus: bool) -> Kept
     requires { l ≤ 15 }
     ensures { result ≡ kept l v minus }
 {
-    Kept {
-        digits: v % power(2 * l + 1),
-        minus: v != 0 && minus,
-        lost: !fits(l, v),
+    let room = power(2 * l + 1);
+    let minus = v != 0 && minus;
+    if v < room {
+        Kept {
+            digits: v,
+            minus,
+            lost: false,
+        }
+    } else {
+        Kept {
+            digits: v % room,
+            minus,
+            lost: true,
+        }
     }
 }
 
