@@ -311,10 +311,10 @@ class Hercules:
         assert self.process.stdin
         self.process.stdin.write(command.encode() + b"\n")
 
-    def wait_for(self, pattern: bytes, asking: str = "") -> bytes:
-        """Reads until a text comes; a command is given again each second."""
+    def wait_for(self, pattern: bytes, asking: str = "", seconds: float = SECONDS) -> bytes:
+        """Reads until a text comes, at most so many seconds; a command is given again each second."""
         assert self.process.stdout
-        found, end, asked = re.compile(pattern, re.S), time.monotonic() + SECONDS, time.monotonic()
+        found, end, asked = re.compile(pattern, re.S), time.monotonic() + seconds, time.monotonic()
         while True:
             match = found.search(self.buffer)
             if match:

@@ -131,8 +131,8 @@ class Subject:
         herc.say("sysreset")
         begun = spent(herc.process.pid)
         herc.say("restart")
-        # Asked too, since a message may be lost.
-        herc.wait_for(rb"PSW=000A0000 0000D0E0", "psw")
+        # Asked too, since a message may be lost; packed numbers take it long on a busy machine.
+        herc.wait_for(rb"PSW=000A0000 0000D0E0", "psw", 1800)
         took = spent(herc.process.pid) - begun
         herc.say("stop")
         return took, list(struct.unpack(">16I", herc.saved(BEHIND, 64)))
