@@ -1,9 +1,7 @@
 -- Copies within storage, one byte on, and a list that is stored whole.
-use Rattle.std.proofs.Common.{◌≡◌, ◌+◌, ◌<◌, ◌≤◌, zero, suc, List, length, length-drop, take, drop, slice_index, slice_set, refl, sym, ap, ◌∙◌, add-one, add-zero, arith, ℕ}
+use Rattle.std.proofs.Common.{◌≡◌, ◌+◌, ◌<◌, ◌≤◌, zero, suc, List, length, length-drop, take, drop, slice_index, slice_set, refl, sym, ◌∙◌, add-one, arith, ℕ}
 use Rattle.std.proofs.lemmas.Bool.{lt-ltb}
 use Rattle.std.proofs.lemmas.List.{length-take-le, get_or-take, get_or-drop}
-use Rattle.std.proofs.lemmas.List.Edits.{paste_none, paste_more}
-use Rattle.std.proofs.Math.Seq.{paste}
 use Rattle.cov_base.specs.Meaning.{Memory, byte_at, wrap}
 use Rattle.s370_state.specs.Fields.{AreBytes, copied}
 use Rattle.s370_state.specs.Meaning.{store_bytes}

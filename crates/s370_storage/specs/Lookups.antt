@@ -1,5 +1,5 @@
 -- How function bytes are tested as they are looked up.
-use Rattle.std.specs.Prelude.{◌≡◌, ℕ, ◌+◌, ◌<◌, true, false, Option, Result, IfOk, IfErr, IfSome, List}
+use Rattle.std.specs.Prelude.{◌≡◌, ℕ, ◌<◌, true, false, Option, Result, IfOk, IfErr, IfSome, List}
 use Rattle.cov_base.specs.Meaning.{Memory}
 use Rattle.s370_state.specs.Meaning.{all_reached, touched, touch_ending}
 use Rattle.s370_state.specs.declared.endings.Ending.{Ending}
