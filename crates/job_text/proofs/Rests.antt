@@ -5,10 +5,10 @@ use Rattle.std.proofs.lemmas.Option.{same_Some, cond_some}
 use Rattle.std.specs.List.{concat}
 use Rattle.cov_base.specs.Meaning.{ImageView}
 use Rattle.session_book.specs.Meaning.{TaskView, first_regs}
-use Rattle.job_text.specs.Meaning.{DraftView, Controllers, are_met, bound, LineView, listing_text, CardView, Cover, Module, Text, Listing, Phase, Session, Task, Reg, Data, Input, End, IsCard, card_at, task_view, no_job, fits, with_module, with_phase, with_session, has_task, with_task, joined, AreCards, IsListed, Spells, Lead, IsModule, IsServiceCard, IsSessionCard, IsTaskBlock, IsPhase, Serve, with_service}
+use Rattle.job_text.specs.Meaning.{DraftView, Controllers, are_met, bound, LineView, listing_text, CardView, Cover, Module, Text, Listing, Phase, Session, Task, Reg, Data, Input, End, IsCard, card_at, no_job, fits, with_module, with_phase, with_session, has_task, with_task, joined, AreCards, IsListed, Spells, Lead, IsModule, IsServiceCard, IsSessionCard, IsTaskBlock, IsPhase, Serve, with_service}
 use Rattle.session_book.specs.declared.services.Service.{Service}
 use Rattle.job_text.specs.declared.grammar.Grammar.{Grammar}
-use Rattle.job_text.specs.TaskParts.{fresh_task, task_more}
+use Rattle.job_text.specs.TaskParts.{fresh_view, fresh_task, task_more}
 use Rattle.job_text.specs.declared.parts.Part.{Part}
 use Rattle.job_text.specs.declared.parts.Part.TheVariants as part
 use Rattle.job_text.specs.Steps.{State, state, start, is_start, is_sessions, is_done, closed_module, closed_service, closed_task, met_of, closed, no_bytes, with_bytes, module_over, line_over, phase_over, session_over, task_over, open_module, open_task, add_service, open_phase, add_session, take_text, take_listing, take_more, end, takes_raw, take_raw, take_card, step, run}
@@ -327,7 +327,7 @@ session_back ask p j s name by names l ls d card is e r = absurd cc
 task_first : (ask : Controllers) (j : DraftView) (name : List ℕ) (entry private budget room : ℕ) (l : LineView) (ls : List LineView) (d : DraftView) → IsCard l (Task name entry private budget room) → has_task j name ≡ false →
     AtPart (fresh_task name entry private budget room) (Behind ask j d) ls → RestTasks ask j (l ∷ ls) d
 task_first ask j name entry private budget room l ls d card new r =
-    let first : TaskView = task_view name entry private budget room (first_regs entry) [] [] in
+    let first : TaskView = fresh_view name entry private budget room in
     let a : AtRegs 0 first (Behind ask j d) ls = r in
     let filled : TaskView = with_regs first a.regs in
     let c : AtData filled (Behind ask j d) a.rest = a.then in
@@ -347,21 +347,18 @@ task_first ask j name entry private budget room l ls d card new r =
           data_lines = c.lines;
           input_lines = b.lines;
           whole = refl;
-          name = name;
-          entry = entry;
-          private = private;
-          budget = budget;
-          room = room;
+          task = task;
           regs = a.regs;
-          cards = c.cards;
           inputs = b.inputs;
           card = card;
           new = new;
           are_regs = a.are;
           rise = rise_pairs 0 a.regs a.rise;
+          set = refl;
           are_data = c.are;
           inside = c.inside;
           are_inputs = b.are;
+          filled = refl;
           is_after = refl;
         };
         follows = z.are;

@@ -5,7 +5,7 @@ use Rattle.std.proofs.lemmas.Bool.Decides.{nat_tests}
 use Rattle.std.proofs.lemmas.Option.{same_Some, cond_some}
 use Rattle.std.specs.List.{concat}
 use Rattle.cov_base.specs.Meaning.{ImageView}
-use Rattle.session_book.specs.Meaning.{JobView}
+use Rattle.session_book.specs.Meaning.{JobView, TaskView}
 use Rattle.job_text.specs.Meaning.{DraftView, Controllers, are_met, bound, Present, LineView, listing_text, CardView, Cover, Module, Text, Listing, Phase, Session, Task, Reg, Data, Input, End, IsCard, card_at, no_job, with_module, with_task, joined, AreCards, IsListed, IsModule, IsTaskBlock, IsPhase, Spells, JobBegins, Lead, IsServiceCard, IsSessionCard, Serve}
 use Rattle.job_text.specs.declared.grammar.Grammar.{Grammar}
 use Rattle.job_text.specs.TaskParts.{fresh_task, task_more}
@@ -196,14 +196,15 @@ run_more ask (l ∷ ls) t u j over e =
 
 run_task : (ask : Controllers) (block : List LineView) (j after : DraftView) (st : State) → IsTaskBlock j block after → AtTasks j st → Reaches ask st block (AtTasks after)
 run_task ask block j after st m a =
-    let first : TaskPart = fresh_task m.name m.entry m.private m.budget m.room in
-    let over : Option Limit = task_over j m.private m.budget m.room in
+    let t : TaskView = m.task in
+    let first : TaskPart = fresh_task t.name t.entry t.private t.budget t.room in
+    let over : Option Limit = task_over j t.private t.budget t.room in
     let next : State = state (part.Task first) j over in
-    let e : take_card ask st (Task m.name m.entry m.private m.budget m.room) ≡ Some next = rw (a, m.new) refl in
+    let e : take_card ask st (Task t.name t.entry t.private t.budget t.room) ≡ Some next = rw (a, m.new) refl in
     let raw : takes_raw st.part ≡ false = task_raw st.part st.job j a in
-    let r = cards_run m.regs m.cards m.inputs m.reg_lines m.data_lines m.input_lines first.task 0 m.are_regs (rise_from 0 m.regs (λ k d l. omega arith) m.rise) m.are_data m.inside m.are_inputs in
+    let r = cards_run m.regs t.cards m.inputs m.reg_lines m.data_lines m.input_lines first.task 0 m.are_regs (rise_from 0 m.regs (λ k d l. omega arith) m.rise) m.are_data m.inside m.are_inputs in
     let more = run_more ask (m.reg_lines ++ (m.data_lines ++ m.input_lines)) first _ j over r.runs in
-    let holds : AtTasks after more.end = rw (more.holds.at, more.holds.is, m.is_after) refl in
+    let holds : AtTasks after more.end = rw (more.holds.at, more.holds.is, m.is_after, m.set, m.filled) refl in
     rw m.whole (reach_first ask st next m.head _ _ (card_step ask st next m.head _ raw m.card e) (record { end = more.end; runs = more.runs; holds = holds }))
 
 run_tasks : (ask : Controllers) (blocks : List (List LineView)) (j after : DraftView) (st : State) → Lead IsTaskBlock j blocks after → AtTasks j st → Reaches ask st (joined blocks) (AtTasks after)

@@ -19,7 +19,7 @@ use Rattle.session_book.specs.Meaning.{JobView, SessionView, TaskView, first_reg
 use Rattle.session_book.specs.JobView.{IsJob, IsSession, IsListing, IsTaskOf, HasController, AreParted}
 use Rattle.names.specs.Lists.{Differ}
 use Rattle.session_book.specs.JobView as book
-use Rattle.job_text.specs.Meaning.{SessionDraft, DraftView, Controllers, Present, is_controller, controller_of, is_met_by, is_met, are_met, bound_session, bound, LineView, Module, Session, Task, may_stand, RegView, set_regs, task_view, no_job, has_module, is_clear, with_phase, this_phase, is_same_controller, bars, index_of, is_free, put_index, indices_on, session_draft, with_session, IsModule, IsTaskBlock, IsPhase, Spells, are_short, IsWithin, Lead, IsServiceCard, IsSessionCard, with_service}
+use Rattle.job_text.specs.Meaning.{SessionDraft, DraftView, Controllers, Present, is_controller, controller_of, is_met_by, is_met, are_met, bound_session, bound, LineView, CardView, Module, Session, Task, may_stand, RegView, set_regs, no_job, has_module, is_clear, with_phase, this_phase, is_same_controller, bars, index_of, is_free, put_index, indices_on, with_session, IsModule, IsTaskBlock, IsPhase, Spells, are_short, IsWithin, Lead, IsServiceCard, IsSessionCard, with_service}
 use Rattle.session_book.specs.declared.services.Service.{Service}
 use Rattle.job_text.specs.declared.grammar.Grammar.{Grammar}
 use Rattle.job_text.specs.declared.limit.Limit.TheVariants as limit
@@ -266,7 +266,7 @@ parted_of phase s t at free same other =
 session_so_far : (j after : DraftView) (name : List ℕ) (by : Option (List ℕ)) (names : List (List ℕ)) → with_session j name by names ≡ Some after → 1 ≤ length names → 1 ≤ length j.phases → SoFar j → SoFar after
 session_so_far j after name by names e some phases s =
     let m = session_added j after name by names e in
-    let t : SessionDraft = session_draft j name by m.modules in
+    let t : SessionDraft = record { name = name; phase = this_phase j; modules = m.modules; by = by } in
     let none : AreUsed j by [] = record { exist = All-nil (λ m. m < length j.images); differ = no_pairs (λ m n. m ≢ n); free = All-nil (λ m. list_any (bars (this_phase j) by m) j.sessions ≡ false) } in
     let r : Indices j by [] m.modules (length names) = are_indices j by names [] m.modules m.are none in
     let is : IsSessionSoFar (length j.images) (length j.phases) t = record { phase = omega (arith, phases); some = omega (arith, r.length, some); modules = r.are.exist; differ = r.are.differ } in
@@ -306,13 +306,14 @@ regs_count regs (r ∷ rs) = regs_count (slice_set regs r.number r.value) rs ∙
 
 task_so_far : (block : List LineView) (j after : DraftView) → IsTaskBlock j block after → InPhase j → InPhase after
 task_so_far block j after m s =
-    let card : Good (Task m.name m.entry m.private m.budget m.room) = card_good m.head.bytes (Task m.name m.entry m.private m.budget m.room) m.card in
-    let t : TaskView = record (task_view m.name m.entry m.private m.budget m.room (set_regs (first_regs m.entry) m.regs) m.cards (concat m.inputs)) { phase = this_phase j } in
+    let said : CardView = Task m.task.name m.task.entry m.task.private m.task.budget m.task.room in
+    let card : Good said = card_good m.head.bytes said m.card in
+    let t : TaskView = record m.task { phase = this_phase j } in
     let is : IsTaskSoFar (length j.phases) t = record {
       phase = omega (arith, s.phase);
       entry = card.0;
       some = card.1;
-      regs = regs_count (first_regs m.entry) m.regs;
+      regs = ap (λ (rs : List ℕ). length rs) m.set ∙ regs_count (first_regs m.task.entry) m.regs;
       cards = m.inside;
     } in
     rw m.is_after (record {
@@ -326,7 +327,7 @@ task_so_far block j after m s =
         module_names = s.so_far.module_names;
         phase_names = s.so_far.phase_names;
         session_names = s.so_far.session_names;
-        task_names = names_differ (λ (x : TaskView). x.name) j.tasks t s.so_far.task_names (none_of (λ x. bytes_eq x.name m.name) j.tasks m.new);
+        task_names = names_differ (λ (x : TaskView). x.name) j.tasks t s.so_far.task_names (none_of (λ x. bytes_eq x.name m.task.name) j.tasks m.new);
       };
       phase = s.phase;
     })

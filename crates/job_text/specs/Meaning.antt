@@ -119,28 +119,22 @@ bars phase by m s = nat_eq s.phase phase && not (is_same_controller s.by by) && 
 abbrev pub is_free : DraftView → Option (List ℕ) → List ℕ → ℕ → Bool
 is_free j by used m = not (list_any (nat_eq m) used) && not (list_any (bars (this_phase j) by m) j.sessions)
 
+-- the module, where there is one, behind those that the card named before it
 abbrev pub put_index : DraftView → Option (List ℕ) → List ℕ → Option ℕ → Option (List ℕ)
 put_index j by used (Some m) = if is_free j by used m then Some (used ++ m ∷ []) else None
 put_index j by used None = None
-
--- the module of this name, behind those that the card named before it
-abbrev pub put_named : DraftView → Option (List ℕ) → List ℕ → List ℕ → Option (List ℕ)
-put_named j by used name = put_index j by used (index_of j name)
 
 -- the modules of these names, behind those that the card named before them
 abbrev pub indices_on : DraftView → Option (List ℕ) → Option (List ℕ) → List (List ℕ) → Option (List ℕ)
 indices_on j by used [] = used
 indices_on j by None (n ∷ ns) = None
-indices_on j by (Some used) (n ∷ ns) = indices_on j by (put_named j by used n) ns
-
-abbrev pub session_draft : DraftView → List ℕ → Option (List ℕ) → List ℕ → SessionDraft
-session_draft j name by modules = record { name = name; phase = this_phase j; modules = modules; by = by }
+indices_on j by (Some used) (n ∷ ns) = indices_on j by (put_index j by used (index_of j n)) ns
 
 abbrev pub with_draft : DraftView → SessionDraft → DraftView
 with_draft j s = record j { sessions = j.sessions ++ s ∷ [] }
 
 abbrev pub put_session : DraftView → List ℕ → Option (List ℕ) → List ℕ → DraftView
-put_session j name by modules = with_draft j (session_draft j name by modules)
+put_session j name by modules = with_draft j (record { name = name; phase = this_phase j; modules = modules; by = by })
 
 abbrev pub has_task : DraftView → List ℕ → Bool
 has_task j name = list_any (λ t. bytes_eq t.name name) j.tasks
@@ -373,19 +367,6 @@ abbrev pub set_regs : List ℕ → List RegView → List ℕ
 set_regs regs [] = regs
 set_regs regs (r ∷ rs) = set_regs (slice_set regs r.number r.value) rs
 
-abbrev pub task_view : List ℕ → ℕ → ℕ → ℕ → ℕ → List ℕ → List DataView → List ℕ → TaskView
-task_view name entry private budget room regs cards input = record {
-  name = name;
-  phase = 0;
-  entry = entry;
-  private = private;
-  budget = budget;
-  room = room;
-  regs = regs;
-  cards = cards;
-  input = input;
-}
-
 -- Which lines spell a job. Each word says how some lines take one job to another.
 
 pub record Then (Is More : DraftView → Type 0) : Type 0 where
@@ -448,22 +429,19 @@ pub record IsTaskBlock (j : DraftView) (block : List LineView) (after : DraftVie
   pub input_lines : List LineView
   pub whole : block ≡ head ∷ (reg_lines ++ (data_lines ++ input_lines))
   -- what they say
-  pub name : List ℕ
-  pub entry : ℕ
-  pub private : ℕ
-  pub budget : ℕ
-  pub room : ℕ
+  pub task : TaskView
   pub regs : List RegView
-  pub cards : List DataView
   pub inputs : List (List ℕ)
-  pub card : IsCard head (Task name entry private budget room)
-  pub new : has_task j name ≡ false
+  pub card : IsCard head (Task task.name task.entry task.private task.budget task.room)
+  pub new : has_task j task.name ≡ false
   pub are_regs : AreCards (λ r. Reg r.number r.value) regs reg_lines
   pub rise : AllPairs (λ r s. r.number < s.number) regs
-  pub are_data : AreCards Data cards data_lines
-  pub inside : All (λ c. c.offset + length c.bytes ≤ private) cards
+  pub set : task.regs ≡ set_regs (first_regs task.entry) regs
+  pub are_data : AreCards Data task.cards data_lines
+  pub inside : All (λ c. c.offset + length c.bytes ≤ task.private) task.cards
   pub are_inputs : AreCards Input inputs input_lines
-  pub is_after : after ≡ with_task j (task_view name entry private budget room (set_regs (first_regs entry) regs) cards (concat inputs))
+  pub filled : task.input ≡ concat inputs
+  pub is_after : after ≡ with_task j task
 
 pub record IsPhase (c : Controllers) (j : DraftView) (block : List LineView) (after : DraftView) : Type 0 where
   pub head : LineView

@@ -2,7 +2,7 @@
 use Rattle.std.specs.Prelude.{◌≡◌, ℕ, ◌+◌, Bool, true, false, ◌&&◌, nat_le, if◌then◌else◌, Option, Some, None, List, [], ◌∷◌, ◌++◌, length, slice_set}
 use Rattle.module_area.specs.Meaning.{DataView}
 use Rattle.session_book.specs.Meaning.{TaskView, first_regs}
-use Rattle.job_text.specs.Meaning.{CardView, Reg, Data, Input, task_view}
+use Rattle.job_text.specs.Meaning.{CardView, Reg, Data, Input}
 use Rattle.job_text.specs.declared.refused.LineRefused.{LineRefused}
 use Rattle.job_text.specs.declared.refused.LineRefused.TheVariants as refused
 use Rattle.job_text.specs.declared.task.TaskPart.{TaskPart}
@@ -13,8 +13,11 @@ abbrev pub part : TaskView → TaskStage → TaskPart
 part task stage = record { task = task; stage = stage }
 
 -- behind TASK
+abbrev pub fresh_view : List ℕ → ℕ → ℕ → ℕ → ℕ → TaskView
+fresh_view name entry private budget room = record { name = name; phase = 0; entry = entry; private = private; budget = budget; room = room; regs = first_regs entry; cards = []; input = [] }
+
 abbrev pub fresh_task : List ℕ → ℕ → ℕ → ℕ → ℕ → TaskPart
-fresh_task name entry private budget room = part (task_view name entry private budget room (first_regs entry) [] []) (stage.Regs 0)
+fresh_task name entry private budget room = part (fresh_view name entry private budget room) (stage.Regs 0)
 
 abbrev pub takes_reg : TaskStage → ℕ → Bool
 takes_reg (stage.Regs least) n = nat_le least n

@@ -116,7 +116,7 @@ fn put_index(
 ) -> Result<Option<Vec<u32>>, NoMemory>
     requires modules { length job.now.images ≤ MODULE_LIMIT }
     requires phases { length job.now.phases ≤ PHASE_LIMIT }
-    ensures { IfOk result (λ o. adding.put_named job.now by.now used.items name.now ≡ option_map (λ v. v.items) o) }
+    ensures { IfOk result (λ o. adding.put_index job.now by.now used.items (adding.index_of job.now name.now) ≡ option_map (λ v. v.items) o) }
 {
     match index_of(job, name) {
         None => Ok(None),
