@@ -1,4 +1,4 @@
-use Rattle.std.proofs.Common.{◌≡◌, map, refl, sym, ◌∙◌, ap}
+use Rattle.std.proofs.Common.{◌≡◌, map, refl, ◌∙◌, ap}
 use Rattle.module_area.specs.Notes.{bearer}
 use Rattle.svc_monitor.proofs.TurnLemmas.{turned}
 use Rattle.task_run.specs.Meaning.{solo}
