@@ -2,7 +2,7 @@
 use Rattle.std.specs.Prelude.{ℕ, ◌+◌, Option, Some, None, List, [], ◌∷◌, ◌*◌, ◌^◌, Bool, nat_lt, ◌-◌, ◌/◌, ◌%◌, not, ◌&&◌, nat_le, if◌then◌else◌, false, ◌==◌, true, ℤ, ◌+ℤ◌, ◌-ℤ◌}
 use Rattle.cov_base.specs.Meaning.{CpuView, Machine, Memory, wrap}
 use Rattle.s370_state.specs.Meaning.{Use, reads, stores, Outcome, Completes, Program, with_bytes, Overflows, with_cc, Row, storing, needing, on_data, field_at, store_field, number, order_code}
-use Rattle.s370_decode.specs.Meaning.{r1, r2, e1, e2}
+use Rattle.s370_decode.specs.Meaning.{r1, r2, e1, e2, shift_distance}
 use Rattle.s370_decode.specs.declared.code.Code.{Code}
 use Rattle.s370_state.specs.declared.packed.Field.{Field}
 use Rattle.s370_decimal.specs.declared.operands.Operands.{Operands}
@@ -93,10 +93,6 @@ results s a l k = Overflows (with_cc (with_bytes s (store_field s.bytes a l k.di
 
 -- The shift (Principles of Operation, "Decimal Instructions", "Shift and Round Decimal").
 
--- the low six bits of the second address
-abbrev pub distance : CpuView → Code → ℕ
-distance s c = e2 s c % 64
-
 -- the whole magnitude: where n is below 32, n digits to the left; else 64 - n digits to the right, after the rounding digit
 -- i was added to the last digit that goes
 unfoldable pub shifted : ℕ → ℕ → ℕ → ℕ
@@ -133,5 +129,5 @@ decimal_row MP c m s = Some (needing (is_shorter c) (on_both m s c (multiplied s
 decimal_row DP c m s = Some (needing (is_shorter c) (on_both m s c (divided s c)))
 -- the rounding digit, in bits 12-15, is to be a digit too
 decimal_row SRP c m s = Some (storing (e1 s.cpu c) (l1 c + 1) (on_data (if nat_le (r2 c) 9 then field_at m s.bytes (e1 s.cpu c) (l1 c) else None)
-    (λ f. results s (e1 s.cpu c) (l1 c) (kept (l1 c) (shifted f.magnitude (r2 c) (distance s.cpu c)) f.minus))))
+    (λ f. results s (e1 s.cpu c) (l1 c) (kept (l1 c) (shifted f.magnitude (r2 c) (shift_distance s.cpu c)) f.minus))))
 decimal_row _ c m s = None

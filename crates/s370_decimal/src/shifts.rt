@@ -5,7 +5,8 @@ ghost use Rattle.std.specs.Prelude.{◌≡◌, ◌+◌, ◌-◌, ◌*◌, ◌/�
 ghost use Rattle.cov_base.specs.Meaning.{can_reach};
 ghost use Rattle.s370_state.specs.Row.{Performs};
 ghost use Rattle.s370_state.specs.Meaning.{field_at};
-ghost use Rattle.s370_decimal.specs.Meaning.{kept, distance, shifted, decimal_row};
+ghost use Rattle.s370_decode.specs.Meaning.{shift_distance};
+ghost use Rattle.s370_decimal.specs.Meaning.{kept, shifted, decimal_row};
 
 use crate::fields::power;
 use crate::results::{Kept, keep, put_result};
@@ -15,7 +16,7 @@ use s370_state::{Cpu, Ending, Field, Next, Space, field_at, test_store};
 
 /// The low six bits of the second address.
 fn distance(cpu: &Cpu, code: &Code) -> u8
-    ensures value { result ≡ distance cpu.now code.now }
+    ensures value { result ≡ shift_distance cpu.now code.now }
     ensures below { result < 64 }
 {
     (cpu.based(code.b2(), code.d2()).get() % 64) as u8

@@ -52,6 +52,10 @@ e1 s c = address s (b1 c) 0 (d1 c)
 abbrev pub e2 : CpuView → Code → ℕ
 e2 s c = address s (b2 c) 0 (d2 c)
 
+-- by how many bits or digits a shift goes: the low six bits of that
+abbrev pub shift_distance : CpuView → Code → ℕ
+shift_distance s c = e2 s c % 64
+
 -- the same of RX, with its index
 abbrev pub ex : CpuView → Code → ℕ
 ex s c = address s (b2 c) (r2 c) (d2 c)

@@ -4,7 +4,7 @@ use Rattle.std.specs.Int.{cast_signed, w16, cast_unsigned, w64, int_div_euclid, 
 use Rattle.cov_base.specs.Meaning.{Machine, Memory}
 use Rattle.s370_state.specs.Meaning.{Outcome, Completes, Program, with_reg, Row, Overflows, reading, with_cc, reg, pair, with_pair, with_regs, at_once, storing, needing, on_data, from_register, from_word, to_storage, is_even, with_bytes, number, field_at, store_field, number_at, store_number, signed, order_code}
 use Rattle.s370_state.specs.declared.packed.Field.{Field}
-use Rattle.s370_decode.specs.Meaning.{r1, r2, ex, e2}
+use Rattle.s370_decode.specs.Meaning.{r1, r2, ex, e2, shift_distance}
 use Rattle.s370_decode.specs.declared.code.Code.{Code}
 use Rattle.std.specs.Int.RustNames.{int_div, int_rem, unsigned_abs}
 use Rattle.std.specs.Ordering.{int_cmp}
@@ -110,10 +110,6 @@ divided s r p d = if divides p d then Completes (with_reg (with_reg s r (low_wor
 -- Shifts (Principles of Operation, "General Instructions"). An arithmetic one multiplies a signed number by a power of two, or
 -- divides by it and rounds down.
 
--- the low six bits of the second operand's address
-abbrev pub distance : Machine → Code → ℕ
-distance s c = e2 s.cpu c % 64
-
 abbrev pub left_by : ℤ → ℕ → ℤ
 left_by x n = x *ℤ pos (2 ^ n)
 
@@ -182,22 +178,22 @@ fixed_row M c m s = Some (needing (is_even (r1 c)) (from_word m s c (multiplies 
 fixed_row MH c m s = Some (from_half m s c (λ z. loads s c (low_word (first s c *ℤ z))))
 fixed_row DR c m s = Some (needing (is_even (r1 c)) (from_register s c (λ v. divided s (r1 c) (signed_pair s c) (signed v))))
 fixed_row D c m s = Some (needing (is_even (r1 c)) (from_word m s c (λ v. divided s (r1 c) (signed_pair s c) (signed v))))
-fixed_row SLL c m s = Some (at_once (loads s c (reg s (r1 c) * 2 ^ distance s c % 4294967296)))
-fixed_row SRL c m s = Some (at_once (loads s c (reg s (r1 c) / 2 ^ distance s c)))
+fixed_row SLL c m s = Some (at_once (loads s c (reg s (r1 c) * 2 ^ shift_distance s.cpu c % 4294967296)))
+fixed_row SRL c m s = Some (at_once (loads s c (reg s (r1 c) / 2 ^ shift_distance s.cpu c)))
 fixed_row SLA c m s =
-    let z = left_by (first s c) (distance s c) in
+    let z = left_by (first s c) (shift_distance s.cpu c) in
     Some (at_once (signals (with_reg s (r1 c) (with_sign 2147483648 (first s c) z)) (is_word z) z))
 fixed_row SRA c m s =
-    let z = right_by (first s c) (distance s c) in
+    let z = right_by (first s c) (shift_distance s.cpu c) in
     Some (at_once (Completes (with_cc (with_reg s (r1 c) (low_word z)) (sign_code z))))
 -- the same of the 64 bits of a pair
-fixed_row SLDL c m s = Some (needing (is_even (r1 c)) (at_once (Completes (to_pair s c (pair s.cpu (r1 c) * 2 ^ distance s c % 18446744073709551616)))))
-fixed_row SRDL c m s = Some (needing (is_even (r1 c)) (at_once (Completes (to_pair s c (pair s.cpu (r1 c) / 2 ^ distance s c)))))
+fixed_row SLDL c m s = Some (needing (is_even (r1 c)) (at_once (Completes (to_pair s c (pair s.cpu (r1 c) * 2 ^ shift_distance s.cpu c % 18446744073709551616)))))
+fixed_row SRDL c m s = Some (needing (is_even (r1 c)) (at_once (Completes (to_pair s c (pair s.cpu (r1 c) / 2 ^ shift_distance s.cpu c)))))
 fixed_row SLDA c m s =
-    let z = left_by (signed_pair s c) (distance s c) in
+    let z = left_by (signed_pair s c) (shift_distance s.cpu c) in
     Some (needing (is_even (r1 c)) (at_once (signals (to_pair s c (with_sign 9223372036854775808 (signed_pair s c) z)) (is_doubleword z) z)))
 fixed_row SRDA c m s =
-    let z = right_by (signed_pair s c) (distance s c) in
+    let z = right_by (signed_pair s c) (shift_distance s.cpu c) in
     Some (needing (is_even (r1 c)) (at_once (Completes (with_cc (to_pair s c (cast_unsigned w64 z)) (sign_code z)))))
 -- packed decimal doublewords, which are fields of 8 bytes
 fixed_row CVB c m s = Some (reading (ex s.cpu c) 8 (on_data (field_at m s.bytes (ex s.cpu c) 7) (converted s (r1 c))))
