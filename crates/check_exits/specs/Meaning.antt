@@ -6,7 +6,7 @@ use Rattle.s370_state.specs.declared.endings.Ending.TheVariants.{Abend, BadSvc}
 use Rattle.s370_state.specs.declared.endings.Next.{Next}
 use Rattle.s370_state.specs.declared.endings.Next.TheVariants.{On, Ended}
 use Rattle.s370_exec.specs.Meaning.{call_address}
-use Rattle.observed_step.specs.Meaning.{After, Behind, behind_call, course_on}
+use Rattle.observed_step.specs.Meaning.{DoneBehind, Behind, behind_call, course_on}
 use Rattle.task_run.specs.Meaning.{Course}
 
 -- A task with an exit for its program interruptions, which SVC 6 names.
@@ -33,22 +33,22 @@ interrupted s code None = as_left None s (Ended (Abend code))
 interrupted s code (Some a) = goes_on (at_exit s.cpu code a) None
 
 -- SVC 6 sets the exit to the address in register 1, and the task goes on behind it
-abbrev pub called : Option ℕ → Memory → Machine → ℕ → Behind (Option ℕ)
-called exit m s number =
+abbrev pub exit_called : Option ℕ → Memory → Machine → ℕ → Behind (Option ℕ)
+exit_called exit m s number =
     if number == 6 then goes_on (record s.cpu { ia = behind_call m s }) (exit_named (call_address s)) else as_left exit s (Ended (BadSvc number))
 
 -- every other ending stays
-abbrev pub by_ending : Option ℕ → Memory → Machine → Ending → Behind (Option ℕ)
-by_ending exit m s (Abend code) = interrupted s code exit
-by_ending exit m s (BadSvc number) = called exit m s number
-by_ending exit m s e = as_left exit s (Ended e)
+abbrev pub exit_by_ending : Option ℕ → Memory → Machine → Ending → Behind (Option ℕ)
+exit_by_ending exit m s (Abend code) = interrupted s code exit
+exit_by_ending exit m s (BadSvc number) = exit_called exit m s number
+exit_by_ending exit m s e = as_left exit s (Ended e)
 
 -- What an exit does behind a step that has left the task so. The step counts, and its visits, storage, input and output are those
 -- of a task without one.
-abbrev pub by_next : After (Option ℕ)
-by_next exit m s On = as_left exit s On
-by_next exit m s (Ended e) = by_ending exit m s e
+abbrev pub exit_by_next : DoneBehind (Option ℕ)
+exit_by_next exit m s On = as_left exit s On
+exit_by_next exit m s (Ended e) = exit_by_ending exit m s e
 
 -- from the task's start, where it has no exit
 abbrev pub with_exits : Course
-with_exits plan m budget s = course_on by_next m budget None s
+with_exits plan m budget s = course_on exit_by_next m budget None s

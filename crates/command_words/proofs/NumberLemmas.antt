@@ -6,7 +6,7 @@ use Rattle.std.proofs.lemmas.Bool.Decides.{nat_tests}
 use Rattle.std.proofs.lemmas.Fmt.{digits_value-decimal, parse-decimal}
 use Rattle.std.proofs.lemmas.Slice.Eq.{bytes_eq-Decides}
 use Rattle.std.proofs.lemmas.Str.Parse.{IsNumeralModel, numerals_by_value}
-use Rattle.command_words.specs.Meaning.{number_at}
+use Rattle.command_words.specs.Meaning.{number_word}
 
 own : IsNumeralModel (λ ds. all_ascii_digits ds ≡ true) (digits_value 10)
 own = numerals_by_value (λ ds. all_ascii_digits ds ≡ true) (search rules)
@@ -18,7 +18,7 @@ bytes_same (b ∷ bytes) =
     rw (one, bytes_same bytes) refl
 
 -- a word that is the decimal of a number
-pub number_found : (w : List ℕ) (n : ℕ) → n < 2 ^ 32 → w ≡ decimal n → number_at w ≡ Some n
+pub number_found : (w : List ℕ) (n : ℕ) → n < 2 ^ 32 → w ≡ decimal n → number_word w ≡ Some n
 number_found w n h e =
     let value : digits_value 10 w ≡ n = ap (digits_value 10) e ∙ digits_value-decimal own n (omega arith) in
     let below : nat_lt n 4294967296 ≡ true = grind (arith, nat_tests) in
@@ -26,7 +26,7 @@ number_found w n h e =
     rw (value, below, same) refl
 
 -- a word that is that of none
-pub number_missing : (w : List ℕ) → ((n : ℕ) → n < 2 ^ 32 → w ≡ decimal n → ⊥) → number_at w ≡ None
+pub number_missing : (w : List ℕ) → ((n : ℕ) → n < 2 ^ 32 → w ≡ decimal n → ⊥) → number_word w ≡ None
 number_missing w none = by_tests (nat_lt v 4294967296) refl (bytes_eq w (decimal v)) refl
   where
     v : ℕ
@@ -40,9 +40,9 @@ number_missing w none = by_tests (nat_lt v 4294967296) refl (bytes_eq w (decimal
         absurd (none v below ((bytes_eq-Decides w (decimal v)).0 f))
 
 -- what `parse` and a comparison with the number's decimal find
-pub not_parsed : {E : Type 0} (w : List ℕ) (r : Result ℕ E) (e : E) → ParsesUnsigned 32 10 w r → r ≡ Err e → number_at w ≡ None
+pub not_parsed : {E : Type 0} (w : List ℕ) (r : Result ℕ E) (e : E) → ParsesUnsigned 32 10 w r → r ≡ Err e → number_word w ≡ None
 not_parsed w r e p q = number_missing w (λ n h is. (let found : r ≡ Ok n = parse-decimal 32 n w r h (omega arith) is p in absurd cc))
 
-pub parsed_otherwise : {E : Type 0} (w : List ℕ) (r : Result ℕ E) (n : ℕ) → ParsesUnsigned 32 10 w r → r ≡ Ok n → (w ≡ decimal n → ⊥) → number_at w ≡ None
+pub parsed_otherwise : {E : Type 0} (w : List ℕ) (r : Result ℕ E) (n : ℕ) → ParsesUnsigned 32 10 w r → r ≡ Ok n → (w ≡ decimal n → ⊥) → number_word w ≡ None
 parsed_otherwise w r n p q other = number_missing w (λ m h is. (let found : r ≡ Ok m = parse-decimal 32 m w r h (omega arith) is p in
     let same : n ≡ m = cc in other (is ∙ ap decimal (sym same))))

@@ -38,8 +38,8 @@ command_named g w (Some name) =
     else Unknown)))
 
 -- the number that a word is the decimal of: it has no sign, and no leading zero but in 0 itself
-abbrev pub number_at : List ℕ → Option ℕ
-number_at w = if nat_lt (digits_value 10 w) 4294967296 && bytes_eq w (decimal (digits_value 10 w)) then Some (digits_value 10 w) else None
+abbrev pub number_word : List ℕ → Option ℕ
+number_word w = if nat_lt (digits_value 10 w) 4294967296 && bytes_eq w (decimal (digits_value 10 w)) then Some (digits_value 10 w) else None
 
 -- the command of a word, a generated job's number and how many tasks it has, 1 to 64
 abbrev pub command_numbered : List ℕ → Option ℕ → Option ℕ → Command
@@ -50,7 +50,7 @@ command_numbered w number tasks = Unknown
 abbrev pub command_in : Grammar → List (List ℕ) → Command
 command_in g (w ∷ []) = command_alone g w
 command_in g (w ∷ n ∷ []) = command_named g w (name_at n)
-command_in g (w ∷ n ∷ t ∷ []) = plain_only g (command_numbered w (number_at n) (number_at t))
+command_in g (w ∷ n ∷ t ∷ []) = plain_only g (command_numbered w (number_word n) (number_word t))
 command_in g words = Unknown
 
 -- the command that the words are: `services` before those of a command asks for its job's services

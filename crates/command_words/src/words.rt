@@ -1,7 +1,7 @@
 //! The words of the command line.
 ghost use Rattle.std.specs.Prelude.{◌≡◌, map, string_bytes};
 ghost use Rattle.cov_base.specs.Meaning.{name_at};
-ghost use Rattle.command_words.specs.Meaning.{number_at, plain_only, command_alone, command_named, command_numbered, command_in, command_of};
+ghost use Rattle.command_words.specs.Meaning.{number_word, plain_only, command_alone, command_named, command_numbered, command_in, command_of};
 ghost use Rattle.command_words.specs.Words.{HasFewTasks};
 
 use annotator::text::add_number;
@@ -99,7 +99,7 @@ fn command_named(grammar: Grammar, word: &str, name: &str) -> Command
 
 /// The number that the word is the decimal of, below 2^32 and without a leading zero.
 fn number_of(word: &str) -> Option<u32>
-    ensures { result ≡ number_at word.now }
+    ensures { result ≡ number_word word.now }
 {
     let Ok(number) = word.parse::<u32>() else {
         return None;
@@ -115,7 +115,7 @@ fn number_of(word: &str) -> Option<u32>
 
 /// The command of a word and two numbers.
 fn command_numbered(word: &str, number: &str, tasks: &str) -> Command
-    ensures value { result ≡ command_numbered word.now (number_at number.now) (number_at tasks.now) }
+    ensures value { result ≡ command_numbered word.now (number_word number.now) (number_word tasks.now) }
     ensures few { HasFewTasks result }
 {
     let (Some(number), Some(tasks)) = (number_of(number), number_of(tasks)) else {

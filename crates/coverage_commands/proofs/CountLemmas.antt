@@ -8,15 +8,15 @@ use Rattle.job_run.specs.declared.outcome.Done.{Done}
 use Rattle.report_text.specs.Meaning.{count_text}
 use Rattle.session_book.specs.Meaning.{JobView, SessionView, is_whole}
 use Rattle.session_book.specs.Sessions.{AreWhole}
-use Rattle.coverage_commands.specs.Meaning.{IsWritten, SinkChange, controlled_from, first_controlled}
+use Rattle.coverage_commands.specs.Meaning.{IsWritten, SinkChange, first_controlled_from, first_controlled}
 use Rattle.coverage_commands.specs.Calls.{IsCount, IsTold, Told}
 
 -- no session has a controller where none is found
-free_from : (n : ℕ) (ss : List SessionView) → controlled_from n ss ≡ None → All (λ s. is_whole s ≡ true) ss
+free_from : (n : ℕ) (ss : List SessionView) → first_controlled_from n ss ≡ None → All (λ s. is_whole s ≡ true) ss
 free_from n [] free = All-nil (λ (t : SessionView). is_whole t ≡ true)
 free_from n (s ∷ ss) free = by_whole (is_whole s) refl free (free_from (n + 1) ss)
   where
-    by_whole : (b : Bool) → is_whole s ≡ b → (if b then controlled_from (n + 1) ss else Some n) ≡ None → (controlled_from (n + 1) ss ≡ None → All (λ s. is_whole s ≡ true) ss) → All (λ s. is_whole s ≡ true) (s ∷ ss)
+    by_whole : (b : Bool) → is_whole s ≡ b → (if b then first_controlled_from (n + 1) ss else Some n) ≡ None → (first_controlled_from (n + 1) ss ≡ None → All (λ s. is_whole s ≡ true) ss) → All (λ s. is_whole s ≡ true) (s ∷ ss)
     by_whole true e h rest = All-cons (λ (t : SessionView). is_whole t ≡ true) s ss e (rest h)
     by_whole false e h rest = absurd cc
 

@@ -20,7 +20,7 @@ use Rattle.job_text.specs.declared.jobs.JobFault.TheVariants as fault
 use Rattle.job_text.proofs.Excluded as excluded
 use Rattle.session_book.specs.Meaning.{JobView, session_of}
 use Rattle.session_marks.specs.Meaning.{session_marks}
-use Rattle.coverage_commands.specs.Meaning.{ReadyView, IsReady, IsRefused, Jobless, NoSession, Controlled, BadListing, HasAsked, HasNamed, controlled_asked, first_controlled, if_controlled, session_number, with_session, way_of}
+use Rattle.coverage_commands.specs.Meaning.{ReadyView, IsReady, IsRefused, Jobless, NoSession, Controlled, BadListing, HasAsked, HasNamed, controlled_asked, first_controlled, if_controlled, session_number, asks_session, way_of}
 use Rattle.coverage_commands.specs.declared.asked.Wanted.{Wanted}
 use Rattle.coverage_commands.specs.declared.asked.Asked.{Asked}
 use Rattle.coverage_commands.specs.declared.asked.Asked.TheVariants.{AnyJob, WithSession, AllWhole}
@@ -58,14 +58,14 @@ pub all_whole : (j : JobView) → first_controlled j ≡ None → HasAsked AllWh
 all_whole j free = record { named = tt; free = free }
 
 -- the session that is named has none where it must be whole
-pub is_free : (name : List ℕ) (j : JobView) (s : ℕ) → HasAsked (with_session name true) j → session_number j name ≡ Some s → (session_of j s).by ≡ None
+pub is_free : (name : List ℕ) (j : JobView) (s : ℕ) → HasAsked (asks_session name true) j → session_number j name ≡ Some s → (session_of j s).by ≡ None
 is_free name j s has number = by_controller (session_of j s).by refl
   where
     by_controller : (o : Option ℕ) → (session_of j s).by ≡ o → o ≡ None
     by_controller None e = refl
     by_controller (Some t) e =
-        let found : controlled_asked (with_session name true) j ≡ Some s = ap (if_controlled j) number ∙ ap (λ (o : Option ℕ). if not (is_some o) then None else Some s) e in
-        absurd (not_free (with_session name true) j s found has)
+        let found : controlled_asked (asks_session name true) j ≡ Some s = ap (if_controlled j) number ∙ ap (λ (o : Option ℕ). if not (is_some o) then None else Some s) e in
+        absurd (not_free (asks_session name true) j s found has)
 
 -- ---- no refusal has status 0
 

@@ -3,7 +3,7 @@ use Rattle.std.proofs.Common.{◌≡◌, ℕ, ◌≤◌, Option, Some, None, Lis
 use Rattle.std.proofs.lemmas.List.Elements.{All-cons, All-nil}
 use Rattle.std.proofs.lemmas.List.FromFn.{length-map-range_with_len}
 use Rattle.brk_table.specs.Meaning.{TablesView}
-use Rattle.job_gen.specs.Meaning.{trial_code, trial_module, trial_task, trial_job, listing_of}
+use Rattle.job_gen.specs.Meaning.{trial_code, trial_module, trial_task, trial_job, made_listing}
 use Rattle.job_gen.proofs.MatchLemmas.{trial_lines, trial_listing, trial_matches, trial_listing_size}
 use Rattle.job_run.specs.Outcomes.{IsOutcome}
 use Rattle.job_run.specs.Runs.{HasLeft}
@@ -29,14 +29,14 @@ use Rattle.task_run.specs.Meaning.{solo}
 -- its listing has no fault
 pub trial_faultless : (number tasks : ℕ) → job_fault (trial_job number tasks) ≡ None
 unfolding trial_job
-trial_faultless number tasks = rw (no_listing_fault (trial_module number) 65536 (listing_of (trial_code number)) (trial_lines number) (trial_listing number) (trial_matches number)) refl
+trial_faultless number tasks = rw (no_listing_fault (trial_module number) 65536 (made_listing (trial_code number)) (trial_lines number) (trial_listing number) (trial_matches number)) refl
 
 -- nor too many lines
 pub trial_few_lines : (number tasks : ℕ) → HasFewLines (trial_job number tasks)
 unfolding trial_job
 trial_few_lines number tasks =
     let most = trial_listing_size number in
-    All-cons (λ (listing : Option (List (List ℕ))). IfSome listing (λ lines. length lines ≤ 16777216)) (Some (listing_of (trial_code number))) [] (omega arith) (All-nil _)
+    All-cons (λ (listing : Option (List (List ℕ))). IfSome listing (λ lines. length lines ≤ 16777216)) (Some (made_listing (trial_code number))) [] (omega arith) (All-nil _)
 
 pub trial_tasks : (number tasks : ℕ) → length (trial_job number tasks).tasks ≡ tasks
 unfolding trial_job

@@ -92,22 +92,22 @@ on_a_job g = record { reads_input = true; reads_job = true; form = to_end g; ask
 abbrev pub of_a_run : Grammar → Way
 of_a_run g = record (on_a_job g) { makes_areas = true }
 
-abbrev pub with_session : List ℕ → Bool → Asked
-with_session name whole = WithSession (record { name = name; whole = whole })
+abbrev pub asks_session : List ℕ → Bool → Asked
+asks_session name whole = WithSession (record { name = name; whole = whole })
 
 abbrev pub way_of : Command → Way
 way_of (Run g) = of_a_run g
 way_of Exits = of_a_run Plain
 way_of Early = of_a_run Plain
-way_of (Marks name g) = record (of_a_run g) { asked = with_session name false }
+way_of (Marks name g) = record (of_a_run g) { asked = asks_session name false }
 way_of (Trial number tasks) = record (of_a_run Plain) { reads_input = false; reads_job = false }
 way_of (Count g) = record (on_a_job g) { asked = AllWhole }
 way_of (Table g) = on_a_job g
 way_of (Ends g) = on_a_job g
 way_of Replay = record (on_a_job Plain) { form = to_go_on Plain }
-way_of (Show name g) = record (on_a_job g) { form = to_go_on g; asked = with_session name false }
-way_of (Prove name) = record (on_a_job Plain) { asked = with_session name true }
-way_of (Verify name) = record (on_a_job Plain) { form = to_go_on Plain; asked = with_session name true }
+way_of (Show name g) = record (on_a_job g) { form = to_go_on g; asked = asks_session name false }
+way_of (Prove name) = record (on_a_job Plain) { asked = asks_session name true }
+way_of (Verify name) = record (on_a_job Plain) { form = to_go_on Plain; asked = asks_session name true }
 way_of Combine = record (on_a_job Plain) { reads_job = false }
 way_of Unknown = record (on_a_job Plain) { reads_input = false; reads_job = false }
 
@@ -122,12 +122,12 @@ abbrev pub session_number : JobView → List ℕ → Option ℕ
 session_number j name = number_from 1 j.sessions name
 
 -- the number of the first of these sessions that has a controller, counted on from n
-abbrev pub controlled_from : ℕ → List SessionView → Option ℕ
-controlled_from n [] = None
-controlled_from n (s ∷ ss) = if is_whole s then controlled_from (n + 1) ss else Some n
+abbrev pub first_controlled_from : ℕ → List SessionView → Option ℕ
+first_controlled_from n [] = None
+first_controlled_from n (s ∷ ss) = if is_whole s then first_controlled_from (n + 1) ss else Some n
 
 abbrev pub first_controlled : JobView → Option ℕ
-first_controlled j = controlled_from 1 j.sessions
+first_controlled j = first_controlled_from 1 j.sessions
 
 -- the session of this number, if any, where it has a controller
 abbrev pub if_controlled : JobView → Option ℕ → Option ℕ

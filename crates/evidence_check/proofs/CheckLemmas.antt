@@ -8,7 +8,7 @@ use Rattle.std.proofs.lemmas.Slice.Eq.{bytes_eq-Decides}
 use Rattle.cov_base.specs.declared.facts.Fact.{Fact}
 use Rattle.cov_base.specs.declared.facts.Fact.TheVariants.{Ran, Went, Stayed}
 use Rattle.brk_table.specs.Meaning.{TablesView, first_place}
-use Rattle.marks_file.specs.Meaning.{MarkedView, place_count}
+use Rattle.marks_file.specs.Meaning.{MarkedView, place_total}
 use Rattle.marks_file.specs.declared.marks.MarkedPlace.{MarkedPlace}
 use Rattle.session_marks.specs.Filled.{AreThere}
 use Rattle.evidence_check.specs.Meaning.{past, past_place, past_places, place_claims, places_claims, modules_claims, first_refuted, entry_bytes}
@@ -76,7 +76,7 @@ places_stop bs firsts from row first ps at i p e s lt is some =
 pub record ModulesSoFar (bs : List ℕ) (tables : TablesView) (firsts : ℕ → Fact → Option First) (ms : List MarkedView) (ns : List ℕ) (at row i : ℕ) : Type 0 where
   pub inside : at ≤ length bs
   pub there : AreThere tables (drop i ms) (drop i ns)
-  pub rows : row + (length (drop i ms) + place_count (drop i ms)) ≡ length ms + place_count ms
+  pub rows : row + (length (drop i ms) + place_total (drop i ms)) ≡ length ms + place_total ms
   pub claims : first_refuted (modules_claims tables firsts 0 ms ns (drop 8 bs)) ≡ first_refuted (modules_claims tables firsts row (drop i ms) (drop i ns) (drop at bs))
 
 -- the next module and its number
@@ -92,9 +92,9 @@ both_there tables ms ns i m lm ln is there =
     (at_drop_more (λ xs. xs) ms i m lm ∙ ap (λ (x : MarkedView). x ∷ drop (i + 1) ms) (sym is), at_drop_more (λ ys. ys) ns i 0 ln) in
     subst (λ ys. AreThere tables (m ∷ drop (i + 1) ms) ys) drops.1 (subst (λ xs. AreThere tables xs (drop i ns)) drops.0 there)
 
-row_count : (ms : List MarkedView) (i : ℕ) (m : MarkedView) → i < length ms → m ≡ get_or ms i m → length (drop i ms) + place_count (drop i ms) ≡ 1 + length m.places + (length (drop (i + 1) ms) + place_count (drop (i + 1) ms))
+row_count : (ms : List MarkedView) (i : ℕ) (m : MarkedView) → i < length ms → m ≡ get_or ms i m → length (drop i ms) + place_total (drop i ms) ≡ 1 + length m.places + (length (drop (i + 1) ms) + place_total (drop (i + 1) ms))
 row_count ms i m lt is =
-    at_drop_more (λ xs. length xs + place_count xs) ms i m lt ∙ (ap (λ (x : MarkedView). length (x ∷ drop (i + 1) ms) + place_count (x ∷ drop (i + 1) ms)) (sym is) ∙ omega arith)
+    at_drop_more (λ xs. length xs + place_total xs) ms i m lt ∙ (ap (λ (x : MarkedView). length (x ∷ drop (i + 1) ms) + place_total (x ∷ drop (i + 1) ms)) (sym is) ∙ omega arith)
 
 pub modules_step : (bs : List ℕ) (tables : TablesView) (firsts : ℕ → Fact → Option First) (ms : List MarkedView) (ns : List ℕ) (at to row i : ℕ) (m : MarkedView) → ModulesSoFar bs tables firsts ms ns at row i → i < length ms → i < length ns → m ≡ get_or ms i m →
     first_refuted (places_claims firsts (row + 1) (first_place tables.tables (get_or ns i 0)) m.places (drop at bs)) ≡ None → to ≤ length bs → drop to bs ≡ past_places m.places (drop at bs) →

@@ -3,27 +3,27 @@ use Rattle.std.proofs.Common.{◌≡◌, ℕ, ◌+◌, ◌*◌, ◌<◌, ◌≤�
 use Rattle.std.proofs.lemmas.List.{at_drop_more}
 use Rattle.cov_base.specs.Meaning.{FactSet}
 use Rattle.module_area.specs.Meaning.{fact_count}
-use Rattle.marks_file.specs.Meaning.{MarkedView, MarksView, is_new_name, is_base, is_size, is_count, are_modules, is_module_count, keeps_rules, place_count}
+use Rattle.marks_file.specs.Meaning.{MarkedView, MarksView, is_new_name, is_base, is_size, is_count, are_modules, is_module_count, keeps_rules, place_total}
 use Rattle.marks_file.specs.declared.marks.MarkedPlace.{MarkedPlace}
 use Rattle.marks_file.proofs.Parts.{is_module}
 use Rattle.marks_file.proofs.MarksLemmas.{both-left, both-right, le_of_test, kept_modules, marks_count}
 use Rattle.evidence_check.specs.Meaning.{facts_of_places, facts_of_modules}
 
-place_count-push : (ms : List MarkedView) (m : MarkedView) → place_count (ms ++ m ∷ []) ≡ place_count ms + length m.places
+place_count-push : (ms : List MarkedView) (m : MarkedView) → place_total (ms ++ m ∷ []) ≡ place_total ms + length m.places
 place_count-push [] m = omega arith
 place_count-push (x ∷ ms) m = let e = place_count-push ms m in omega (arith, e)
 
-few_from : (earlier ms : List MarkedView) → place_count earlier ≤ 65536 → are_modules earlier ms ≡ true → place_count earlier + place_count ms ≤ 65536
+few_from : (earlier ms : List MarkedView) → place_total earlier ≤ 65536 → are_modules earlier ms ≡ true → place_total earlier + place_total ms ≤ 65536
 unfolding is_count
 few_from earlier [] few h = omega arith
 few_from earlier (m ∷ ms) few h =
     let rest = both-right (is_size earlier m.base m.size) _ (both-right (is_base m.base) _ (both-right (is_new_name earlier m.name) _ (both-left (is_module earlier m) _ h))) in
-    let count = le_of_test (place_count earlier + length m.places) 65536 (both-left (is_count earlier (length m.places)) _ rest) in
+    let count = le_of_test (place_total earlier + length m.places) 65536 (both-left (is_count earlier (length m.places)) _ rest) in
     let more = few_from (earlier ++ m ∷ []) ms (omega (arith, count, place_count-push earlier m)) (both-right (is_module earlier m) _ h) in
     omega (arith, more, place_count-push earlier m)
 
 -- a marks file has at most 65,536 places, and 16 modules
-pub few_places : (m : MarksView) → keeps_rules m ≡ true → place_count m.modules ≤ 65536
+pub few_places : (m : MarksView) → keeps_rules m ≡ true → place_total m.modules ≤ 65536
 few_places m h = let few = few_from [] m.modules (omega arith) (both-right (is_module_count (length m.modules)) _ (kept_modules m h)) in omega arith
 
 pub few_modules : (m : MarksView) → keeps_rules m ≡ true → length m.modules ≤ 16
@@ -40,12 +40,12 @@ pub facts_of_places-most : (ps : List MarkedPlace) → facts_of_places ps ≤ 3 
 facts_of_places-most [] = omega arith
 facts_of_places-most (p ∷ ps) = omega (arith, fact_count-most p.set, facts_of_places-most ps)
 
-pub facts_of_modules-most : (ms : List MarkedView) → facts_of_modules ms ≤ 3 * place_count ms
+pub facts_of_modules-most : (ms : List MarkedView) → facts_of_modules ms ≤ 3 * place_total ms
 facts_of_modules-most [] = omega arith
 facts_of_modules-most (m ∷ ms) = omega (arith, facts_of_places-most m.places, facts_of_modules-most ms)
 
 -- one of the modules has no more places than all
-pub places_within : (ms : List MarkedView) (i : ℕ) (d : MarkedView) → i < length ms → length (get_or ms i d).places ≤ place_count ms
+pub places_within : (ms : List MarkedView) (i : ℕ) (d : MarkedView) → i < length ms → length (get_or ms i d).places ≤ place_total ms
 places_within [] i d lt = absurd (omega arith)
 places_within (m ∷ ms) zero d lt = omega arith
 places_within (m ∷ ms) (suc i) d lt = omega (arith, places_within ms i d (omega arith))

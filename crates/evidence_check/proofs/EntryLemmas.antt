@@ -6,7 +6,7 @@ use Rattle.cov_base.specs.declared.facts.Fact.TheVariants.{Ran, Went, Stayed}
 use Rattle.brk_table.specs.Meaning.{TablesView, all_places, first_place, place_count}
 use Rattle.session_book.specs.Meaning.{JobView, session_of}
 use Rattle.session_marks.proofs.FillLemmas.{range_most}
-use Rattle.evidence_check.specs.Meaning.{magic, place_entries, places_entries, module_entries, evidence, phase_first, session_first}
+use Rattle.evidence_check.specs.Meaning.{evidence_magic, place_entries, places_entries, module_entries, evidence, phase_first, session_first}
 use Rattle.evidence_check.specs.Found.{found_at, AreFirsts}
 use Rattle.evidence_check.specs.declared.firsts.First.{First}
 use Rattle.evidence_check.specs.declared.firsts.Found.{Found}
@@ -43,8 +43,8 @@ module_read tables firsts m first past from to =
 
 -- what was found gives the evidence
 pub found_evidence : (j : JobView) (tables : TablesView) (s phase : ℕ) (found held : List Found) (modules : List ℕ) → tables.places ≡ all_places tables.tables → AreFirsts j tables.places phase found →
-    held ≡ found → phase ≡ (session_of j s).phase → modules ≡ (session_of j s).modules → magic ++ flat_map (module_entries tables (found_at held)) modules ≡ evidence j tables s
+    held ≡ found → phase ≡ (session_of j s).phase → modules ≡ (session_of j s).modules → evidence_magic ++ flat_map (module_entries tables (found_at held)) modules ≡ evidence j tables s
 found_evidence j tables s phase found held modules all are same in_phase of =
     let each : (n : ℕ) → n < length tables.places → (f : Fact) → found_at held n f ≡ session_first j tables.places s n f =
     λ n lt f. ap (λ x. found_at x n f) same ∙ (are.firsts n lt f ∙ ap (λ p. phase_first j tables.places p n f) in_phase) in
-    ap (λ t. magic ++ t) (same_modules tables (found_at held) (session_first j tables.places s) modules all each ∙ ap (flat_map (module_entries tables (session_first j tables.places s))) of)
+    ap (λ t. evidence_magic ++ t) (same_modules tables (found_at held) (session_first j tables.places s) modules all each ∙ ap (flat_map (module_entries tables (session_first j tables.places s))) of)

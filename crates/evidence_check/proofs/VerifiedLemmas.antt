@@ -11,7 +11,7 @@ use Rattle.session_book.specs.Meaning.{JobView, session_of}
 use Rattle.session_book.specs.JobView.{IsJob}
 use Rattle.session_marks.specs.FromFile.{IsOwn}
 use Rattle.session_marks.specs.Meaning.{session_marks}
-use Rattle.evidence_check.specs.Meaning.{facts_of_modules, modules_claims, first_refuted, magic, module_entries, entries_fields, evidence_fields, session_first, session_facts, IsVerified}
+use Rattle.evidence_check.specs.Meaning.{facts_of_modules, modules_claims, first_refuted, evidence_magic, module_entries, entries_fields, evidence_fields, session_first, session_facts, IsVerified}
 use Rattle.evidence_check.specs.Verified.{Passes}
 use Rattle.evidence_check.proofs.ClaimLemmas.{AreOf, past_modules, modules_agreed, modules_skipped, modules_back}
 use Rattle.evidence_check.proofs.FactLemmas.{first_is_shown}
@@ -29,16 +29,16 @@ same_test : (x y : List ℕ) → x ≡ y → bytes_eq x y ≡ true
 same_test x y h = grind (arith, bytes_eq-Decides)
 
 -- what has good fields begins with the magic, behind which the entries stand
-fields_read : (tasks count : ℕ) (bs : List ℕ) → first_bad (evidence_fields tasks count bs) ≡ None → (bs ≡ magic ++ drop 8 bs) × AreEntries tasks count (drop 8 bs)
+fields_read : (tasks count : ℕ) (bs : List ℕ) → first_bad (evidence_fields tasks count bs) ≡ None → (bs ≡ evidence_magic ++ drop 8 bs) × AreEntries tasks count (drop 8 bs)
 fields_read tasks count bs h =
-    let both = went_on (field 0 bs 0 8 (bytes_eq (take 8 bs) magic)).good 0 (first_bad (entries_fields tasks 8 count (drop 8 bs))) h in
-    let front : take 8 bs ≡ magic = same_bytes (take 8 bs) magic (both-right _ (bytes_eq (take 8 bs) magic) both.0) in
+    let both = went_on (field 0 bs 0 8 (bytes_eq (take 8 bs) evidence_magic)).good 0 (first_bad (entries_fields tasks 8 count (drop 8 bs))) h in
+    let front : take 8 bs ≡ evidence_magic = same_bytes (take 8 bs) evidence_magic (both-right _ (bytes_eq (take 8 bs) evidence_magic) both.0) in
     (sym (take-append-drop 8 bs) ∙ ap (λ t. t ++ drop 8 bs) front, entries_read tasks 8 count (drop 8 bs) both.1)
 
-fields_none : (tasks count : ℕ) (rest : List ℕ) → AreEntries tasks count rest → first_bad (evidence_fields tasks count (magic ++ rest)) ≡ None
+fields_none : (tasks count : ℕ) (rest : List ℕ) → AreEntries tasks count rest → first_bad (evidence_fields tasks count (evidence_magic ++ rest)) ≡ None
 fields_none tasks count rest h =
-    let bs : List ℕ = magic ++ rest in
-    chosen (field 0 bs 0 8 (bytes_eq (take 8 bs) magic)).good 0 (first_bad (entries_fields tasks 8 count rest)) (whole 8 (length bs) (bytes_eq (take 8 bs) magic) (omega arith) (same_test (take 8 bs) magic refl))
+    let bs : List ℕ = evidence_magic ++ rest in
+    chosen (field 0 bs 0 8 (bytes_eq (take 8 bs) evidence_magic)).good 0 (first_bad (entries_fields tasks 8 count rest)) (whole 8 (length bs) (bytes_eq (take 8 bs) evidence_magic) (omega arith) (same_test (take 8 bs) evidence_magic refl))
     ∙ entries_none tasks 8 count rest h
 
 are_of : (j : JobView) (tables : TablesView) (s : ℕ) → AreOf (session_first j tables.places s) (session_facts j tables.places s)
@@ -58,7 +58,7 @@ passed_is j tables s file bs own p =
     let entries : AreEntries (length j.tasks) (facts_of_modules mine + 0) (drop 8 bs) = subst (λ i. AreEntries (length j.tasks) i (drop 8 bs)) count read.1 in
     let none : past_modules mine (drop 8 bs) ≡ [] = nil_from_length (past_modules mine (drop 8 bs)) (modules_skipped (length j.tasks) 0 mine (drop 8 bs) entries) in
     let all : drop 8 bs ≡ flat_map (module_entries tables firsts) ns = agreed.1 ∙ (ap (λ t. flat_map (module_entries tables firsts) ns ++ t) none ∙ append-nil (flat_map (module_entries tables firsts) ns)) in
-    record { sets = own.is ∙ agreed.0; evidence = read.0 ∙ ap (λ t. magic ++ t) all }
+    record { sets = own.is ∙ agreed.0; evidence = read.0 ∙ ap (λ t. evidence_magic ++ t) all }
 
 -- what is the session's passes
 pub verified_passes : (j : JobView) (tables : TablesView) (s : ℕ) (file : List MarkedView) (bs : List ℕ) → IsJob j → IsVerified j tables s file bs → Passes j tables s file bs

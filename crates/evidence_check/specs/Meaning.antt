@@ -14,7 +14,7 @@ use Rattle.evidence_check.specs.declared.firsts.First.{First}
 use Rattle.byteorder.specs.Endian.{big_bytes, big_number}
 use Rattle.cov_base.specs.declared.facts.Fact.TheVariants.{Ran, Went, Stayed}
 use Rattle.std.specs.Str.{bytes_eq}
-use Rattle.marks_file.specs.Meaning.{MarkedView, Field, field}
+use Rattle.marks_file.specs.Meaning.{MarkedView, FieldAt, field}
 use Rattle.marks_file.specs.declared.marks.MarkedPlace.{MarkedPlace}
 use Rattle.cov_base.specs.declared.limits.TheConstants.{BUDGET_LIMIT}
 use Rattle.session_marks.specs.Meaning.{session_marks}
@@ -47,8 +47,8 @@ session_facts j places s n = session_set j (trace_of j places) s (place_of place
 
 -- The evidence of a session's facts, as bytes. All numbers are big-endian.
 
-abbrev pub magic : List ℕ
-magic = codes "S370EVD1"
+abbrev pub evidence_magic : List ℕ
+evidence_magic = codes "S370EVD1"
 
 -- 7 bytes: the task's index in the job, the instructions that it had done before, 0 for an instruction or 1 for the
 -- subject of an EX
@@ -74,7 +74,7 @@ module_entries tables firsts m = places_entries firsts (first_place tables.table
 
 -- of all places of the session's marks, in the order of its marks files, the first visits that show their facts
 abbrev pub evidence : JobView → TablesView → ℕ → List ℕ
-evidence j tables s = magic ++ flat_map (module_entries tables (session_first j tables.places s)) (session_of j s).modules
+evidence j tables s = evidence_magic ++ flat_map (module_entries tables (session_first j tables.places s)) (session_of j s).modules
 
 -- What a marks file and evidence claim of each fact at each place, and the first claim that is refuted.
 
@@ -142,7 +142,7 @@ first_refuted (c ∷ cs) = if c.good then first_refuted cs else Some (c.row, c.f
 -- What bytes say where evidence is expected: its fields in their order, and the first of them that is bad.
 
 -- of an entry at this offset: a task of the job, a number of instructions that a budget can have, 0 or 1
-abbrev pub entry_fields : ℕ → ℕ → List ℕ → List Field
+abbrev pub entry_fields : ℕ → ℕ → List ℕ → List FieldAt
 entry_fields tasks at bs =
     field at bs 0 2 (nat_lt (big_number 2 bs) tasks)
     ∷ field at bs 2 4 (nat_lt (big_number 4 (drop 2 bs)) BUDGET_LIMIT)
@@ -150,13 +150,13 @@ entry_fields tasks at bs =
     ∷ []
 
 -- of so many entries, behind which nothing stands
-abbrev pub entries_fields : ℕ → ℕ → ℕ → List ℕ → List Field
+abbrev pub entries_fields : ℕ → ℕ → ℕ → List ℕ → List FieldAt
 entries_fields tasks at zero bs = record { at = at; good = nat_eq (length bs) 0 } ∷ []
 entries_fields tasks at (suc n) bs = entry_fields tasks at bs ++ entries_fields tasks (at + 7) n (drop 7 bs)
 
 -- of evidence with so many entries, of a job of so many tasks
-abbrev pub evidence_fields : ℕ → ℕ → List ℕ → List Field
-evidence_fields tasks count bs = field 0 bs 0 8 (bytes_eq (take 8 bs) magic) ∷ entries_fields tasks 8 count (drop 8 bs)
+abbrev pub evidence_fields : ℕ → ℕ → List ℕ → List FieldAt
+evidence_fields tasks count bs = field 0 bs 0 8 (bytes_eq (take 8 bs) evidence_magic) ∷ entries_fields tasks 8 count (drop 8 bs)
 
 -- What it means that marks and evidence are verified.
 

@@ -1,7 +1,7 @@
 //! The claims of a marks file and evidence, against the first visits that were found.
 ghost use Rattle.std.specs.Prelude.{◌≡◌, ◌+◌, ◌<◌, ◌≤◌, ◌^◌, length, take, drop, None, Some, IfOk, IfErr, OnOk};
 ghost use Rattle.std.specs.Str.{bytes_eq};
-ghost use Rattle.marks_file.specs.Meaning.{place_count};
+ghost use Rattle.marks_file.specs.Meaning.{place_total};
 ghost use Rattle.session_marks.specs.Filled.{AreThere};
 ghost use Rattle.evidence_check.specs.Meaning.{agrees, past, past_place, past_places, place_claims, first_refuted, entry_bytes};
 ghost use Rattle.evidence_check.specs.Found.{found_of, refuted_place, refuted_module};
@@ -128,7 +128,7 @@ pub(crate) fn check_modules(
     requires begun { 8 ≤ length bytes.now }
     requires there { AreThere tables.now modules.now numbers.now }
     requires size { length found.now ≡ length tables.now.places }
-    requires rows { length modules.now + place_count modules.now < 2 ^ 31 }
+    requires rows { length modules.now + place_total modules.now < 2 ^ 31 }
     ensures { result ≡ refuted_module tables.now found.now modules.now numbers.now (drop 8 bytes.now) }
 {
     let mut at = 8;

@@ -1,6 +1,6 @@
 //! How many facts a marks file has.
 ghost use Rattle.std.specs.Prelude.{◌≡◌, ◌≤◌, length, if◌then◌else◌};
-ghost use Rattle.marks_file.specs.Meaning.{place_count};
+ghost use Rattle.marks_file.specs.Meaning.{place_total};
 ghost use Rattle.module_area.specs.Meaning.{fact_count};
 ghost use Rattle.evidence_check.specs.Meaning.{facts_of_places, facts_of_modules};
 
@@ -34,7 +34,7 @@ fn facts_of_places(places: &[MarkedPlace]) -> u32
 
 /// The number of facts in the sets of these modules' places.
 pub(crate) fn facts_of_modules(modules: &[MarkedModule]) -> u32
-    requires { place_count modules.now ≤ 65536 }
+    requires { place_total modules.now ≤ 65536 }
     ensures { result ≡ facts_of_modules modules.now }
 {
     let mut count = 0;

@@ -4,7 +4,7 @@ ghost use Rattle.std.specs.Str.{bytes_eq};
 ghost use Rattle.byteorder.specs.Endian.{big_number};
 ghost use Rattle.cov_base.specs.declared.limits.TheConstants.{BUDGET_LIMIT};
 ghost use Rattle.marks_file.specs.Meaning.{first_bad};
-ghost use Rattle.evidence_check.specs.Meaning.{magic, entry_fields, entries_fields, evidence_fields};
+ghost use Rattle.evidence_check.specs.Meaning.{evidence_magic, entry_fields, entries_fields, evidence_fields};
 
 use crate::writing::magic;
 use byteorder::{BigEndian, ByteOrder};
@@ -77,7 +77,7 @@ fn bad_in_entries(bytes: &[u8], from: usize, count: u32, tasks: usize) -> Option
 
 fn has_magic(bytes: &[u8]) -> bool
     requires { 8 ≤ length bytes.now }
-    ensures { result ≡ bytes_eq (take 8 bytes.now) magic }
+    ensures { result ≡ bytes_eq (take 8 bytes.now) evidence_magic }
 {
     &bytes[..8] == magic().as_slice()
 }

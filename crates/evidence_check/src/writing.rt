@@ -1,7 +1,7 @@
 //! Writes evidence.
 ghost use Rattle.std.specs.Prelude.{◌≡◌, ◌≤◌, length};
 ghost use Rattle.cov_outside.specs.Writes.{Writes};
-ghost use Rattle.evidence_check.specs.Meaning.{magic, entry_bytes, fact_bytes, place_entries};
+ghost use Rattle.evidence_check.specs.Meaning.{evidence_magic, entry_bytes, fact_bytes, place_entries};
 ghost use Rattle.evidence_check.specs.Found.{found_of};
 ghost use Rattle.evidence_check.specs.Written.{PutsTo, entries_from, entries_of, evidence_of};
 
@@ -13,7 +13,7 @@ use cov_outside::{Failed, Sink, WriteBuffer};
 
 /// What evidence begins with.
 pub(crate) fn magic() -> [u8; 8]
-    ensures { result ≡ magic }
+    ensures { result ≡ evidence_magic }
 {
     *b"S370EVD1"
 }

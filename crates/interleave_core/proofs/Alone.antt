@@ -12,7 +12,7 @@ use Rattle.s370_state.specs.declared.endings.Next.TheVariants.{On, Ended as Next
 use Rattle.s370_exec.specs.Meaning.{Run, solo_run, solo_step, run_on, run_after, run_ended, has_returned}
 use Rattle.s370_exec.proofs.TraceLemmas.{solo_step-done}
 use Rattle.session_book.specs.Meaning.{task_of, no_task, first_state}
-use Rattle.interleave_core.specs.Meaning.{World, TaskPart, Parts, part_of, first_part, memory_in, budget_in, first_parts, place_at, PlaceChange, Stepped, parts_step, fetched, marked, lifted, done_by, changed, with_due, original_under, same_cell, in_hand, with_stage, step_of, is_spent, executed, stage_after, place_due, task_goes_on, task_done, subject_place, instruction_executed, awaits_or, same_due}
+use Rattle.interleave_core.specs.Meaning.{World, TaskPart, Parts, part_of, first_part, memory_in, budget_in, first_parts, place_at, PlaceChange, Stepped, parts_step, cell_fetched, fact_marked, lifted, done_by, changed, with_due, original_under, same_cell, in_hand, with_stage, step_of, is_spent, executed, stage_after, place_due, task_goes_on, task_done, subject_place, instruction_executed, awaits_or, same_due}
 use Rattle.module_area.specs.Meaning.{word_at}
 use Rattle.interleave_core.specs.CoreState.{CoreState, CoreStepped, core_start, core_step, core_after, core_from, core_run}
 use Rattle.interleave_core.specs.MeaningOfEvents.{IsAlone}
@@ -257,14 +257,14 @@ all_changed w c t y x lt made all =
 -- each event
 pub all_step : (w : World) (c : Parts) (e : Event) (x : Stepped) → parts_step w c e ≡ Some x → AllGo w c → AllGo w x.parts
 all_step w c (Fetch t) x h all =
-    let at = exists_by (nat_lt t.0 (length c.tasks)) (option_map (fetched w c t.0 (part_of c t.0)) (place_due w t.0 (part_of c t.0) (part_of c t.0).stage)) x h in
+    let at = exists_by (nat_lt t.0 (length c.tasks)) (option_map (cell_fetched w c t.0 (part_of c t.0)) (place_due w t.0 (part_of c t.0) (part_of c t.0).stage)) x h in
     let lt : t.0 < length c.tasks = ltb-true t.0 (length c.tasks) at.0 in
-    let p = got ℕ (fetched w c t.0 (part_of c t.0)) (place_due w t.0 (part_of c t.0) (part_of c t.0).stage) x at.1 in
+    let p = got ℕ (cell_fetched w c t.0 (part_of c t.0)) (place_due w t.0 (part_of c t.0) (part_of c t.0).stage) x at.1 in
     all_but w c x.parts t.0 _ (ap (λ (y : Stepped). y.parts.tasks) p.2) lt (goes_fetch w t.0 (part_of c t.0) p.0 _ p.1 (all t.0 lt)) all
 all_step w c (Mark t) x h all =
-    let at = exists_by (nat_lt t.0 (length c.tasks)) (option_map (marked w c t.0 (part_of c t.0)) (in_hand Marking (part_of c t.0).stage)) x h in
+    let at = exists_by (nat_lt t.0 (length c.tasks)) (option_map (fact_marked w c t.0 (part_of c t.0)) (in_hand Marking (part_of c t.0).stage)) x h in
     let lt : t.0 < length c.tasks = ltb-true t.0 (length c.tasks) at.0 in
-    let p = got Hand (marked w c t.0 (part_of c t.0)) (in_hand Marking (part_of c t.0).stage) x at.1 in
+    let p = got Hand (fact_marked w c t.0 (part_of c t.0)) (in_hand Marking (part_of c t.0).stage) x at.1 in
     all_but w c x.parts t.0 _ (ap (λ (y : Stepped). y.parts.tasks) p.2) lt (goes_held w t.0 (part_of c t.0) p.0 _ (in_hand-stage Marking (part_of c t.0).stage p.0 p.1).0 (all t.0 lt)) all
 all_step w c (Lift t) x h all =
     let at = exists_by (nat_lt t.0 (length c.tasks)) (option_map (lifted w c t.0 (part_of c t.0)) (in_hand Lifting (part_of c t.0).stage)) x h in

@@ -6,7 +6,7 @@ use Rattle.std.proofs.lemmas.Bool.{ltb-true}
 use Rattle.s370_exec.specs.Meaning.{has_returned}
 use Rattle.s370_state.specs.declared.endings.Ending.TheVariants.{Returned, Spent}
 use Rattle.module_area.specs.Meaning.{word_at}
-use Rattle.interleave_core.specs.Meaning.{World, TaskPart, Parts, part_of, place_at, PlaceChange, controller_of, change_of, next_place, Stepped, step_of, subject_place, is_spent, with_cell, with_stage, executed, awaits_or, task_goes_on, same_due, change_due, task_done, breakpoint_of, of_task, may_change, changed, change_step, by_controller, may_plant, whole_step}
+use Rattle.interleave_core.specs.Meaning.{World, TaskPart, Parts, part_of, place_at, PlaceChange, controller_of, change_of, next_place, Stepped, step_of, subject_place, is_spent, with_cell, with_stage, executed, awaits_or, task_goes_on, same_due, change_due, task_done, breakpoint_of, of_existing, may_change, changed, change_step, by_controller, may_plant, whole_step}
 use Rattle.cov_base.specs.declared.numbers.PlaceNo.{PlaceNo}
 use Rattle.cov_base.specs.declared.numbers.SessNo.{SessNo}
 use Rattle.module_area.specs.Rule.{window_tag}
@@ -102,7 +102,7 @@ due_by w c closes s p t (Some y) x by there due h =
       made = sym (same_Some _ x made.1);
     }
 
-by_task : (w : World) (c : Parts) (closes : Bool) (s p t : ℕ) (x : Stepped) → controller_of w s ≡ Some t → of_task c t (change_step w c closes s p t) ≡ Some x → Changed w c closes s p x
+by_task : (w : World) (c : Parts) (closes : Bool) (s p t : ℕ) (x : Stepped) → controller_of w s ≡ Some t → of_existing c t (change_step w c closes s p t) ≡ Some x → Changed w c closes s p x
 by_task w c closes s p t x by h =
     let at = exists_by (nat_lt t (length c.tasks)) (change_step w c closes s p t (part_of c t)) x h in
     due_by w c closes s p t (change_due w t (part_of c t) (part_of c t).stage) x by (ltb-true t (length c.tasks) at.0) refl at.1

@@ -17,7 +17,7 @@ use Rattle.module_area.specs.declared.cells.Cell.{Cell}
 use Rattle.module_area.specs.declared.parties.View.{View}
 use Rattle.module_area.proofs.FactLemmas.{is_full-true}
 use Rattle.module_area.proofs.PartyLemmas.{here-add_if, more-add_if}
-use Rattle.interleave_core.specs.Meaning.{World, TaskPart, Parts, part_of, plan_in, Stepped, parts_step, fetched, marked, lifted, done_by, with_due, with_stage, original_under, same_cell, in_hand, hand_at, step_of, place_due, is_awaiting, task_done, set_of, fact_in, controller_of}
+use Rattle.interleave_core.specs.Meaning.{World, TaskPart, Parts, part_of, plan_in, Stepped, parts_step, cell_fetched, fact_marked, lifted, done_by, with_due, with_stage, original_under, same_cell, in_hand, hand_at, step_of, place_due, is_awaiting, task_done, set_of, fact_in, controller_of}
 use Rattle.interleave_core.specs.World.{IsWorld}
 use Rattle.s370_exec.specs.Meaning.{visit_of}
 use Rattle.interleave_core.specs.CoreState.{CoreState, core_start, core_step, core_after, core_from, core_run, log_after, entry_of, Entry, Item, Met, Gave, with_mark, with_lift, with_notes, task_view, task_views, first_planter, planted_by, planter_from}
@@ -106,26 +106,26 @@ Settle w c = (t : ℕ) → t < length c.parts.tasks → AreSettled w (c.logs t)
 settled_step : (w : World) (c : CoreState) (v : View) (e : Event) (x : Stepped) → IsWorld w → parts_step w c.parts e ≡ Some x → Sound w c v → Settle w (core_after w c e x).core
 settled_step w c v (Fetch t) x world h is =
     let u : TaskPart = part_of c.parts t.0 in
-    let at = exists_by (nat_lt t.0 (length c.parts.tasks)) (option_map (fetched w c.parts t.0 u) (place_due w t.0 u u.stage)) x h in
+    let at = exists_by (nat_lt t.0 (length c.parts.tasks)) (option_map (cell_fetched w c.parts t.0 u) (place_due w t.0 u u.stage)) x h in
     let lt : t.0 < length c.parts.tasks = ltb-true t.0 (length c.parts.tasks) at.0 in
-    let p = got ℕ (fetched w c.parts t.0 u) (place_due w t.0 u u.stage) x at.1 in
+    let p = got ℕ (cell_fetched w c.parts t.0 u) (place_due w t.0 u u.stage) x at.1 in
     let there : t.0 < length w.job.tasks = subst (λ (n : ℕ). t.0 < n) is.ruled.count lt in
     let due = fetch_due w t.0 u (c.logs t.0) u.stage p.0 world there (is.ruled.hands t.0 lt) p.1 in
     let hand : Hand = hand_at w c.parts (is_awaiting u.stage) p.0 in
     subst (λ (y : Stepped). Settle w (core_after w c (Fetch t) y).core) (sym p.2)
-    (one_log w (λ n y log. AreSettled w log) c (fetched w c.parts t.0 u p.0).parts t.0 (with_stage u (Holding hand)) (Fetched (word_at c.parts.cells p.0)) refl lt
+    (one_log w (λ n y log. AreSettled w log) c (cell_fetched w c.parts t.0 u p.0).parts t.0 (with_stage u (Holding hand)) (Fetched (word_at c.parts.cells p.0)) refl lt
     (fetch_settled w t.0 (with_stage u (Holding hand)) hand due.0 (is.ruled.held.site p.0 due.0).form, is.settled t.0 lt) is.settled)
 settled_step w c v (Mark t) x world h is =
     let u : TaskPart = part_of c.parts t.0 in
-    let at = exists_by (nat_lt t.0 (length c.parts.tasks)) (option_map (marked w c.parts t.0 u) (in_hand Marking u.stage)) x h in
+    let at = exists_by (nat_lt t.0 (length c.parts.tasks)) (option_map (fact_marked w c.parts t.0 u) (in_hand Marking u.stage)) x h in
     let lt : t.0 < length c.parts.tasks = ltb-true t.0 (length c.parts.tasks) at.0 in
-    let p = got Hand (marked w c.parts t.0 u) (in_hand Marking u.stage) x at.1 in
+    let p = got Hand (fact_marked w c.parts t.0 u) (in_hand Marking u.stage) x at.1 in
     let hand = held_hand w t.0 u (c.logs t.0) u.stage Marking p.0 (is.ruled.hands t.0 lt) p.1 in
     let b : HasBreakpoint w p.0 = hand.3 in
     let found : FactSet = set_of w c.parts (tag_session p.0.cell.tag) p.0.place.0 in
     let u2 : TaskPart = with_due u p.0 (if is_full (kind_at (plan_in w) p.0.place.0) (with_fact found (fact_in w t.0 u p.0)) then Lifting else Nothing) in
     subst (λ (y : Stepped). Settle w (core_after w c (Mark t) y).core) (sym p.2)
-    (one_log w (λ n y log. AreSettled w log) c (marked w c.parts t.0 u p.0).parts t.0 u2 (Marked found) refl lt
+    (one_log w (λ n y log. AreSettled w log) c (fact_marked w c.parts t.0 u p.0).parts t.0 u2 (Marked found) refl lt
     (log_marked w t.0 u2 found (entry_in w t.0 u p.0 None) hand.0 (c.logs t.0) b.session hand.1 b.some_session b.cell (is.settled t.0 lt)) is.settled)
 settled_step w c v (Lift t) x world h is =
     let u : TaskPart = part_of c.parts t.0 in

@@ -14,7 +14,7 @@ use Rattle.s370_state.specs.declared.endings.Next.TheVariants.{On, Ended as Next
 use Rattle.s370_exec.specs.Meaning.{has_returned}
 use Rattle.s370_exec.proofs.TraceLemmas.{solo_step-done}
 use Rattle.session_book.specs.Meaning.{no_task}
-use Rattle.interleave_core.specs.Meaning.{World, TaskPart, Parts, part_of, first_part, plan_in, memory_in, budget_in, place_at, change_due, task_goes_on, Stepped, parts_step, run_on, of_task, with_task, with_stage, with_due, with_cell, place_due, is_spent, is_awaiting, due_after_fetch, hand_at, fetched, marked, lifted, in_hand, same_due, same_cell, original_under, step_of, subject_place, executed, stage_after, instruction_executed, awaits_or, ready_done, task_done, done_by, set_of, fact_in, next_of, stage_event, PlaceChange, change_of, next_place, most_events}
+use Rattle.interleave_core.specs.Meaning.{World, TaskPart, Parts, part_of, first_part, plan_in, memory_in, budget_in, place_at, change_due, task_goes_on, Stepped, parts_step, events_on, of_existing, task_replaced, with_stage, with_due, with_cell, place_due, is_spent, is_awaiting, due_after_fetch, hand_at, cell_fetched, fact_marked, lifted, in_hand, same_due, same_cell, original_under, step_of, subject_place, executed, stage_after, instruction_executed, awaits_or, ready_done, task_done, done_by, set_of, fact_in, next_of, stage_event, PlaceChange, change_of, next_place, most_events}
 use Rattle.interleave_core.specs.Going.{after, go_events}
 use Rattle.interleave_core.specs.CoreState.{is_by, is_task}
 use Rattle.interleave_core.specs.declared.events.Event.{Event}
@@ -52,7 +52,7 @@ abbrev pub left : World → Parts → ℕ → ℕ
 left w c t = left_of w t (part_of c t) (part_of c t).stage
 
 -- what is left of a task that was put in the place of task t
-put_left : (w : World) (c : Parts) (t : ℕ) (u : TaskPart) → t < length c.tasks → left w (with_task c t u) t ≡ left_of w t u u.stage
+put_left : (w : World) (c : Parts) (t : ℕ) (u : TaskPart) → t < length c.tasks → left w (task_replaced c t u) t ≡ left_of w t u u.stage
 put_left w c t u lt = ap (λ (v : TaskPart). left_of w t v v.stage) (get_or-set_at c.tasks t t u (first_part no_task) refl lt)
 
 due_few : (d : Due) → due_left d ≤ 3
@@ -199,23 +199,23 @@ if_some false o x e = absurd cc
 exists : (c : Parts) (t : ℕ) (b : Bool) → nat_lt t (length c.tasks) ≡ b → b ≡ true → t < length c.tasks
 exists c t b e q = ltb-true t (length c.tasks) (e ∙ q)
 
-fetched_less : (w : World) (c : Parts) (t : ℕ) (x : Stepped) → of_task c t (λ (u : TaskPart). option_map (fetched w c t u) (place_due w t u u.stage)) ≡ Some x → left w x.parts t < left w c t
+fetched_less : (w : World) (c : Parts) (t : ℕ) (x : Stepped) → of_existing c t (λ (u : TaskPart). option_map (cell_fetched w c t u) (place_due w t u u.stage)) ≡ Some x → left w x.parts t < left w c t
 fetched_less w c t x e =
     let u = part_of c t in
-    let here = if_some (nat_lt t (length c.tasks)) (option_map (fetched w c t u) (place_due w t u u.stage)) x e in
-    let m = mapped (fetched w c t u) (place_due w t u u.stage) x here.1 in
+    let here = if_some (nat_lt t (length c.tasks)) (option_map (cell_fetched w c t u) (place_due w t u u.stage)) x e in
+    let m = mapped (cell_fetched w c t u) (place_due w t u u.stage) x here.1 in
     let v = with_stage u (Holding (hand_at w c (is_awaiting u.stage) m.0)) in
-    let kept : left w (with_task c t v) t ≡ left_of w t v v.stage = put_left w c t v (exists c t _ refl here.0) in
+    let kept : left w (task_replaced c t v) t ≡ left_of w t v v.stage = put_left w c t v (exists c t _ refl here.0) in
     rw (← m.2) (rw kept (fetch_less w c t m.0 u u.stage m.1))
 
 holding_left : (w : World) (t : ℕ) (u : TaskPart) (h : Hand) → u.stage ≡ Holding h → left_of w t u u.stage ≡ left_of w t u (Holding h)
 holding_left w t u h e = ap (left_of w t u) e
 
-marked_less : (w : World) (c : Parts) (t : ℕ) (x : Stepped) → of_task c t (λ (u : TaskPart). option_map (marked w c t u) (in_hand Marking u.stage)) ≡ Some x → left w x.parts t < left w c t
+marked_less : (w : World) (c : Parts) (t : ℕ) (x : Stepped) → of_existing c t (λ (u : TaskPart). option_map (fact_marked w c t u) (in_hand Marking u.stage)) ≡ Some x → left w x.parts t < left w c t
 marked_less w c t x e =
     let u = part_of c t in
-    let here = if_some (nat_lt t (length c.tasks)) (option_map (marked w c t u) (in_hand Marking u.stage)) x e in
-    let m = mapped (marked w c t u) (in_hand Marking u.stage) x here.1 in
+    let here = if_some (nat_lt t (length c.tasks)) (option_map (fact_marked w c t u) (in_hand Marking u.stage)) x e in
+    let m = mapped (fact_marked w c t u) (in_hand Marking u.stage) x here.1 in
     let h = m.0 in
     let held = in_hand-stage Marking u.stage h m.1 in
     let due : h.due ≡ Marking = same_due_is h.due Marking held.1 in
@@ -223,11 +223,11 @@ marked_less w c t x e =
     let d = if full then Lifting else Nothing in
     let v = with_due u h d in
     let facts = record c { sets = set c.sets (index_of (length w.places) (tag_session h.cell.tag) h.place.0) (with_fact (set_of w c (tag_session h.cell.tag) h.place.0) (fact_in w t u h)) } in
-    let kept : left w (with_task facts t v) t ≡ left_of w t v v.stage = put_left w facts t v (exists c t _ refl here.0) in
+    let kept : left w (task_replaced facts t v) t ≡ left_of w t v v.stage = put_left w facts t v (exists c t _ refl here.0) in
     let less : due_left d < due_left h.due = rw due (mark_due_less full) in
     rw (← m.2) (rw (kept, holding_left w t u h held.0) (due_less w t u h d less))
 
-lifted_less : (w : World) (c : Parts) (t : ℕ) (x : Stepped) → of_task c t (λ (u : TaskPart). option_map (lifted w c t u) (in_hand Lifting u.stage)) ≡ Some x → left w x.parts t < left w c t
+lifted_less : (w : World) (c : Parts) (t : ℕ) (x : Stepped) → of_existing c t (λ (u : TaskPart). option_map (lifted w c t u) (in_hand Lifting u.stage)) ≡ Some x → left w x.parts t < left w c t
 lifted_less w c t x e =
     let u = part_of c t in
     let here = if_some (nat_lt t (length c.tasks)) (option_map (lifted w c t u) (in_hand Lifting u.stage)) x e in
@@ -239,17 +239,17 @@ lifted_less w c t x e =
     rw (← m.2) (by_cell u h held.0 less (exists c t _ refl here.0) (same_cell (word_at c.cells h.place.0) h.cell))
   where
     by_cell : (u : TaskPart) (h : Hand) → u.stage ≡ Holding h → due_left Nothing < due_left h.due → t < length c.tasks → (b : Bool) →
-        left w (with_task (if b then with_cell c h.place.0 (original_under w h.place.0 h.cell) else c) t (with_due u h Nothing)) t < left_of w t u u.stage
+        left w (task_replaced (if b then with_cell c h.place.0 (original_under w h.place.0 h.cell) else c) t (with_due u h Nothing)) t < left_of w t u u.stage
     by_cell u h held less lt true =
         rw (put_left w (with_cell c h.place.0 (original_under w h.place.0 h.cell)) t (with_due u h Nothing) lt, holding_left w t u h held) (due_less w t u h Nothing less)
     by_cell u h held less lt false = rw (put_left w c t (with_due u h Nothing) lt, holding_left w t u h held) (due_less w t u h Nothing less)
 
-run_less : (w : World) (c : Parts) (t : ℕ) (x : Stepped) → of_task c t (λ (u : TaskPart). option_map (done_by c t) (task_done w t u u.stage)) ≡ Some x → left w x.parts t < left w c t
+run_less : (w : World) (c : Parts) (t : ℕ) (x : Stepped) → of_existing c t (λ (u : TaskPart). option_map (done_by c t) (task_done w t u u.stage)) ≡ Some x → left w x.parts t < left w c t
 run_less w c t x e =
     let u = part_of c t in
     let here = if_some (nat_lt t (length c.tasks)) (option_map (done_by c t) (task_done w t u u.stage)) x e in
     let m = mapped (done_by c t) (task_done w t u u.stage) x here.1 in
-    let kept : left w (with_task c t m.0) t ≡ left_of w t m.0 m.0.stage = put_left w c t m.0 (exists c t _ refl here.0) in
+    let kept : left w (task_replaced c t m.0) t ≡ left_of w t m.0 m.0.stage = put_left w c t m.0 (exists c t _ refl here.0) in
     rw (← m.2) (rw kept (done_less w t u m.0 u.stage m.1))
 
 changed_less : (w : World) (c : Parts) (t : ℕ) (closes : Bool) (s p : ℕ) (x : Stepped) (by : Changed w c closes s p x) → by.task ≡ t → IsPlan (plan_in w) → left w x.parts t < left w c t
@@ -326,23 +326,23 @@ left_most w c t = by (part_of c t).stage
 
 -- the task's next events, at most so many, one after the other
 abbrev pub gone_by : World → ℕ → Parts → TaskNo → Option Parts
-gone_by w n c t = run_on w c (go_events w n c t)
+gone_by w n c t = events_on w c (go_events w n c t)
 
 -- the task's next event, and those behind it
 go_one : (w : World) (n : ℕ) (c : Parts) (t : TaskNo) (e : Event) (x : Stepped) → next_of w c t ≡ Some e → parts_step w c e ≡ Some x → gone_by w (suc n) c t ≡ gone_by w n x.parts t
 go_one w n c t e x q step =
-    ap (λ (o : Option Event). run_on w c (option_map_or (λ (e : Event). e ∷ go_events w n (after c (parts_step w c e)) t) o [])) q
-    ∙ (ap (λ (o : Option Stepped). run_on w c (e ∷ go_events w n (after c o) t)) step
-    ∙ ap (option_and_then (λ (y : Stepped). run_on w y.parts (go_events w n x.parts t))) step)
+    ap (λ (o : Option Event). events_on w c (option_map_or (λ (e : Event). e ∷ go_events w n (after c (parts_step w c e)) t) o [])) q
+    ∙ (ap (λ (o : Option Stepped). events_on w c (e ∷ go_events w n (after c o) t)) step
+    ∙ ap (option_and_then (λ (y : Stepped). events_on w y.parts (go_events w n x.parts t))) step)
 
 pub go_none : (w : World) (n : ℕ) (c : Parts) (t : TaskNo) → next_of w c t ≡ None → gone_by w n c t ≡ Some c
 go_none w zero c t q = refl
-go_none w (suc n) c t q = ap (λ (o : Option Event). run_on w c (option_map_or (λ (e : Event). e ∷ go_events w n (after c (parts_step w c e)) t) o [])) q
+go_none w (suc n) c t q = ap (λ (o : Option Event). events_on w c (option_map_or (λ (e : Event). e ∷ go_events w n (after c (parts_step w c e)) t) o [])) q
 
 go_stuck : (w : World) (n : ℕ) (c : Parts) (t : TaskNo) (e : Event) → next_of w c t ≡ Some e → parts_step w c e ≡ None → gone_by w (suc n) c t ≡ None
 go_stuck w n c t e q step =
-    ap (λ (o : Option Event). run_on w c (option_map_or (λ (e : Event). e ∷ go_events w n (after c (parts_step w c e)) t) o [])) q
-    ∙ ap (option_and_then (λ (y : Stepped). run_on w y.parts (go_events w n (after c (parts_step w c e)) t))) step
+    ap (λ (o : Option Event). events_on w c (option_map_or (λ (e : Event). e ∷ go_events w n (after c (parts_step w c e)) t) o [])) q
+    ∙ ap (option_and_then (λ (y : Stepped). events_on w y.parts (go_events w n (after c (parts_step w c e)) t))) step
 
 -- the number of events makes no difference once it is as many as are left
 go_enough : (w : World) (n : ℕ) (c : Parts) (t : TaskNo) → IsPlan (plan_in w) → left w c t.0 ≤ n → (m : ℕ) → left w c t.0 ≤ m → gone_by w n c t ≡ gone_by w m c t

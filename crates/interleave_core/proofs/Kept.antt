@@ -19,7 +19,7 @@ use Rattle.module_area.specs.Rule.{window_tag, IsForm, planted, lifted as lifted
 use Rattle.module_area.proofs.PlanLemmas.{over_small}
 use Rattle.module_area.specs.declared.cells.Cell.{Cell}
 use Rattle.session_book.specs.Meaning.{no_task}
-use Rattle.interleave_core.specs.Meaning.{World, TaskPart, Parts, plan_in, place_at, first_part, Stepped, of_task, with_task, with_stage, with_due, with_cell, place_due, is_spent, is_awaiting, subject_place, step_of, due_after_fetch, in_hand, same_due, fetched, marked, lifted, done_by, task_done, task_goes_on, parts_step, set_of, fact_in, original_under, same_cell, hand_at, executed, stage_after, awaits_or, instruction_executed}
+use Rattle.interleave_core.specs.Meaning.{World, TaskPart, Parts, plan_in, place_at, first_part, Stepped, of_existing, task_replaced, with_stage, with_due, with_cell, place_due, is_spent, is_awaiting, subject_place, step_of, due_after_fetch, in_hand, same_due, cell_fetched, fact_marked, lifted, done_by, task_done, task_goes_on, parts_step, set_of, fact_in, original_under, same_cell, hand_at, executed, stage_after, awaits_or, instruction_executed}
 use Rattle.interleave_core.specs.Views.{RunningView, IsRunning, IsStage, IsHand, AreTied, IsCore, parts_of}
 use Rattle.interleave_core.proofs.Changes.{goes_on}
 use Rattle.interleave_core.proofs.Runs.{same_or, in_hand-stage}
@@ -134,14 +134,14 @@ tied_by w cells new_cells sets new_sets plan tasks new_tasks e shown is step =
 
 -- the parts with another task
 pub parts_with : (cells : List Cell) (sets : List FactSet) (tasks : List RunningView) (t : ℕ) (r : RunningView) (u : TaskPart) → r.part ≡ u →
-    with_task (record { cells = cells; sets = sets; tasks = parts_of tasks }) t u ≡ record { cells = cells; sets = sets; tasks = parts_of (set tasks t r) }
+    task_replaced (record { cells = cells; sets = sets; tasks = parts_of tasks }) t u ≡ record { cells = cells; sets = sets; tasks = parts_of (set tasks t r) }
 parts_with cells sets tasks t r u e =
     ap (λ (ts : List TaskPart). record { cells = cells; sets = sets; tasks = ts })
     (ap (λ (v : TaskPart). set (parts_of tasks) t v) (sym e) ∙ sym (map-set (λ (x : RunningView). x.part) tasks t r))
 
 -- an event that is possible of a task that exists
 pub of_task-read : (cells : List Cell) (sets : List FactSet) (tasks : List RunningView) (t : ℕ) (m : RunningView) (step : TaskPart → Option Stepped) (x : Option Stepped) →
-    t < length tasks → m ≡ get_or tasks t m → step m.part ≡ x → of_task (record { cells = cells; sets = sets; tasks = parts_of tasks }) t step ≡ x
+    t < length tasks → m ≡ get_or tasks t m → step m.part ≡ x → of_existing (record { cells = cells; sets = sets; tasks = parts_of tasks }) t step ≡ x
 of_task-read cells sets tasks t m step x lt read e =
     let there : nat_lt t (length (parts_of tasks)) ≡ true = lt-ltb t (length (parts_of tasks)) (subst (λ n. t < n) (sym (length-map tasks (λ (r : RunningView). r.part))) lt) in
     let part : get_or (parts_of tasks) t (first_part no_task) ≡ m.part = get_or-map (λ (r : RunningView). r.part) tasks t m (first_part no_task) lt ∙ ap (λ (r : RunningView). r.part) (sym read) in
@@ -206,7 +206,7 @@ pub fetch_possible : (w : World) (cells : List Cell) (sets : List FactSet) (task
     t < length tasks → r ≡ get_or tasks t r → m ≡ get_or tasks t m → q ≡ get_or tasks t q → place_due w t r.part r.part.stage ≡ Some p.0 → subject ≡ is_awaiting q.part.stage →
     p.0 < length cells → c ≡ get_or cells p.0 c → due ≡ due_after_fetch w subject p.0 c →
     n ≡ record m { part = with_stage m.part (Holding (record { subject = subject; place = p; cell = c; due = due })) } →
-    of_task (record { cells = cells; sets = sets; tasks = parts_of tasks }) t (λ (u : TaskPart). option_map (fetched w (record { cells = cells; sets = sets; tasks = parts_of tasks }) t u) (place_due w t u u.stage))
+    of_existing (record { cells = cells; sets = sets; tasks = parts_of tasks }) t (λ (u : TaskPart). option_map (cell_fetched w (record { cells = cells; sets = sets; tasks = parts_of tasks }) t u) (place_due w t u u.stage))
     ≡ Some (record { parts = record { cells = cells; sets = sets; tasks = parts_of (set tasks t n) }; shown = Fetched c })
 fetch_possible w cells sets tasks t r m q n subject p c due lt read_r read_m read_q at is_subject p_in read_c is_due e =
     let P : Parts = record { cells = cells; sets = sets; tasks = parts_of tasks } in
@@ -220,9 +220,9 @@ fetch_possible w cells sets tasks t r m q n subject p c due lt read_r read_m rea
     let part : n.part ≡ with_stage r.part (Holding (hand_at w P (is_awaiting r.part.stage) p.0)) =
     ap (λ (x : RunningView). x.part) e ∙ (ap (λ (x : RunningView). with_stage x.part (Holding (record { subject = subject; place = p; cell = c; due = due }))) same_m
     ∙ ap (λ (h : Hand). with_stage r.part (Holding h)) hand) in
-    let made : fetched w P t r.part p.0 ≡ record { parts = record { cells = cells; sets = sets; tasks = parts_of (set tasks t n) }; shown = Fetched c } =
+    let made : cell_fetched w P t r.part p.0 ≡ record { parts = record { cells = cells; sets = sets; tasks = parts_of (set tasks t n) }; shown = Fetched c } =
     stepped_is _ _ (Fetched (word_at cells p.0)) (parts_with cells sets tasks t n _ part) ∙ ap (λ (z : Cell). record { parts = record { cells = cells; sets = sets; tasks = parts_of (set tasks t n) }; shown = Fetched z }) (sym same_c) in
-    of_task-read cells sets tasks t r (λ (u : TaskPart). option_map (fetched w P t u) (place_due w t u u.stage)) _ lt read_r (ap (option_map (fetched w P t r.part)) at ∙ ap Some made)
+    of_task-read cells sets tasks t r (λ (u : TaskPart). option_map (cell_fetched w P t u) (place_due w t u u.stage)) _ lt read_r (ap (option_map (cell_fetched w P t r.part)) at ∙ ap Some made)
 
 -- a hand of which something is due: it is the breakpoint of a session over the place, which is one of the job
 pub record HandDue (w : World) (t : ℕ) (u : TaskPart) (h : Hand) : Type 0 where
@@ -312,7 +312,7 @@ pub mark_possible : (w : World) (cells : List Cell) (sets : List FactSet) (plan 
     at ≡ index_of (length w.places) (tag_session h.cell.tag) h.place.0 → found ≡ get_or sets at found → kind ≡ kind_at (plan_in w) h.place.0 →
     facts ≡ with_fact found (fact_of kind went) → (visit_of (step_of w t q.part) h.subject).went ≡ went → d ≡ (if is_full kind facts then Lifting else Nothing) →
     g ≡ record h { due = d } → n ≡ record m { part = with_stage m.part (Holding g) } →
-    of_task (record { cells = cells; sets = sets; tasks = parts_of tasks }) t (λ (u : TaskPart). option_map (marked w (record { cells = cells; sets = sets; tasks = parts_of tasks }) t u) (in_hand Marking u.stage))
+    of_existing (record { cells = cells; sets = sets; tasks = parts_of tasks }) t (λ (u : TaskPart). option_map (fact_marked w (record { cells = cells; sets = sets; tasks = parts_of tasks }) t u) (in_hand Marking u.stage))
     ≡ Some (record { parts = record { cells = cells; sets = set sets at facts; tasks = parts_of (set tasks t n) }; shown = Marked found })
 mark_possible w cells sets plan tasks t r m q n h g d at found facts kind went is lt read_r read_m read_q held due index read_found is_kind is_facts is_went is_d is_g e =
     let P : Parts = record { cells = cells; sets = sets; tasks = parts_of tasks } in
@@ -331,9 +331,9 @@ mark_possible w cells sets plan tasks t r m q n h g d at found facts kind went i
     let part : n.part ≡ with_due r.part h (if is_full K X then Lifting else Nothing) =
     ap (λ (x : RunningView). x.part) e ∙ (ap (λ (x : RunningView). with_stage x.part (Holding g)) same_m
     ∙ (ap (λ (z : Hand). with_stage r.part (Holding z)) is_g ∙ ap (λ (z : Due). with_due r.part h z) d_is)) in
-    let made : marked w P t r.part h ≡ record { parts = record { cells = cells; sets = set sets i X; tasks = parts_of (set tasks t n) }; shown = Marked (set_of w P (tag_session h.cell.tag) h.place.0) } =
+    let made : fact_marked w P t r.part h ≡ record { parts = record { cells = cells; sets = set sets i X; tasks = parts_of (set tasks t n) }; shown = Marked (set_of w P (tag_session h.cell.tag) h.place.0) } =
     stepped_is _ _ _ (parts_with cells (set sets i X) tasks t n _ part) in
-    of_task-read cells sets tasks t r (λ (u : TaskPart). option_map (marked w P t u) (in_hand Marking u.stage)) _ lt read_r (ap (option_map (marked w P t r.part)) held ∙ ap Some (made
+    of_task-read cells sets tasks t r (λ (u : TaskPart). option_map (fact_marked w P t u) (in_hand Marking u.stage)) _ lt read_r (ap (option_map (fact_marked w P t r.part)) held ∙ ap Some (made
     ∙ (ap (λ (f : FactSet). record { parts = record { cells = cells; sets = set sets i f; tasks = parts_of (set tasks t n) }; shown = Marked (set_of w P (tag_session h.cell.tag) h.place.0) }) (sym facts_is)
     ∙ (ap (λ (j : ℕ). record { parts = record { cells = cells; sets = set sets j facts; tasks = parts_of (set tasks t n) }; shown = Marked (set_of w P (tag_session h.cell.tag) h.place.0) }) (sym index)
     ∙ ap (λ (f : FactSet). record { parts = record { cells = cells; sets = set sets at facts; tasks = parts_of (set tasks t n) }; shown = Marked f }) (sym found_is)))))
@@ -365,7 +365,7 @@ pub lift_possible : (w : World) (cells cells2 : List Cell) (sets : List FactSet)
     t < length tasks → r ≡ get_or tasks t r → m ≡ get_or tasks t m → in_hand Lifting r.part.stage ≡ Some h → original ≡ original_at (plan_in w) h.place.0 → taken ≡ same_cell (word_at cells h.place.0) h.cell →
     cells2 ≡ (if taken then set cells h.place.0 (record { tag = h.cell.tag; half = original }) else cells) → g ≡ record h { due = Nothing } →
     n ≡ record m { part = with_stage m.part (Holding g) } →
-    of_task (record { cells = cells; sets = sets; tasks = parts_of tasks }) t (λ (u : TaskPart). option_map (lifted w (record { cells = cells; sets = sets; tasks = parts_of tasks }) t u) (in_hand Lifting u.stage))
+    of_existing (record { cells = cells; sets = sets; tasks = parts_of tasks }) t (λ (u : TaskPart). option_map (lifted w (record { cells = cells; sets = sets; tasks = parts_of tasks }) t u) (in_hand Lifting u.stage))
     ≡ Some (record { parts = record { cells = cells2; sets = sets; tasks = parts_of (set tasks t n) }; shown = Lifted taken })
 lift_possible w cells cells2 sets tasks t r m n h g taken original lt read_r read_m held is_original is_taken is_cells is_g e =
     let P : Parts = record { cells = cells; sets = sets; tasks = parts_of tasks } in
@@ -376,8 +376,8 @@ lift_possible w cells cells2 sets tasks t r m n h g taken original lt read_r rea
     ∙ ap (λ (b : Bool). if b then set cells h.place.0 (original_under w h.place.0 h.cell) else cells) is_taken) in
     let part : n.part ≡ with_due r.part h Nothing =
     ap (λ (x : RunningView). x.part) e ∙ (ap (λ (x : RunningView). with_stage x.part (Holding g)) same_m ∙ ap (λ (z : Hand). with_stage r.part (Holding z)) is_g) in
-    let parts : with_task (if T then with_cell P h.place.0 (original_under w h.place.0 h.cell) else P) t (with_due r.part h Nothing) ≡ record { cells = C; sets = sets; tasks = parts_of (set tasks t n) } =
-    ap (λ (x : Parts). with_task x t (with_due r.part h Nothing)) (either T P h.place.0 (original_under w h.place.0 h.cell)) ∙ parts_with C sets tasks t n _ part in
+    let parts : task_replaced (if T then with_cell P h.place.0 (original_under w h.place.0 h.cell) else P) t (with_due r.part h Nothing) ≡ record { cells = C; sets = sets; tasks = parts_of (set tasks t n) } =
+    ap (λ (x : Parts). task_replaced x t (with_due r.part h Nothing)) (either T P h.place.0 (original_under w h.place.0 h.cell)) ∙ parts_with C sets tasks t n _ part in
     let made : lifted w P t r.part h ≡ record { parts = record { cells = C; sets = sets; tasks = parts_of (set tasks t n) }; shown = Lifted T } = stepped_is _ _ _ parts in
     of_task-read cells sets tasks t r (λ (u : TaskPart). option_map (lifted w P t u) (in_hand Lifting u.stage)) _ lt read_r (ap (option_map (lifted w P t r.part)) held ∙ ap Some (made
     ∙ (ap (λ (xs : List Cell). record { parts = record { cells = xs; sets = sets; tasks = parts_of (set tasks t n) }; shown = Lifted T }) (sym cells_is)
@@ -385,7 +385,7 @@ lift_possible w cells cells2 sets tasks t r m n h g taken original lt read_r rea
 
 pub run_possible : (w : World) (cells : List Cell) (sets : List FactSet) (tasks : List RunningView) (t : ℕ) (m n : RunningView) →
     t < length tasks → m ≡ get_or tasks t m → task_done w t m.part m.part.stage ≡ Some n.part →
-    of_task (record { cells = cells; sets = sets; tasks = parts_of tasks }) t (λ (u : TaskPart). option_map (done_by (record { cells = cells; sets = sets; tasks = parts_of tasks }) t) (task_done w t u u.stage))
+    of_existing (record { cells = cells; sets = sets; tasks = parts_of tasks }) t (λ (u : TaskPart). option_map (done_by (record { cells = cells; sets = sets; tasks = parts_of tasks }) t) (task_done w t u u.stage))
     ≡ Some (record { parts = record { cells = cells; sets = sets; tasks = parts_of (set tasks t n) }; shown = Done })
 run_possible w cells sets tasks t m n lt read is_done =
     let P : Parts = record { cells = cells; sets = sets; tasks = parts_of tasks } in

@@ -16,7 +16,7 @@ use Rattle.module_area.specs.declared.places.Place.{Place}
 use Rattle.brk_table.specs.Places.{ArePlaces, IsPlace, AreSeen}
 use Rattle.module_area.specs.declared.cells.Cell.{Cell}
 use Rattle.s370_exec.proofs.StepLemmas.{solo_step-rest_refused, solo_step-unread, solo_step-read, solo_step-ex}
-use Rattle.interleave_core.specs.Meaning.{World, TaskPart, Parts, part_of, memory_in, budget_in, place_at, first_part, Stepped, parts_step, fetched, marked, lifted, done_by, with_due, original_under, same_cell, in_hand, subject_place, step_of, place_due, is_awaiting, is_spent, executed, stage_after, awaits_or, with_stage, instruction_executed, task_goes_on, task_done, same_due, hand_at, set_of}
+use Rattle.interleave_core.specs.Meaning.{World, TaskPart, Parts, part_of, memory_in, budget_in, place_at, first_part, Stepped, parts_step, cell_fetched, fact_marked, lifted, done_by, with_due, original_under, same_cell, in_hand, subject_place, step_of, place_due, is_awaiting, is_spent, executed, stage_after, awaits_or, with_stage, instruction_executed, task_goes_on, task_done, same_due, hand_at, set_of}
 use Rattle.interleave_core.specs.World.{IsWorld}
 use Rattle.interleave_core.specs.CoreState.{Item, Met, Gave, CoreState, CoreStepped, core_start, core_step, core_after, core_from, core_run, log_after}
 use Rattle.interleave_core.specs.MeaningOfEvents.{alone, Noted, note, noted, fact_at, visits_in_hand}
@@ -282,23 +282,23 @@ log_changed w c closes s p tag x logs by given is = (
 log_step : (w : World) (c : CoreState) (e : Event) (x : Stepped) → IsWorld w → parts_step w c.parts e ≡ Some x → Logged w c → (length x.parts.tasks ≡ length w.job.tasks) × HaveLogs w x.parts (core_after w c e x).core.logs
 log_step w c (Fetch t) x world h is =
     let u : TaskPart = part_of c.parts t.0 in
-    let at = exists_by (nat_lt t.0 (length c.parts.tasks)) (option_map (fetched w c.parts t.0 u) (place_due w t.0 u u.stage)) x h in
+    let at = exists_by (nat_lt t.0 (length c.parts.tasks)) (option_map (cell_fetched w c.parts t.0 u) (place_due w t.0 u u.stage)) x h in
     let lt : t.0 < length c.parts.tasks = ltb-true t.0 (length c.parts.tasks) at.0 in
-    let p = got ℕ (fetched w c.parts t.0 u) (place_due w t.0 u u.stage) x at.1 in
+    let p = got ℕ (cell_fetched w c.parts t.0 u) (place_due w t.0 u u.stage) x at.1 in
     let seen = world.seen t.0 (subst (λ (n : ℕ). t.0 < n) is.count lt) in
     let own = log_fetch w t.0 u u.stage p.0 (word_at c.parts.cells p.0) Nothing (c.logs t.0) seen world.places refl p.1 (is.logs t.0 lt) in
     subst (λ (y : Stepped). (length y.parts.tasks ≡ length w.job.tasks) × HaveLogs w y.parts (core_after w c (Fetch t) y).core.logs) (sym p.2)
-    (length-set c.parts.tasks t.0 _ ∙ is.count, one_log w (λ n y log. HasLog w n y log) c (fetched w c.parts t.0 u p.0).parts t.0 (with_stage u (Holding (hand_at w c.parts (is_awaiting u.stage) p.0))) (Fetched (word_at c.parts.cells p.0)) refl lt own is.logs)
+    (length-set c.parts.tasks t.0 _ ∙ is.count, one_log w (λ n y log. HasLog w n y log) c (cell_fetched w c.parts t.0 u p.0).parts t.0 (with_stage u (Holding (hand_at w c.parts (is_awaiting u.stage) p.0))) (Fetched (word_at c.parts.cells p.0)) refl lt own is.logs)
 log_step w c (Mark t) x world h is =
     let u : TaskPart = part_of c.parts t.0 in
-    let at = exists_by (nat_lt t.0 (length c.parts.tasks)) (option_map (marked w c.parts t.0 u) (in_hand Marking u.stage)) x h in
+    let at = exists_by (nat_lt t.0 (length c.parts.tasks)) (option_map (fact_marked w c.parts t.0 u) (in_hand Marking u.stage)) x h in
     let lt : t.0 < length c.parts.tasks = ltb-true t.0 (length c.parts.tasks) at.0 in
-    let p = got Hand (marked w c.parts t.0 u) (in_hand Marking u.stage) x at.1 in
+    let p = got Hand (fact_marked w c.parts t.0 u) (in_hand Marking u.stage) x at.1 in
     let found : FactSet = set_of w c.parts (tag_session p.0.cell.tag) p.0.place.0 in
     let stage = (in_hand-stage Marking u.stage p.0 p.1).0 in
     let before : logged (c.logs t.0) ≡ noted w (trace_of w t.0 u ++ visits_in_hand (Holding p.0) (visits_of w t.0 u)) = subst (λ (s : Stage). logged (c.logs t.0) ≡ noted w (trace_of w t.0 u ++ visits_in_hand s (visits_of w t.0 u))) stage (is.logs t.0 lt) in
     subst (λ (y : Stepped). (length y.parts.tasks ≡ length w.job.tasks) × HaveLogs w y.parts (core_after w c (Mark t) y).core.logs) (sym p.2)
-    (length-set c.parts.tasks t.0 _ ∙ is.count, one_log w (λ n y log. HasLog w n y log) c (marked w c.parts t.0 u p.0).parts t.0 _ (Marked found) refl lt (found_logged w t.0 u found (c.logs t.0) ∙ before) is.logs)
+    (length-set c.parts.tasks t.0 _ ∙ is.count, one_log w (λ n y log. HasLog w n y log) c (fact_marked w c.parts t.0 u p.0).parts t.0 _ (Marked found) refl lt (found_logged w t.0 u found (c.logs t.0) ∙ before) is.logs)
 log_step w c (Lift t) x world h is =
     let u : TaskPart = part_of c.parts t.0 in
     let at = exists_by (nat_lt t.0 (length c.parts.tasks)) (option_map (lifted w c.parts t.0 u) (in_hand Lifting u.stage)) x h in

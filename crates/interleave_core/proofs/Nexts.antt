@@ -10,7 +10,7 @@ use Rattle.module_area.specs.Meaning.{word_at}
 use Rattle.module_area.specs.Rule.{IsPlan}
 use Rattle.cov_base.specs.declared.numbers.PlaceNo.{PlaceNo as Number}
 use Rattle.cov_base.specs.declared.numbers.SessNo.{SessNo}
-use Rattle.interleave_core.specs.Meaning.{World, TaskPart, Parts, part_of, place_at, plan_in, PlaceChange, controller_of, change_of, next_place, Stepped, of_task, task_goes_on, change_due, may_change, changed, change_step, by_controller, whole_step, fetched, marked, lifted, done_by, task_done, ready_done, instruction_executed, executed, with_stage, place_due, subject_place, step_of, is_spent, in_hand, same_due, stage_event, next_of, change_or_do, event_due}
+use Rattle.interleave_core.specs.Meaning.{World, TaskPart, Parts, part_of, place_at, plan_in, PlaceChange, controller_of, change_of, next_place, Stepped, of_existing, task_goes_on, change_due, may_change, changed, change_step, by_controller, whole_step, cell_fetched, fact_marked, lifted, done_by, task_done, ready_done, instruction_executed, executed, with_stage, place_due, subject_place, step_of, is_spent, in_hand, same_due, stage_event, next_of, change_or_do, event_due}
 use Rattle.interleave_core.specs.CoreState.{is_by, is_task}
 use Rattle.interleave_core.specs.Results.{IsDue}
 use Rattle.interleave_core.specs.Views.{IsStage, IsTied}
@@ -33,21 +33,21 @@ may_from : (closes way same at low : Bool) → way ≡ closes → same ≡ true 
 may_from true way same at low w s p l = rw (w, s, p) refl
 may_from false way same at low w s p l = rw (w, s, p, l refl) refl
 
-of_task-some : (c : Parts) (t : ℕ) (step : TaskPart → Option Stepped) (x : Stepped) → nat_lt t (length c.tasks) ≡ true → step (part_of c t) ≡ Some x → of_task c t step ≡ Some x
+of_task-some : (c : Parts) (t : ℕ) (step : TaskPart → Option Stepped) (x : Stepped) → nat_lt t (length c.tasks) ≡ true → step (part_of c t) ≡ Some x → of_existing c t step ≡ Some x
 of_task-some c t step x there h = rw there h
 
 due_fetch : (w : World) (c : Parts) (t : TaskNo) (p : ℕ) → nat_lt t.0 (length c.tasks) ≡ true → place_due w t.0 (part_of c t.0) (part_of c t.0).stage ≡ Some p → IsDue w c t.0 (Fetch t)
 due_fetch w c t p there h = record {
   by = itself t.0;
-  stepped = fetched w c t.0 (part_of c t.0) p;
-  step = of_task-some c t.0 (λ (u : TaskPart). option_map (fetched w c t.0 u) (place_due w t.0 u u.stage)) _ there (ap (option_map (fetched w c t.0 (part_of c t.0))) h);
+  stepped = cell_fetched w c t.0 (part_of c t.0) p;
+  step = of_task-some c t.0 (λ (u : TaskPart). option_map (cell_fetched w c t.0 u) (place_due w t.0 u u.stage)) _ there (ap (option_map (cell_fetched w c t.0 (part_of c t.0))) h);
 }
 
 due_mark : (w : World) (c : Parts) (t : TaskNo) (h : Hand) → nat_lt t.0 (length c.tasks) ≡ true → in_hand Marking (part_of c t.0).stage ≡ Some h → IsDue w c t.0 (Mark t)
 due_mark w c t h there e = record {
   by = itself t.0;
-  stepped = marked w c t.0 (part_of c t.0) h;
-  step = of_task-some c t.0 (λ (u : TaskPart). option_map (marked w c t.0 u) (in_hand Marking u.stage)) _ there (ap (option_map (marked w c t.0 (part_of c t.0))) e);
+  stepped = fact_marked w c t.0 (part_of c t.0) h;
+  step = of_task-some c t.0 (λ (u : TaskPart). option_map (fact_marked w c t.0 u) (in_hand Marking u.stage)) _ there (ap (option_map (fact_marked w c t.0 (part_of c t.0))) e);
 }
 
 due_lift : (w : World) (c : Parts) (t : TaskNo) (h : Hand) → nat_lt t.0 (length c.tasks) ≡ true → in_hand Lifting (part_of c t.0).stage ≡ Some h → IsDue w c t.0 (Lift t)
@@ -237,11 +237,11 @@ changed_only w c u closes s p x by same =
 -- what is possible is next
 pub next_only : (w : World) (c : Parts) (u : TaskNo) (e : Event) → IsDue w c u.0 e → next_of w c u ≡ Some e
 next_only w c u (Fetch t) d =
-    let at = exists_by (nat_lt t.0 (length c.tasks)) (option_map (fetched w c t.0 (part_of c t.0)) (place_due w t.0 (part_of c t.0) (part_of c t.0).stage)) d.stepped d.step in
+    let at = exists_by (nat_lt t.0 (length c.tasks)) (option_map (cell_fetched w c t.0 (part_of c t.0)) (place_due w t.0 (part_of c t.0) (part_of c t.0).stage)) d.stepped d.step in
     let p = mapped _ _ _ (place_due w t.0 (part_of c t.0) (part_of c t.0).stage) d.stepped at.1 in
     only_of w c t u (Fetch t) (same_task t u d.by) at.0 (fetch_only w t (part_of c t.0) (part_of c t.0).stage p.0 p.1)
 next_only w c u (Mark t) d =
-    let at = exists_by (nat_lt t.0 (length c.tasks)) (option_map (marked w c t.0 (part_of c t.0)) (in_hand Marking (part_of c t.0).stage)) d.stepped d.step in
+    let at = exists_by (nat_lt t.0 (length c.tasks)) (option_map (fact_marked w c t.0 (part_of c t.0)) (in_hand Marking (part_of c t.0).stage)) d.stepped d.step in
     let h = mapped _ _ _ (in_hand Marking (part_of c t.0).stage) d.stepped at.1 in
     only_of w c t u (Mark t) (same_task t u d.by) at.0 (hand_only w t (part_of c t.0) (part_of c t.0).stage Marking h.0 h.1)
 next_only w c u (Lift t) d =

@@ -13,7 +13,7 @@ use Rattle.module_area.specs.Rule.{IsForm, IsPlan, IsControlled}
 use Rattle.module_area.specs.declared.cells.Cell.{Cell}
 use Rattle.module_area.proofs.PlanLemmas.{over_small}
 use Rattle.session_book.specs.Meaning.{no_task}
-use Rattle.interleave_core.specs.Meaning.{World, TaskPart, Parts, plan_in, part_of, first_part, PlaceChange, controller_of, Stepped, of_task, with_task, breakpoint_of, changed_cell, may_change, changed, change_step, change_due, parts_step, by_controller, whole_step}
+use Rattle.interleave_core.specs.Meaning.{World, TaskPart, Parts, plan_in, part_of, first_part, PlaceChange, controller_of, Stepped, of_existing, task_replaced, breakpoint_of, changed_cell, may_change, changed, change_step, change_due, parts_step, by_controller, whole_step}
 use Rattle.interleave_core.specs.Views.{RunningView, IsRunning, IsStage, IsCore, IsTied, IsPlaced, parts_of, no_controlled, session_at, turn_number, turn_of}
 use Rattle.interleave_core.specs.declared.events.Event.{Event}
 use Rattle.interleave_core.specs.declared.events.Event.TheVariants.{Plant, Close}
@@ -52,7 +52,7 @@ window_core w cells sets plan tasks s p x is lt some window e =
 record IsDue (w : World) (c : Parts) (closes : Bool) (s : ℕ) (p : PlaceNo) (t : ℕ) : Type 0 where
   there : t < length c.tasks
   due : change_due w t (part_of c t) (part_of c t).stage ≡ Some (record { closes = closes; session = s; place = p })
-  step : of_task c t (change_step w c closes s p.0 t) ≡ Some (changed w c t (part_of c t) (record { closes = closes; session = s; place = p }))
+  step : of_existing c t (change_step w c closes s p.0 t) ≡ Some (changed w c t (part_of c t) (record { closes = closes; session = s; place = p }))
 
 same_way : (a b : Bool) → (if a then b else not b) ≡ true → b ≡ a
 same_way true true h = refl
@@ -82,7 +82,7 @@ due_of w c closes s p t (Some y) there due h = by (may_change c closes s p.0 y) 
           step = rw (there, due, e) (ap (λ (z : PlaceChange). Some (changed w c t (part_of c t) z)) same);
         }
 
-is_due : (w : World) (c : Parts) (closes : Bool) (s : ℕ) (p : PlaceNo) (t : ℕ) → is_some (of_task c t (change_step w c closes s p.0 t)) ≡ true → IsDue w c closes s p t
+is_due : (w : World) (c : Parts) (closes : Bool) (s : ℕ) (p : PlaceNo) (t : ℕ) → is_some (of_existing c t (change_step w c closes s p.0 t)) ≡ true → IsDue w c closes s p t
 is_due w c closes s p t h = by (nat_lt t (length c.tasks)) refl h
   where
     by : (b : Bool) → nat_lt t (length c.tasks) ≡ b → is_some (if b then change_step w c closes s p.0 t (part_of c t) else None) ≡ true → IsDue w c closes s p t
@@ -125,9 +125,9 @@ placed w cells sets plan tasks t s p m x is lt read due session place =
     }
 
 pub change_possible : (w : World) (cells : List Cell) (sets : List FactSet) (tasks : List RunningView) (closes : Bool) (s : ℕ) (p : PlaceNo) (t : ℕ) (m n : RunningView) (x : Cell) →
-    t < length tasks → m ≡ get_or tasks t m → is_some (of_task (record { cells = cells; sets = sets; tasks = parts_of tasks }) t (change_step w (record { cells = cells; sets = sets; tasks = parts_of tasks }) closes s p.0 t)) ≡ true →
+    t < length tasks → m ≡ get_or tasks t m → is_some (of_existing (record { cells = cells; sets = sets; tasks = parts_of tasks }) t (change_step w (record { cells = cells; sets = sets; tasks = parts_of tasks }) closes s p.0 t)) ≡ true →
     x ≡ changed_cell w (record { closes = closes; session = s; place = p }) → n ≡ record m { part = record m.part { changed = m.part.changed + 1 } } →
-    of_task (record { cells = cells; sets = sets; tasks = parts_of tasks }) t (change_step w (record { cells = cells; sets = sets; tasks = parts_of tasks }) closes s p.0 t)
+    of_existing (record { cells = cells; sets = sets; tasks = parts_of tasks }) t (change_step w (record { cells = cells; sets = sets; tasks = parts_of tasks }) closes s p.0 t)
     ≡ Some (record { parts = record { cells = set cells p.0 x; sets = sets; tasks = parts_of (set tasks t n) }; shown = if closes then Closed else Planted })
 change_possible w cells sets tasks closes s p t m n x lt read some is_x e =
     let P : Parts = record { cells = cells; sets = sets; tasks = parts_of tasks } in
@@ -138,7 +138,7 @@ change_possible w cells sets tasks closes s p t m n x lt read some is_x e =
   where
     made : Cell → Stepped
     made c = record {
-      parts = with_task (record { cells = set cells p.0 c; sets = sets; tasks = parts_of tasks }) t (record (get_or (parts_of tasks) t (first_part no_task)) { changed = (get_or (parts_of tasks) t (first_part no_task)).changed + 1 });
+      parts = task_replaced (record { cells = set cells p.0 c; sets = sets; tasks = parts_of tasks }) t (record (get_or (parts_of tasks) t (first_part no_task)) { changed = (get_or (parts_of tasks) t (first_part no_task)).changed + 1 });
       shown = if closes then Closed else Planted;
     }
 
@@ -157,13 +157,13 @@ abbrev pub event_of : Bool → SessNo → PlaceNo → Event
 event_of true s p = Close s p
 event_of false s p = Plant s p
 
-pub step_by : (w : World) (c : Parts) (closes : Bool) (s : SessNo) (p : PlaceNo) (t : ℕ) (x : Option Stepped) → controller_of w s.0 ≡ Some t → of_task c t (change_step w c closes s.0 p.0 t) ≡ x → parts_step w c (event_of closes s p) ≡ x
+pub step_by : (w : World) (c : Parts) (closes : Bool) (s : SessNo) (p : PlaceNo) (t : ℕ) (x : Option Stepped) → controller_of w s.0 ≡ Some t → of_existing c t (change_step w c closes s.0 p.0 t) ≡ x → parts_step w c (event_of closes s p) ≡ x
 step_by w c true s p t x by h = ap (by_controller w c true s.0 p.0 None) by ∙ h
 step_by w c false s p t x by h = ap (by_controller w c false s.0 p.0 (whole_step w c s.0 p.0)) by ∙ h
 
 pub changed_core : (w : World) (cells : List Cell) (sets : List FactSet) (plan : PlanView) (tasks : List RunningView) (closes : Bool) (s : SessNo) (p : PlaceNo) (t : ℕ) (m n : RunningView) (x : Cell) →
     IsCore w cells sets plan tasks → controller_of w s.0 ≡ Some t → t < length tasks → m ≡ get_or tasks t m →
-    is_some (of_task (record { cells = cells; sets = sets; tasks = parts_of tasks }) t (change_step w (record { cells = cells; sets = sets; tasks = parts_of tasks }) closes s.0 p.0 t)) ≡ true →
+    is_some (of_existing (record { cells = cells; sets = sets; tasks = parts_of tasks }) t (change_step w (record { cells = cells; sets = sets; tasks = parts_of tasks }) closes s.0 p.0 t)) ≡ true →
     x ≡ changed_cell w (record { closes = closes; session = s.0; place = p }) → n ≡ record m { part = record m.part { changed = m.part.changed + 1 } } → IsCore w (set cells p.0 x) sets plan (set tasks t n)
 changed_core w cells sets plan tasks closes s p t m n x is by lt read some is_x e =
     let P : Parts = record { cells = cells; sets = sets; tasks = parts_of tasks } in

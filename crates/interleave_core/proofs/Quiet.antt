@@ -20,7 +20,7 @@ use Rattle.module_area.specs.declared.cells.Cell.{Cell}
 use Rattle.module_area.proofs.Indices.{same_index, and_left, and_right, and_both}
 use Rattle.module_area.proofs.PlanLemmas.{any_at, any_shown, over_cases}
 use Rattle.session_book.specs.Meaning.{no_task}
-use Rattle.interleave_core.specs.Meaning.{World, TaskPart, Parts, part_of, plan_in, place_at, first_part, PlaceChange, controller_of, Stepped, parts_step, fetched, marked, lifted, done_by, task_done, task_goes_on, breakpoint_of, changed_cell, changed, change_due, with_cell, with_due, with_stage, original_under, same_cell, same_due, in_hand, hand_at, step_of, subject_place, place_due, is_awaiting, is_spent, stage_after, executed, awaits_or, instruction_executed, set_of, fact_in}
+use Rattle.interleave_core.specs.Meaning.{World, TaskPart, Parts, part_of, plan_in, place_at, first_part, PlaceChange, controller_of, Stepped, parts_step, cell_fetched, fact_marked, lifted, done_by, task_done, task_goes_on, breakpoint_of, changed_cell, changed, change_due, with_cell, with_due, with_stage, original_under, same_cell, same_due, in_hand, hand_at, step_of, subject_place, place_due, is_awaiting, is_spent, stage_after, executed, awaits_or, instruction_executed, set_of, fact_in}
 use Rattle.interleave_core.specs.Quiet.{has_unmarked, any_unmarked, is_quiet, SetsStay}
 use Rattle.interleave_core.specs.Views.{RunningView, AreSteady, IsHand, no_controlled, number_at, parts_of}
 use Rattle.interleave_core.specs.declared.events.Event.{Event}
@@ -67,13 +67,13 @@ changed_rises w c t x is lt due =
 pub rises : (w : World) (c : Parts) (e : Event) (x : Stepped) → AreSteady w c → parts_step w c e ≡ Some x → Rises c x.parts
 rises w c (Fetch t) x is h =
     let u : TaskPart = part_of c t.0 in
-    let at = exists_by (nat_lt t.0 (length c.tasks)) (option_map (fetched w c t.0 u) (place_due w t.0 u u.stage)) x h in
-    let p = got ℕ (fetched w c t.0 u) (place_due w t.0 u u.stage) x at.1 in
+    let at = exists_by (nat_lt t.0 (length c.tasks)) (option_map (cell_fetched w c t.0 u) (place_due w t.0 u u.stage)) x h in
+    let p = got ℕ (cell_fetched w c t.0 u) (place_due w t.0 u u.stage) x at.1 in
     subst (λ (y : Stepped). Rises c y.parts) (sym p.2) (λ q l. omega arith)
 rises w c (Mark t) x is h =
     let u : TaskPart = part_of c t.0 in
-    let at = exists_by (nat_lt t.0 (length c.tasks)) (option_map (marked w c t.0 u) (in_hand Marking u.stage)) x h in
-    let g = got Hand (marked w c t.0 u) (in_hand Marking u.stage) x at.1 in
+    let at = exists_by (nat_lt t.0 (length c.tasks)) (option_map (fact_marked w c t.0 u) (in_hand Marking u.stage)) x h in
+    let g = got Hand (fact_marked w c t.0 u) (in_hand Marking u.stage) x at.1 in
     subst (λ (y : Stepped). Rises c y.parts) (sym g.2) (λ q l. omega arith)
 rises w c (Lift t) x is h =
     let u : TaskPart = part_of c t.0 in
@@ -257,19 +257,19 @@ goes_clear s w t u v (Holding g) h = by (same_due g.due Nothing) g.subject h
 pub clear_step : (w : World) (s : ℕ) (c : Parts) (e : Event) (x : Stepped) → AreSteady w c → IsLocal w s → AreOver w s c → parts_step w c e ≡ Some x → (r : ℕ) → Clear s (part_of c r).stage → Clear s (part_of x.parts r).stage
 clear_step w s c (Fetch t) x is local over h r clear =
     let u : TaskPart = part_of c t.0 in
-    let at = exists_by (nat_lt t.0 (length c.tasks)) (option_map (fetched w c t.0 u) (place_due w t.0 u u.stage)) x h in
-    let p = got ℕ (fetched w c t.0 u) (place_due w t.0 u u.stage) x at.1 in
+    let at = exists_by (nat_lt t.0 (length c.tasks)) (option_map (cell_fetched w c t.0 u) (place_due w t.0 u u.stage)) x h in
+    let p = got ℕ (cell_fetched w c t.0 u) (place_due w t.0 u u.stage) x at.1 in
     let lt : p.0 < length w.places = due_inside w t.0 u u.stage p.0 p.1 in
     subst (λ (y : Stepped). Clear s (part_of y.parts r).stage) (sym p.2)
-    (one_clear s c (fetched w c t.0 u p.0).parts t.0 _ refl (ltb-true t.0 (length c.tasks) at.0) (λ _. fetch_clear w s c (is_awaiting u.stage) p.0 is local over lt) r clear)
+    (one_clear s c (cell_fetched w c t.0 u p.0).parts t.0 _ refl (ltb-true t.0 (length c.tasks) at.0) (λ _. fetch_clear w s c (is_awaiting u.stage) p.0 is local over lt) r clear)
 clear_step w s c (Mark t) x is local over h r clear =
     let u : TaskPart = part_of c t.0 in
-    let at = exists_by (nat_lt t.0 (length c.tasks)) (option_map (marked w c t.0 u) (in_hand Marking u.stage)) x h in
-    let g = got Hand (marked w c t.0 u) (in_hand Marking u.stage) x at.1 in
+    let at = exists_by (nat_lt t.0 (length c.tasks)) (option_map (fact_marked w c t.0 u) (in_hand Marking u.stage)) x h in
+    let g = got Hand (fact_marked w c t.0 u) (in_hand Marking u.stage) x at.1 in
     let found : FactSet = set_of w c (tag_session g.0.cell.tag) g.0.place.0 in
     let full : Bool = is_full (kind_at (plan_in w) g.0.place.0) (with_fact found (fact_in w t.0 u g.0)) in
     subst (λ (y : Stepped). Clear s (part_of y.parts r).stage) (sym g.2)
-    (one_clear s c (marked w c t.0 u g.0).parts t.0 (with_due u g.0 (if full then Lifting else Nothing)) refl (ltb-true t.0 (length c.tasks) at.0) (λ _. mark_clear s u g.0 full) r clear)
+    (one_clear s c (fact_marked w c t.0 u g.0).parts t.0 (with_due u g.0 (if full then Lifting else Nothing)) refl (ltb-true t.0 (length c.tasks) at.0) (λ _. mark_clear s u g.0 full) r clear)
 clear_step w s c (Lift t) x is local over h r clear =
     let u : TaskPart = part_of c t.0 in
     let at = exists_by (nat_lt t.0 (length c.tasks)) (option_map (lifted w c t.0 u) (in_hand Lifting u.stage)) x h in
@@ -298,13 +298,13 @@ clear_step w s c (Close n p) x is local over h r clear =
 count_step : (w : World) (c : Parts) (e : Event) (x : Stepped) → parts_step w c e ≡ Some x → length x.parts.tasks ≡ length c.tasks
 count_step w c (Fetch t) x h =
     let u : TaskPart = part_of c t.0 in
-    let at = exists_by (nat_lt t.0 (length c.tasks)) (option_map (fetched w c t.0 u) (place_due w t.0 u u.stage)) x h in
-    let p = got ℕ (fetched w c t.0 u) (place_due w t.0 u u.stage) x at.1 in
+    let at = exists_by (nat_lt t.0 (length c.tasks)) (option_map (cell_fetched w c t.0 u) (place_due w t.0 u u.stage)) x h in
+    let p = got ℕ (cell_fetched w c t.0 u) (place_due w t.0 u u.stage) x at.1 in
     ap (λ (y : Stepped). length y.parts.tasks) p.2 ∙ length-set c.tasks t.0 _
 count_step w c (Mark t) x h =
     let u : TaskPart = part_of c t.0 in
-    let at = exists_by (nat_lt t.0 (length c.tasks)) (option_map (marked w c t.0 u) (in_hand Marking u.stage)) x h in
-    let g = got Hand (marked w c t.0 u) (in_hand Marking u.stage) x at.1 in
+    let at = exists_by (nat_lt t.0 (length c.tasks)) (option_map (fact_marked w c t.0 u) (in_hand Marking u.stage)) x h in
+    let g = got Hand (fact_marked w c t.0 u) (in_hand Marking u.stage) x at.1 in
     ap (λ (y : Stepped). length y.parts.tasks) g.2 ∙ length-set c.tasks t.0 _
 count_step w c (Lift t) x h =
     let u : TaskPart = part_of c t.0 in
@@ -350,14 +350,14 @@ mark_stays w s c t h facts is pos lt due clear p l =
 pub sets_step : (w : World) (s : ℕ) (c : Parts) (e : Event) (x : Stepped) → AreSteady w c → 0 < s → parts_step w c e ≡ Some x → ((t : ℕ) → t < length c.tasks → Clear s (part_of c t).stage) → SetsStay w s c x.parts
 sets_step w s c (Fetch t) x is pos h clear =
     let u : TaskPart = part_of c t.0 in
-    let at = exists_by (nat_lt t.0 (length c.tasks)) (option_map (fetched w c t.0 u) (place_due w t.0 u u.stage)) x h in
-    let p = got ℕ (fetched w c t.0 u) (place_due w t.0 u u.stage) x at.1 in
+    let at = exists_by (nat_lt t.0 (length c.tasks)) (option_map (cell_fetched w c t.0 u) (place_due w t.0 u u.stage)) x h in
+    let p = got ℕ (cell_fetched w c t.0 u) (place_due w t.0 u u.stage) x at.1 in
     subst (λ (y : Stepped). SetsStay w s c y.parts) (sym p.2) (λ q l. refl)
 sets_step w s c (Mark t) x is pos h clear =
     let u : TaskPart = part_of c t.0 in
-    let at = exists_by (nat_lt t.0 (length c.tasks)) (option_map (marked w c t.0 u) (in_hand Marking u.stage)) x h in
+    let at = exists_by (nat_lt t.0 (length c.tasks)) (option_map (fact_marked w c t.0 u) (in_hand Marking u.stage)) x h in
     let lt : t.0 < length c.tasks = ltb-true t.0 (length c.tasks) at.0 in
-    let g = got Hand (marked w c t.0 u) (in_hand Marking u.stage) x at.1 in
+    let g = got Hand (fact_marked w c t.0 u) (in_hand Marking u.stage) x at.1 in
     subst (λ (y : Stepped). SetsStay w s c y.parts) (sym g.2)
     (mark_stays w s c t.0 g.0 (with_fact (set_of w c (tag_session g.0.cell.tag) g.0.place.0) (fact_in w t.0 u g.0)) is pos lt g.1 (clear t.0 lt))
 sets_step w s c (Lift t) x is pos h clear =

@@ -27,7 +27,7 @@ use Rattle.module_area.proofs.PartyLemmas.{here-add_if}
 use Rattle.module_area.proofs.CellLemmas.{lifts}
 use Rattle.module_area.proofs.StepLemmas.{breakpoint_form, fetches, marks, spent_not_task}
 use Rattle.session_book.specs.Meaning.{no_task}
-use Rattle.interleave_core.specs.Meaning.{World, TaskPart, Parts, part_of, plan_in, place_at, first_parts, first_part, task_goes_on, Stepped, parts_step, fetched, marked, lifted, done_by, with_cell, with_due, with_stage, original_under, same_cell, same_due, in_hand, hand_at, subject_place, step_of, place_due, is_awaiting, is_spent, executed, stage_after, awaits_or, instruction_executed, task_done, set_of, fact_in}
+use Rattle.interleave_core.specs.Meaning.{World, TaskPart, Parts, part_of, plan_in, place_at, first_parts, first_part, task_goes_on, Stepped, parts_step, cell_fetched, fact_marked, lifted, done_by, with_cell, with_due, with_stage, original_under, same_cell, same_due, in_hand, hand_at, subject_place, step_of, place_due, is_awaiting, is_spent, executed, stage_after, awaits_or, instruction_executed, task_done, set_of, fact_in}
 use Rattle.interleave_core.specs.World.{IsWorld}
 use Rattle.interleave_core.specs.CoreState.{CoreState, core_start, core_step, core_after, core_from, core_run, log_after, entry_of, Entry, Item, Met, task_view, task_views, numbers, first_planter, planted_by, planter_from, KeepsRule}
 use Rattle.interleave_core.specs.declared.events.Event.{Event}
@@ -84,14 +84,14 @@ absent A f h = absurd cc
 
 fetched_in : (w : World) (t : ℕ) (u : TaskPart) (h : Hand) (log : List Item) (a n : Bool) → is_breakpoint h.cell ≡ a → (visit_of (step_of w t u) h.subject).begun ≡ n → (a ≡ true → HasBreakpoint w h) → AreMarked log →
     InHand w t u (Met (entry_of w t u h) ∷ log) h (if a && n then Marking else Nothing)
-fetched_in w t u h log true true half begun has marked =
-    (log, ap (λ (b : Bool). Met (record { place = h.place.0; cell = h.cell; fact = if b then Some (fact_in w t u h) else None; found = None; lifted = None }) ∷ log) begun, marked, has refl)
-fetched_in w t u h log true false half begun has marked =
-    ((λ f b some. absent _ f (subst (λ (x : Bool). (if x then Some (fact_in w t u h) else None) ≡ Some f) begun some)), marked)
-fetched_in w t u h log false n half begun has marked = ((λ f b some. let no : true ≡ false = sym b ∙ half in absurd cc), marked)
+fetched_in w t u h log true true half begun has fact_marked =
+    (log, ap (λ (b : Bool). Met (record { place = h.place.0; cell = h.cell; fact = if b then Some (fact_in w t u h) else None; found = None; lifted = None }) ∷ log) begun, fact_marked, has refl)
+fetched_in w t u h log true false half begun has fact_marked =
+    ((λ f b some. absent _ f (subst (λ (x : Bool). (if x then Some (fact_in w t u h) else None) ≡ Some f) begun some)), fact_marked)
+fetched_in w t u h log false n half begun has fact_marked = ((λ f b some. let no : true ≡ false = sym b ∙ half in absurd cc), fact_marked)
 
 pub rule_fetch : (w : World) (c : CoreState) (v : View) (t p : ℕ) → IsWorld w → Ruled w c v → t < length c.parts.tasks → place_due w t (part_of c.parts t) (part_of c.parts t).stage ≡ Some p →
-    Ruled w (record { parts = (fetched w c.parts t (part_of c.parts t) p).parts; logs = logs_after w c (fetched w c.parts t (part_of c.parts t) p).parts t (Fetched (word_at c.parts.cells p)) }) v
+    Ruled w (record { parts = (cell_fetched w c.parts t (part_of c.parts t) p).parts; logs = logs_after w c (cell_fetched w c.parts t (part_of c.parts t) p).parts t (Fetched (word_at c.parts.cells p)) }) v
 rule_fetch w c v t p world is lt due =
     let u : TaskPart = part_of c.parts t in
     let there : t < length w.job.tasks = subst (λ (n : ℕ). t < n) is.count lt in
@@ -99,7 +99,7 @@ rule_fetch w c v t p world is lt due =
     let h : Hand = hand_at w c.parts (is_awaiting u.stage) p in
     let view : View = task_view w t (c.logs t) in
     let live : view.role ≢ Spent = λ e. spent_not_task t (sym e ∙ task_role w t (c.logs t)) in
-    after_task w c v (fetched w c.parts t u p).parts t (with_stage u (Holding h)) (Fetched (word_at c.parts.cells p)) (fetching (plan_in w) p (word_at c.parts.cells p) view) is lt refl is.cells is.sets
+    after_task w c v (cell_fetched w c.parts t u p).parts t (with_stage u (Holding h)) (Fetched (word_at c.parts.cells p)) (fetching (plan_in w) p (word_at c.parts.cells p) view) is lt refl is.cells is.sets
     (fetches (plan_in w) (λ q. word_at c.parts.cells q) (λ s q. set_of w c.parts s q) (v ∷ task_views w c.logs 0 (length w.job.tasks)) is.held (suc t) view (view_at w c.logs 0 (length w.job.tasks) t t (omega arith) there) live p at.0)
     refl
     (fetched_in w t (with_stage u (Holding h)) h (c.logs t) (is_breakpoint h.cell) (not (is_awaiting u.stage && is_execute (original_at (plan_in w) p))) refl at.1
@@ -123,8 +123,8 @@ same_hand w h g at cell b = record {
 
 marked_in : (w : World) (t : ℕ) (u : TaskPart) (h : Hand) (rest : List Item) (found : FactSet) (b : Bool) → is_full (kind_at (plan_in w) h.place.0) (with_fact found (fact_in w t u h)) ≡ b → AreMarked rest → HasBreakpoint w h →
     InHand w t u (Met (entry_in w t u h (Some found)) ∷ rest) h (if b then Lifting else Nothing)
-marked_in w t u h rest found true full marked has = (rest, found, refl, full, marked, has)
-marked_in w t u h rest found false full marked has = ((λ f b some. (found, refl)), marked)
+marked_in w t u h rest found true full fact_marked has = (rest, found, refl, full, fact_marked, has)
+marked_in w t u h rest found false full fact_marked has = ((λ f b some. (found, refl)), fact_marked)
 
 -- the sets with the fact that a mark adds
 module _ (w : World) (c : Parts) (h : Hand) (b : HasBreakpoint w h) (f : Fact) (plan : IsPlan (plan_in w)) (sets : length c.sets ≡ length w.job.sessions * length w.places) where
@@ -152,7 +152,7 @@ module _ (w : World) (c : Parts) (h : Hand) (b : HasBreakpoint w h) (f : Fact) (
       (λ e. n (same_index (length w.places) s q b.session h.place.0 pos b.some_session lt b.inside (e ∙ sym index_is)))
 
 pub rule_mark : (w : World) (c : CoreState) (v : View) (t : ℕ) (h : Hand) → Ruled w c v → t < length c.parts.tasks → in_hand Marking (part_of c.parts t).stage ≡ Some h →
-    Ruled w (record { parts = (marked w c.parts t (part_of c.parts t) h).parts; logs = logs_after w c (marked w c.parts t (part_of c.parts t) h).parts t (Marked (set_of w c.parts (tag_session h.cell.tag) h.place.0)) }) v
+    Ruled w (record { parts = (fact_marked w c.parts t (part_of c.parts t) h).parts; logs = logs_after w c (fact_marked w c.parts t (part_of c.parts t) h).parts t (Marked (set_of w c.parts (tag_session h.cell.tag) h.place.0)) }) v
 rule_mark w c v t h is lt due =
     let u : TaskPart = part_of c.parts t in
     let there : t < length w.job.tasks = subst (λ (n : ℕ). t < n) is.count lt in
@@ -173,10 +173,10 @@ rule_mark w c v t h is lt due =
     ∙ (ap (λ (s : ℕ). marking (plan_in w) b.session p f (set_of w c.parts s p) (task_view w t (Met (entry_in w t u h None) ∷ rest))) (sym (hand_of w h b))
     ∙ (ap (λ (s : ℕ). marking (plan_in w) s p f found (task_view w t (Met (entry_in w t u h None) ∷ rest))) (sym (hand_of w h b))
     ∙ ap (task_view w t) (sym logged))) in
-    after_task w c v (marked w c.parts t u h).parts t u2 (Marked found) (marking (plan_in w) b.session p f (set_of w c.parts b.session p) view) is lt refl is.cells
+    after_task w c v (fact_marked w c.parts t u h).parts t u2 (Marked found) (marking (plan_in w) b.session p f (set_of w c.parts b.session p) view) is lt refl is.cells
     (length-set c.parts.sets (index_of (length w.places) (tag_session h.cell.tag) p) (with_fact found f) ∙ is.sets)
     (marks (plan_in w) (λ q. word_at c.parts.cells q) (λ s q. set_of w c.parts s q) (v ∷ task_views w c.logs 0 (length w.job.tasks)) is.held (suc t) view (view_at w c.logs 0 (length w.job.tasks) t t (omega arith) there) live
-    b.session p f b.inside b.some_session pending (kind_fact (kind_at (plan_in w) p) (visit_of (step_of w t u) h.subject).went) (λ q. word_at c.parts.cells q) (λ s q. set_of w (marked w c.parts t u h).parts s q)
+    b.session p f b.inside b.some_session pending (kind_fact (kind_at (plan_in w) p) (visit_of (step_of w t u) h.subject).went) (λ q. word_at c.parts.cells q) (λ s q. set_of w (fact_marked w c.parts t u h).parts s q)
     (λ q l. refl) (set_here w c.parts h b f is.held.is_plan is.sets) (set_other w c.parts h b f is.held.is_plan is.sets))
     view_is
     (subst (λ (l : List Item). InHand w t u2 l (record h { due = d }) d) (sym logged)
@@ -360,13 +360,13 @@ ruled_first w world = record {
 pub ruled_step : (w : World) (c : CoreState) (v : View) (e : Event) (x : Stepped) → IsWorld w → parts_step w c.parts e ≡ Some x → AreTied w c.parts → Ruled w c v → Ruled w (core_after w c e x).core (planted_by w v e)
 ruled_step w c v (Fetch t) x world h tied is =
     let u : TaskPart = part_of c.parts t.0 in
-    let at = exists_by (nat_lt t.0 (length c.parts.tasks)) (option_map (fetched w c.parts t.0 u) (place_due w t.0 u u.stage)) x h in
-    let p = got ℕ (fetched w c.parts t.0 u) (place_due w t.0 u u.stage) x at.1 in
+    let at = exists_by (nat_lt t.0 (length c.parts.tasks)) (option_map (cell_fetched w c.parts t.0 u) (place_due w t.0 u u.stage)) x h in
+    let p = got ℕ (cell_fetched w c.parts t.0 u) (place_due w t.0 u u.stage) x at.1 in
     subst (λ (y : Stepped). Ruled w (core_after w c (Fetch t) y).core v) (sym p.2) (rule_fetch w c v t.0 p.0 world is (ltb-true t.0 (length c.parts.tasks) at.0) p.1)
 ruled_step w c v (Mark t) x world h tied is =
     let u : TaskPart = part_of c.parts t.0 in
-    let at = exists_by (nat_lt t.0 (length c.parts.tasks)) (option_map (marked w c.parts t.0 u) (in_hand Marking u.stage)) x h in
-    let p = got Hand (marked w c.parts t.0 u) (in_hand Marking u.stage) x at.1 in
+    let at = exists_by (nat_lt t.0 (length c.parts.tasks)) (option_map (fact_marked w c.parts t.0 u) (in_hand Marking u.stage)) x h in
+    let p = got Hand (fact_marked w c.parts t.0 u) (in_hand Marking u.stage) x at.1 in
     subst (λ (y : Stepped). Ruled w (core_after w c (Mark t) y).core v) (sym p.2) (rule_mark w c v t.0 p.0 is (ltb-true t.0 (length c.parts.tasks) at.0) p.1)
 ruled_step w c v (Lift t) x world h tied is =
     let u : TaskPart = part_of c.parts t.0 in

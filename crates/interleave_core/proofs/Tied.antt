@@ -13,7 +13,7 @@ use Rattle.module_area.specs.declared.places.Place.{Place}
 use Rattle.module_area.proofs.Indices.{and_left}
 use Rattle.cov_base.specs.Meaning.{FactSet, with_fact, is_full, State}
 use Rattle.session_book.specs.Meaning.{task_of, no_task}
-use Rattle.interleave_core.specs.Meaning.{World, TaskPart, Parts, part_of, first_part, plan_in, first_parts, Change, PlaceChange, place_change, sessions_by, change_of, next_place, after_change, Stepped, parts_step, fetched, marked, lifted, done_by, task_done, may_plant, breakpoint_of, changed_cell, changed, change_due, with_cell, with_due, original_under, same_cell, in_hand, hand_at, step_of, place_due, is_awaiting, stage_after, set_of, fact_in}
+use Rattle.interleave_core.specs.Meaning.{World, TaskPart, Parts, part_of, first_part, plan_in, first_parts, Change, PlaceChange, place_change, sessions_by, change_of, next_place, after_change, Stepped, parts_step, cell_fetched, fact_marked, lifted, done_by, task_done, may_plant, breakpoint_of, changed_cell, changed, change_due, with_cell, with_due, original_under, same_cell, in_hand, hand_at, step_of, place_due, is_awaiting, stage_after, set_of, fact_in}
 use Rattle.interleave_core.specs.declared.events.Event.{Event}
 use Rattle.interleave_core.specs.declared.events.Event.TheVariants.{Fetch, Mark, Lift, Do, Plant, Close}
 use Rattle.interleave_core.specs.declared.stage.Due.{Due}
@@ -258,20 +258,20 @@ tied_whole w c s p plan may all t lt =
 pub tied_step : (w : World) (c : Parts) (e : Event) (x : Stepped) → IsPlan (plan_in w) → length c.cells ≡ length w.places → parts_step w c e ≡ Some x → AreTied w c → AreTied w x.parts
 tied_step w c (Fetch t) x plan size h all =
     let u : TaskPart = part_of c t.0 in
-    let at = exists_by (nat_lt t.0 (length c.tasks)) (option_map (fetched w c t.0 u) (place_due w t.0 u u.stage)) x h in
+    let at = exists_by (nat_lt t.0 (length c.tasks)) (option_map (cell_fetched w c t.0 u) (place_due w t.0 u u.stage)) x h in
     let lt : t.0 < length c.tasks = ltb-true t.0 (length c.tasks) at.0 in
-    let p = got ℕ (fetched w c t.0 u) (place_due w t.0 u u.stage) x at.1 in
+    let p = got ℕ (cell_fetched w c t.0 u) (place_due w t.0 u u.stage) x at.1 in
     subst (λ (y : Stepped). AreTied w y.parts) (sym p.2)
-    (all_but w c (fetched w c t.0 u p.0).parts t.0 _ refl lt (tied_stage w c.cells t.0 u u.state (Holding (hand_at w c (is_awaiting u.stage) p.0)) (all t.0 lt)) (λ s l apart. all s l))
+    (all_but w c (cell_fetched w c t.0 u p.0).parts t.0 _ refl lt (tied_stage w c.cells t.0 u u.state (Holding (hand_at w c (is_awaiting u.stage) p.0)) (all t.0 lt)) (λ s l apart. all s l))
 tied_step w c (Mark t) x plan size h all =
     let u : TaskPart = part_of c t.0 in
-    let at = exists_by (nat_lt t.0 (length c.tasks)) (option_map (marked w c t.0 u) (in_hand Marking u.stage)) x h in
+    let at = exists_by (nat_lt t.0 (length c.tasks)) (option_map (fact_marked w c t.0 u) (in_hand Marking u.stage)) x h in
     let lt : t.0 < length c.tasks = ltb-true t.0 (length c.tasks) at.0 in
-    let g = got Hand (marked w c t.0 u) (in_hand Marking u.stage) x at.1 in
+    let g = got Hand (fact_marked w c t.0 u) (in_hand Marking u.stage) x at.1 in
     let found : FactSet = set_of w c (tag_session g.0.cell.tag) g.0.place.0 in
     let due : Due = if is_full (kind_at (plan_in w) g.0.place.0) (with_fact found (fact_in w t.0 u g.0)) then Lifting else Nothing in
     subst (λ (y : Stepped). AreTied w y.parts) (sym g.2)
-    (all_but w c (marked w c t.0 u g.0).parts t.0 (with_due u g.0 due) refl lt (tied_stage w c.cells t.0 u u.state (Holding (record g.0 { due = due })) (all t.0 lt)) (λ s l apart. all s l))
+    (all_but w c (fact_marked w c t.0 u g.0).parts t.0 (with_due u g.0 due) refl lt (tied_stage w c.cells t.0 u u.state (Holding (record g.0 { due = due })) (all t.0 lt)) (λ s l apart. all s l))
 tied_step w c (Lift t) x plan size h all =
     let u : TaskPart = part_of c t.0 in
     let at = exists_by (nat_lt t.0 (length c.tasks)) (option_map (lifted w c t.0 u) (in_hand Lifting u.stage)) x h in

@@ -9,7 +9,7 @@ use Rattle.cov_base.specs.declared.facts.Fact.{Fact}
 use Rattle.module_area.specs.Meaning.{tag_session, word_at}
 use Rattle.module_area.specs.Rule.{window_tag}
 use Rattle.module_area.specs.declared.cells.Cell.{Cell}
-use Rattle.interleave_core.specs.Meaning.{World, TaskPart, part_of, Stepped, parts_step, fetched, marked, lifted, done_by, same_cell, in_hand, place_due, task_done, set_of}
+use Rattle.interleave_core.specs.Meaning.{World, TaskPart, part_of, Stepped, parts_step, cell_fetched, fact_marked, lifted, done_by, same_cell, in_hand, place_due, task_done, set_of}
 use Rattle.interleave_core.specs.CoreState.{CoreState, core_step, core_after, core_from, log_after, with_entry, Item, Met, Gave}
 use Rattle.interleave_core.specs.MeaningOfEvents.{Noted, Answered, in_stage, fetch_by, fetches}
 use Rattle.interleave_core.specs.declared.events.Event.{Event}
@@ -63,16 +63,16 @@ fetch_told w t u cell log true = stage_told w t u log u.stage
 told_step : (w : World) (c : CoreState) (e : Event) (x : Stepped) (t : ℕ) → parts_step w c.parts e ≡ Some x → told ((core_after w c e x).core.logs t) ≡ told (c.logs t) ++ fetch_by w t x.parts e
 told_step w c (Fetch s) x t h =
     let u : TaskPart = part_of c.parts s.0 in
-    let at = exists_by (nat_lt s.0 (length c.parts.tasks)) (option_map (fetched w c.parts s.0 u) (place_due w s.0 u u.stage)) x h in
-    let p = got ℕ (fetched w c.parts s.0 u) (place_due w s.0 u u.stage) x at.1 in
+    let at = exists_by (nat_lt s.0 (length c.parts.tasks)) (option_map (cell_fetched w c.parts s.0 u) (place_due w s.0 u u.stage)) x h in
+    let p = got ℕ (cell_fetched w c.parts s.0 u) (place_due w s.0 u u.stage) x at.1 in
     let shown : x.shown ≡ Fetched (word_at c.parts.cells p.0) = ap (λ (y : Stepped). y.shown) p.2 in
     let v : TaskPart = part_of x.parts t in
     subst (λ (y : Shown). told (if nat_eq s.0 t then log_after w t v y (c.logs t) else c.logs t) ≡ told (c.logs t) ++ (if nat_eq s.0 t then in_stage w t v v.stage else [])) (sym shown)
     (fetch_told w t v (word_at c.parts.cells p.0) (c.logs t) (nat_eq s.0 t))
 told_step w c (Mark s) x t h =
     let u : TaskPart = part_of c.parts s.0 in
-    let at = exists_by (nat_lt s.0 (length c.parts.tasks)) (option_map (marked w c.parts s.0 u) (in_hand Marking u.stage)) x h in
-    let p = got Hand (marked w c.parts s.0 u) (in_hand Marking u.stage) x at.1 in
+    let at = exists_by (nat_lt s.0 (length c.parts.tasks)) (option_map (fact_marked w c.parts s.0 u) (in_hand Marking u.stage)) x h in
+    let p = got Hand (fact_marked w c.parts s.0 u) (in_hand Marking u.stage) x at.1 in
     let found : FactSet = set_of w c.parts (tag_session p.0.cell.tag) p.0.place.0 in
     let shown : x.shown ≡ Marked found = ap (λ (y : Stepped). y.shown) p.2 in
     let v : TaskPart = part_of x.parts t in

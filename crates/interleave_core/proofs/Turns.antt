@@ -13,7 +13,7 @@ use Rattle.module_area.specs.declared.cells.Cell.{Cell}
 use Rattle.module_area.proofs.PlanLemmas.{any_shown}
 use Rattle.s370_exec.specs.Meaning.{call_of}
 use Rattle.interleave_core.proofs.ControlLemmas.{few_places}
-use Rattle.interleave_core.specs.Meaning.{World, TaskPart, plan_in, memory_in, controller_of, Change, change, PlaceChange, place_change, sessions_by, asked, change_of, next_place, executes, change_due}
+use Rattle.interleave_core.specs.Meaning.{World, TaskPart, plan_in, memory_in, controller_of, Change, change, PlaceChange, place_change, sessions_by, change_for, change_of, next_place, will_execute, change_due}
 use Rattle.interleave_core.specs.declared.stage.Stage.{Stage}
 use Rattle.interleave_core.specs.Views.{no_controlled, session_at, turn_number, turn_of, has_window, number_at, tag_at, IsTied, controlled_by}
 
@@ -164,7 +164,7 @@ got_session [] n closes ch h = no_change _ ch h
 got_session (x ∷ xs) zero closes ch h = let same : change closes x ≡ ch = same_Some _ _ h in (ap (λ (c : Change). c.closes) (sym same), ap (λ (c : Change). c.session) (sym same), omega arith)
 got_session (x ∷ xs) (suc n) closes ch h = let r = got_session xs n closes ch h in (r.0, r.1, omega (arith, r.2))
 
-asked_is : (w : World) (t : ℕ) (u : TaskPart) (call : ℕ) (ch : Change) → asked w t u call ≡ Some ch → IsAsked w t u ch
+asked_is : (w : World) (t : ℕ) (u : TaskPart) (call : ℕ) (ch : Change) → change_for w t u call ≡ Some ch → IsAsked w t u ch
 asked_is w t u call ch h = by (nat_eq call (if u.is_open then 5 else 4)) h
   where
     by : (b : Bool) → (if b then option_map (change u.is_open) (slice_get (sessions_by w t) (turn_number u)) else None) ≡ Some ch → IsAsked w t u ch
@@ -186,11 +186,11 @@ next_is (p ∷ ps) ch (suc done) x h = let r = next_is ps ch done x h in (omega 
 
 -- what an instruction asks for
 pub change_asked : (w : World) (t : ℕ) (u : TaskPart) (ch : Change) → change_of w t u ≡ Some ch → IsAsked w t u ch
-change_asked w t u ch h = let call = and_then (asked w t u) (call_of (memory_in w t) u.state) ch h in asked_is w t u call.0 ch call.2
+change_asked w t u ch h = let call = and_then (change_for w t u) (call_of (memory_in w t) u.state) ch h in asked_is w t u call.0 ch call.2
 
 pub due_next : (w : World) (t : ℕ) (u : TaskPart) (stage : Stage) (x : PlaceChange) → change_due w t u stage ≡ Some x → IsNext w t u x
 due_next w t u stage x h =
-    let made = and_then (next_place u.changed) (change_of w t u) x (if_some (executes w t u stage) _ x h) in
+    let made = and_then (next_place u.changed) (change_of w t u) x (if_some (will_execute w t u stage) _ x h) in
     let ch : Change = made.0 in
     let ask : IsAsked w t u ch = change_asked w t u ch made.1 in
     let next = next_is ch.session.places ch u.changed x made.2 in

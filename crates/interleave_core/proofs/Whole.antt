@@ -23,7 +23,7 @@ use Rattle.module_area.proofs.PartyLemmas.{has-append, left-append, right-append
 use Rattle.module_area.proofs.StepLemmas.{or_cases, or_left, or_right, same_fact-same}
 use Rattle.session_book.specs.Meaning.{SessionView, TaskView, session_of, no_session, no_task, is_whole, observes, window_from, window_of, traces_from, session_set}
 use Rattle.brk_table.proofs.PlaceLemmas.{one_begins}
-use Rattle.interleave_core.specs.Meaning.{World, TaskPart, Parts, part_of, budget_in, plan_in, place_at, Stepped, parts_step, fetched, marked, lifted, done_by, may_plant, breakpoint_of, with_cell, with_due, with_stage, original_under, same_cell, in_hand, hand_at, step_of, place_due, is_awaiting, task_done, set_of, fact_in}
+use Rattle.interleave_core.specs.Meaning.{World, TaskPart, Parts, part_of, budget_in, plan_in, place_at, Stepped, parts_step, cell_fetched, fact_marked, lifted, done_by, may_plant, breakpoint_of, with_cell, with_due, with_stage, original_under, same_cell, in_hand, hand_at, step_of, place_due, is_awaiting, task_done, set_of, fact_in}
 use Rattle.interleave_core.specs.World.{IsWorld}
 use Rattle.interleave_core.specs.CoreState.{CoreState, core_start, core_step, core_after, core_from, core_run, log_after, Item, Met, Gave, planted_by, planter_from, first_planter}
 use Rattle.interleave_core.specs.MeaningOfEvents.{alone, IsAlone, Noted, note, noted, fact_at, visits_in_hand, HaveEnded, planted_first}
@@ -121,25 +121,25 @@ plant_entered w c s p x by all = changed_log w (λ n y log. Entered w log) c fal
 open_step : (w : World) (c : CoreState) (v : View) (e : Event) (x : Stepped) → IsWorld w → parts_step w c.parts e ≡ Some x → Sound w c v → Up w c.parts → AllEntered w c → Up w x.parts × AllEntered w (core_after w c e x).core
 open_step w c v (Fetch t) x world h is up all =
     let u : TaskPart = part_of c.parts t.0 in
-    let at = exists_by (nat_lt t.0 (length c.parts.tasks)) (option_map (fetched w c.parts t.0 u) (place_due w t.0 u u.stage)) x h in
+    let at = exists_by (nat_lt t.0 (length c.parts.tasks)) (option_map (cell_fetched w c.parts t.0 u) (place_due w t.0 u u.stage)) x h in
     let lt : t.0 < length c.parts.tasks = ltb-true t.0 (length c.parts.tasks) at.0 in
-    let p = got ℕ (fetched w c.parts t.0 u) (place_due w t.0 u u.stage) x at.1 in
+    let p = got ℕ (cell_fetched w c.parts t.0 u) (place_due w t.0 u u.stage) x at.1 in
     let in_job : t.0 < length w.job.tasks = subst (λ (n : ℕ). t.0 < n) is.ruled.count lt in
     let due = fetch_due w t.0 u (c.logs t.0) u.stage p.0 world in_job (is.ruled.hands t.0 lt) p.1 in
     subst (λ (y : Stepped). Up w y.parts × AllEntered w (core_after w c (Fetch t) y).core) (sym p.2) (
       up,
-      one_log w (λ n y log. Entered w log) c (fetched w c.parts t.0 u p.0).parts t.0 (with_stage u (Holding (hand_at w c.parts (is_awaiting u.stage) p.0))) (Fetched (word_at c.parts.cells p.0)) refl lt
+      one_log w (λ n y log. Entered w log) c (cell_fetched w c.parts t.0 u p.0).parts t.0 (with_stage u (Holding (hand_at w c.parts (is_awaiting u.stage) p.0))) (Fetched (word_at c.parts.cells p.0)) refl lt
           ((λ some. up p.0 due.0 some), all t.0 lt) all,
     )
 open_step w c v (Mark t) x world h is up all =
     let u : TaskPart = part_of c.parts t.0 in
-    let at = exists_by (nat_lt t.0 (length c.parts.tasks)) (option_map (marked w c.parts t.0 u) (in_hand Marking u.stage)) x h in
+    let at = exists_by (nat_lt t.0 (length c.parts.tasks)) (option_map (fact_marked w c.parts t.0 u) (in_hand Marking u.stage)) x h in
     let lt : t.0 < length c.parts.tasks = ltb-true t.0 (length c.parts.tasks) at.0 in
-    let p = got Hand (marked w c.parts t.0 u) (in_hand Marking u.stage) x at.1 in
+    let p = got Hand (fact_marked w c.parts t.0 u) (in_hand Marking u.stage) x at.1 in
     let found : FactSet = set_of w c.parts (tag_session p.0.cell.tag) p.0.place.0 in
     let u2 : TaskPart = with_due u p.0 (if is_full (kind_at (plan_in w) p.0.place.0) (with_fact found (fact_in w t.0 u p.0)) then Lifting else Nothing) in
     subst (λ (y : Stepped). Up w y.parts × AllEntered w (core_after w c (Mark t) y).core) (sym p.2)
-    (up, one_log w (λ n y log. Entered w log) c (marked w c.parts t.0 u p.0).parts t.0 u2 (Marked found) refl lt (log_kept_mark w t.0 u2 found (c.logs t.0) (all t.0 lt)) all)
+    (up, one_log w (λ n y log. Entered w log) c (fact_marked w c.parts t.0 u p.0).parts t.0 u2 (Marked found) refl lt (log_kept_mark w t.0 u2 found (c.logs t.0) (all t.0 lt)) all)
 open_step w c v (Lift t) x world h is up all =
     let u : TaskPart = part_of c.parts t.0 in
     let at = exists_by (nat_lt t.0 (length c.parts.tasks)) (option_map (lifted w c.parts t.0 u) (in_hand Lifting u.stage)) x h in

@@ -96,13 +96,13 @@ abbrev pub change : Bool → ControlledView → Change
 change closes c = record { closes = closes; session = c }
 
 -- SVC 4 opens the next session where none is open, SVC 5 closes the open one
-abbrev pub asked : World → ℕ → TaskPart → ℕ → Option Change
-asked w t u call =
+abbrev pub change_for : World → ℕ → TaskPart → ℕ → Option Change
+change_for w t u call =
     if nat_eq call (if u.is_open then 5 else 4) then option_map (change u.is_open) (slice_get (sessions_by w t) (if u.is_open then u.opened - 1 else u.opened)) else None
 
 -- what the instruction that the task is at does to its sessions
 abbrev pub change_of : World → ℕ → TaskPart → Option Change
-change_of w t u = option_and_then (asked w t u) (call_of (memory_in w t) u.state)
+change_of w t u = option_and_then (change_for w t u) (call_of (memory_in w t) u.state)
 
 -- the planting or the closing of a session at a place
 pub record PlaceChange : Type 0 where
@@ -162,13 +162,13 @@ hand_at w c subject p = record { subject = subject; place = record { 0 = p }; ce
 abbrev pub with_stage : TaskPart → Stage → TaskPart
 with_stage u stage = record u { stage = stage }
 
-abbrev pub with_task : Parts → ℕ → TaskPart → Parts
-with_task c t u = record c { tasks = set c.tasks t u }
+abbrev pub task_replaced : Parts → ℕ → TaskPart → Parts
+task_replaced c t u = record c { tasks = set c.tasks t u }
 
 -- Fetch: the task has in hand the cell as it stands
-abbrev pub fetched : World → Parts → ℕ → TaskPart → ℕ → Stepped
-fetched w c t u p = record {
-  parts = with_task c t (with_stage u (Holding (hand_at w c (is_awaiting u.stage) p)));
+abbrev pub cell_fetched : World → Parts → ℕ → TaskPart → ℕ → Stepped
+cell_fetched w c t u p = record {
+  parts = task_replaced c t (with_stage u (Holding (hand_at w c (is_awaiting u.stage) p)));
   shown = Fetched (word_at c.cells p);
 }
 
@@ -183,13 +183,13 @@ abbrev pub with_due : TaskPart → Hand → Due → TaskPart
 with_due u h due = with_stage u (Holding (record h { due = due }))
 
 -- Mark: the fact joins the set; a set that is full then is followed by a Lift
-abbrev pub marked : World → Parts → ℕ → TaskPart → Hand → Stepped
-marked w c t u h =
+abbrev pub fact_marked : World → Parts → ℕ → TaskPart → Hand → Stepped
+fact_marked w c t u h =
     let s = tag_session h.cell.tag in
     let found = set_of w c s h.place.0 in
     let facts = with_fact found (fact_in w t u h) in
     let with_facts = record c { sets = set c.sets (index_of (length w.places) s h.place.0) facts } in
-    record { parts = with_task with_facts t (with_due u h (if is_full (kind_at (plan_in w) h.place.0) facts then Lifting else Nothing)); shown = Marked found }
+    record { parts = task_replaced with_facts t (with_due u h (if is_full (kind_at (plan_in w) h.place.0) facts then Lifting else Nothing)); shown = Marked found }
 
 abbrev pub same_due : Due → Due → Bool
 same_due Marking Marking = true
@@ -216,7 +216,7 @@ abbrev pub lifted : World → Parts → ℕ → TaskPart → Hand → Stepped
 lifted w c t u h =
     let taken = same_cell (word_at c.cells h.place.0) h.cell in
     record {
-      parts = with_task (if taken then with_cell c h.place.0 (original_under w h.place.0 h.cell) else c) t (with_due u h Nothing);
+      parts = task_replaced (if taken then with_cell c h.place.0 (original_under w h.place.0 h.cell) else c) t (with_due u h Nothing);
       shown = Lifted taken;
     }
 
@@ -250,29 +250,29 @@ task_goes_on w t u (Holding h) = if same_due h.due Nothing then Some (if h.subje
 task_goes_on w t u stage = None
 
 -- whether that Do executes the instruction that the task is at
-abbrev pub executes : World → ℕ → TaskPart → Stage → Bool
-executes w t u Ready =
+abbrev pub will_execute : World → ℕ → TaskPart → Stage → Bool
+will_execute w t u Ready =
     not (has_returned u.state) && (not (is_spent w t u.state) && (is_none (place_at w u.state.machine.cpu.ia) && is_none (subject_place w (step_of w t u).visits)))
-executes w t u (Holding h) = same_due h.due Nothing && (h.subject || is_none (subject_place w (step_of w t u).visits))
-executes w t u stage = false
+will_execute w t u (Holding h) = same_due h.due Nothing && (h.subject || is_none (subject_place w (step_of w t u).visits))
+will_execute w t u stage = false
 
 -- the place at which its session is to be planted or closed before
 abbrev pub change_due : World → ℕ → TaskPart → Stage → Option PlaceChange
-change_due w t u stage = if executes w t u stage then option_and_then (next_place u.changed) (change_of w t u) else None
+change_due w t u stage = if will_execute w t u stage then option_and_then (next_place u.changed) (change_of w t u) else None
 
 -- the task after a Do, which is possible where no other event of the task is
 abbrev pub task_done : World → ℕ → TaskPart → Stage → Option TaskPart
 task_done w t u stage = if is_none (change_due w t u stage) then task_goes_on w t u stage else None
 
 abbrev pub done_by : Parts → ℕ → TaskPart → Stepped
-done_by c t u = record { parts = with_task c t u; shown = Done }
+done_by c t u = record { parts = task_replaced c t u; shown = Done }
 
 abbrev pub breakpoint_of : ℕ → Cell
 breakpoint_of s = record { tag = 2 * s - 1; half = breakpoint }
 
 -- an event of a task that exists
-abbrev pub of_task : Parts → ℕ → (TaskPart → Option Stepped) → Option Stepped
-of_task c t step = if nat_lt t (length c.tasks) then step (part_of c t) else None
+abbrev pub of_existing : Parts → ℕ → (TaskPart → Option Stepped) → Option Stepped
+of_existing c t step = if nat_lt t (length c.tasks) then step (part_of c t) else None
 
 abbrev pub changed_cell : World → PlaceChange → Cell
 changed_cell w x = if x.closes then record { tag = 2 * x.session; half = original_at (plan_in w) x.place.0 } else breakpoint_of x.session
@@ -284,7 +284,7 @@ may_change c closes s p x =
 
 abbrev pub changed : World → Parts → ℕ → TaskPart → PlaceChange → Stepped
 changed w c t u x = record {
-  parts = with_task (with_cell c x.place.0 (changed_cell w x)) t (record u { changed = u.changed + 1 });
+  parts = task_replaced (with_cell c x.place.0 (changed_cell w x)) t (record u { changed = u.changed + 1 });
   shown = if x.closes then Closed else Planted;
 }
 
@@ -294,7 +294,7 @@ change_step w c closes s p t u = option_and_then (λ x. if may_change c closes s
 
 abbrev pub by_controller : World → Parts → Bool → ℕ → ℕ → Option Stepped → Option ℕ → Option Stepped
 by_controller w c closes s p whole None = whole
-by_controller w c closes s p whole (Some t) = of_task c t (change_step w c closes s p t)
+by_controller w c closes s p whole (Some t) = of_existing c t (change_step w c closes s p t)
 
 -- a place under tag 0, by its whole session
 abbrev pub may_plant : World → Parts → ℕ → ℕ → Bool
@@ -305,17 +305,17 @@ whole_step w c s p = if may_plant w c s p then Some (record { parts = with_cell 
 
 -- what the event makes of what is stored; none where it isn't possible
 abbrev pub parts_step : World → Parts → Event → Option Stepped
-parts_step w c (Fetch t) = of_task c t.0 (λ (u : TaskPart). option_map (fetched w c t.0 u) (place_due w t.0 u u.stage))
-parts_step w c (Mark t) = of_task c t.0 (λ (u : TaskPart). option_map (marked w c t.0 u) (in_hand Marking u.stage))
-parts_step w c (Lift t) = of_task c t.0 (λ (u : TaskPart). option_map (lifted w c t.0 u) (in_hand Lifting u.stage))
-parts_step w c (Do t) = of_task c t.0 (λ (u : TaskPart). option_map (done_by c t.0) (task_done w t.0 u u.stage))
+parts_step w c (Fetch t) = of_existing c t.0 (λ (u : TaskPart). option_map (cell_fetched w c t.0 u) (place_due w t.0 u u.stage))
+parts_step w c (Mark t) = of_existing c t.0 (λ (u : TaskPart). option_map (fact_marked w c t.0 u) (in_hand Marking u.stage))
+parts_step w c (Lift t) = of_existing c t.0 (λ (u : TaskPart). option_map (lifted w c t.0 u) (in_hand Lifting u.stage))
+parts_step w c (Do t) = of_existing c t.0 (λ (u : TaskPart). option_map (done_by c t.0) (task_done w t.0 u u.stage))
 parts_step w c (Plant s p) = by_controller w c false s.0 p.0 (whole_step w c s.0 p.0) (controller_of w s.0)
 parts_step w c (Close s p) = by_controller w c true s.0 p.0 None (controller_of w s.0)
 
 -- what is stored after the events, one after the other; none where one of them isn't possible
-abbrev pub run_on : World → Parts → List Event → Option Parts
-run_on w c [] = Some c
-run_on w c (e ∷ events) = option_and_then (λ (x : Stepped). run_on w x.parts events) (parts_step w c e)
+abbrev pub events_on : World → Parts → List Event → Option Parts
+events_on w c [] = Some c
+events_on w c (e ∷ events) = option_and_then (λ (x : Stepped). events_on w x.parts events) (parts_step w c e)
 
 -- What a core tells of its tasks, and the event that is due of one.
 

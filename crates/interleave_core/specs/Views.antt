@@ -12,7 +12,7 @@ use Rattle.brk_table.specs.Places.{AreSeen, ArePlaces, IsIn}
 use Rattle.space_map.specs.Space.{SpaceView, memory_of_space}
 use Rattle.session_book.specs.JobView.{IsJob}
 use Rattle.session_book.specs.Meaning.{task_of}
-use Rattle.interleave_core.specs.Meaning.{World, TaskPart, Parts, part_of, first_part, plan_in, memory_in, budget_in, Change, PlaceChange, sessions_by, change_of, executes, next_place, after_change, Stepped, of_task, change_step, step_of, subject_place, is_spent, in_hand}
+use Rattle.interleave_core.specs.Meaning.{World, TaskPart, Parts, part_of, first_part, plan_in, memory_in, budget_in, Change, PlaceChange, sessions_by, change_of, will_execute, next_place, after_change, Stepped, of_existing, change_step, step_of, subject_place, is_spent, in_hand}
 use Rattle.interleave_core.specs.declared.control.Change.{Change as Found}
 use Rattle.interleave_core.specs.declared.control.PlaceChange.{PlaceChange as PlaceFound}
 use Rattle.interleave_core.specs.declared.events.Shown.{Shown}
@@ -53,7 +53,7 @@ closed_of w s p = record { tag = 2 * s; half = original_at (plan_in w) p }
 
 -- of this change the place at which a session is to be planted or closed before the instruction
 abbrev pub due_of : World → ℕ → TaskPart → Stage → Option Change → Option PlaceChange
-due_of w t u stage change = if executes w t u stage then option_and_then (next_place u.changed) change else None
+due_of w t u stage change = if will_execute w t u stage then option_and_then (next_place u.changed) change else None
 
 -- whether a change closes the session, where there is one
 abbrev pub closing : Option Change → Option Bool
@@ -184,7 +184,7 @@ Leaves step parts shown = step ≡ Some (record { parts = parts; shown = shown }
 
 -- the planting or closing of session s at place p by task t
 abbrev pub change_by : CoreView → Bool → ℕ → ℕ → ℕ → Option Stepped
-change_by c closes s p t = of_task c.parts t (change_step c.world c.parts closes s p t)
+change_by c closes s p t = of_existing c.parts t (change_step c.world c.parts closes s p t)
 
 pub record IsCore (w : World) (cells : List Cell) (sets : List FactSet) (plan : PlanView) (tasks : List RunningView) : Type 0 where
   pub job : IsJob w.job

@@ -8,7 +8,7 @@ ghost use Rattle.session_book.specs.Meaning.{task_of};
 ghost use Rattle.s370_exec.specs.Meaning.{has_returned, visit_of};
 ghost use Rattle.interleave_core.specs.declared.stage.Stage.TheVariants.{Ready, Holding};
 ghost use Rattle.cov_base.specs.declared.limits.TheConstants.{SESSION_LIMIT, PLACE_LIMIT};
-ghost use Rattle.interleave_core.specs.Meaning.{World, first_part, place_at, Change as Told, asked, change_of, place_due, subject_place, step_of, stage_after, is_awaiting, with_stage, in_hand, executed, instruction_executed, ready_done, task_goes_on, task_done, executes, change_due, stage_event, change_or_do, ending_of};
+ghost use Rattle.interleave_core.specs.Meaning.{World, first_part, place_at, Change as Told, change_for, change_of, place_due, subject_place, step_of, stage_after, is_awaiting, with_stage, in_hand, executed, instruction_executed, ready_done, task_goes_on, task_done, will_execute, change_due, stage_event, change_or_do, ending_of};
 ghost use Rattle.interleave_core.specs.World.{world_of};
 ghost use Rattle.interleave_core.specs.Quiet.{has_unmarked};
 ghost use Rattle.interleave_core.specs.Views.{due_of, IsRunning, InWorlds, InPlaces, InPlan, ByPlan, Doing, Gives, DiffersInSessions, numbered, seen, seen_at, closing, with_part, changed_by};
@@ -188,7 +188,7 @@ impl<'a> Running<'a> {
 
     /// The opening of the task's next session, where none is open.
     fn opening<'p>(&self, t: TaskNo, plan: &'p Plan) -> Option<Change<'p>>
-        ensures value { ByPlan plan.now self.now (λ w u. seen result ≡ asked w t.0 u 4) }
+        ensures value { ByPlan plan.now self.now (λ w u. seen result ≡ change_for w t.0 u 4) }
         ensures room { IsSome result → self.now.part.opened < SESSION_LIMIT }
     {
         if self.is_open {
@@ -206,7 +206,7 @@ impl<'a> Running<'a> {
     /// The closing of its open session.
     fn closing<'p>(&self, t: TaskNo, plan: &'p Plan) -> Option<Change<'p>>
         ensures closes { IfSome result (λ ch. ch.closes ≡ true) }
-        ensures value { ByPlan plan.now self.now (λ w u. seen result ≡ asked w t.0 u 5) }
+        ensures value { ByPlan plan.now self.now (λ w u. seen result ≡ change_for w t.0 u 5) }
     {
         if !self.is_open {
             return None;
@@ -237,7 +237,7 @@ impl<'a> Running<'a> {
 
     /// Whether a Do executes the instruction that it is at.
     fn executes(&self, tables: &Tables) -> bool
-        ensures { InPlaces tables.now self.now (λ w t u. result ≡ executes w t u u.stage) }
+        ensures { InPlaces tables.now self.now (λ w t u. result ≡ will_execute w t u u.stage) }
     {
         match self.stage {
             Stage::Ready => !self.has_returned()

@@ -12,7 +12,7 @@ use Rattle.session_book.specs.JobView.{IsJob, IsTask, IsSession, IsListing, AreP
 use Rattle.job_gen.specs.declared.instruction.Instruction.{Instruction}
 use Rattle.job_gen.specs.declared.instruction.Operation.{Operation}
 use Rattle.job_gen.specs.declared.instruction.Operation.TheVariants.{La, Ar, Ltr, Bc, Lcr, St, Bct, Br}
-use Rattle.job_gen.specs.Meaning.{object, code_from, name_of, groups, object_text, number_text, plain_line, lines_from, heading, listing_of, task_name, trial_task, trial_session, trial_code, trial_module, trial_job}
+use Rattle.job_gen.specs.Meaning.{object, code_from, name_of, groups, object_text, number_text, plain_line, statement_lines, heading, made_listing, task_name, trial_task, trial_session, trial_code, trial_module, trial_job}
 use Rattle.job_gen.proofs.CodeLemmas.{code_size, code_some}
 use Rattle.job_gen.proofs.LineLemmas.{second_group}
 
@@ -50,13 +50,13 @@ short_line at n i h =
     let c = short_name i.operation in
     simp length-append (omega arith)
 
-short_lines : (is : List Instruction) (at n : ℕ) → n + length is ≤ 2 ^ 32 → All (λ l. length l ≤ 150) (lines_from at n is)
+short_lines : (is : List Instruction) (at n : ℕ) → n + length is ≤ 2 ^ 32 → All (λ l. length l ≤ 150) (statement_lines at n is)
 short_lines [] at n h = All-nil _
-short_lines (i ∷ is) at n h = All-cons (λ l. length l ≤ 150) (plain_line at n i) (lines_from (at + length (object i)) (n + 1) is) (short_line at n i (omega arith)) (short_lines is (at + length (object i)) (n + 1) (omega arith))
+short_lines (i ∷ is) at n h = All-cons (λ l. length l ≤ 150) (plain_line at n i) (statement_lines (at + length (object i)) (n + 1) is) (short_line at n i (omega arith)) (short_lines is (at + length (object i)) (n + 1) (omega arith))
 
-short_listing : (code : List Instruction) → length code ≤ 2000 → All (λ l. length l ≤ 150) (listing_of code)
-unfolding listing_of
-short_listing code h = All-cons (λ l. length l ≤ 150) heading (lines_from 0 1 code) (omega arith) (short_lines code 0 1 (omega arith))
+short_listing : (code : List Instruction) → length code ≤ 2000 → All (λ l. length l ≤ 150) (made_listing code)
+unfolding made_listing
+short_listing code h = All-cons (λ l. length l ≤ 150) heading (statement_lines 0 1 code) (omega arith) (short_lines code 0 1 (omega arith))
 
 same_number : (k l : ℕ) → task_name k ≡ task_name l → k ≡ l
 same_number k l e =
@@ -127,7 +127,7 @@ trial_is_job number tasks most = record {
   images = record { each = one IsImage (trial_module number) (module_is number); apart = alone AreClear (trial_module number) };
   sizes = one (λ (i : ImageView). length i.bytes ≤ 262144) (trial_module number) (module_fits number);
   modules = omega arith;
-  lines = one IsListing (Some (listing_of (trial_code number))) (short_listing (trial_code number) (trial_code_most number));
+  lines = one IsListing (Some (made_listing (trial_code number))) (short_listing (trial_code number) (trial_code_most number));
   phases = omega arith;
   sessions = omega arith;
   tasks = omega (arith, length-map-range_with_len trial_task 1 tasks);

@@ -14,7 +14,7 @@ use Rattle.cov_base.specs.Meaning.{length_of}
 use Rattle.listing_lines.specs.declared.columns.Columns.{Columns}
 use Rattle.listing_lines.specs.declared.columns.Width.TheVariants.{Narrow}
 use Rattle.listing_lines.specs.Meaning.{columns_of, column}
-use Rattle.listing_reader.specs.Meaning.{all_below, fits_groups, are_blank, is_blank, is_blank_at, number_in, location_of, byte_in, code_in, are_groups, object_of, skip_blanks, run_of, has_mnemonic, is_instruction, line_of}
+use Rattle.listing_reader.specs.Meaning.{all_below, fits_groups, are_blank, is_blank, is_blank_at, number_in, column_location, byte_in, code_in, are_groups, object_of, skip_blanks, word_run, has_mnemonic, is_instruction, line_of}
 use Rattle.listing_reader.proofs.Digits.{all_below_false, number_in_more, byte_in_two}
 use Rattle.listing_reader.specs.declared.lines.Line.TheVariants as says
 use Rattle.s370_decode.specs.Meaning.{mnemonics, is_mnemonic}
@@ -115,7 +115,7 @@ source_blank : (at n : ℕ) (i : Instruction) → n < 100000 → column (plain_l
 source_blank at n i h =
     column_is (plain_line at n i) 40 ∙ (sym (get_or-drop 40 (plain_line at n i) 0 32) ∙ ap (λ (xs : List ℕ). get_or xs 0 32) (source_is at n i h))
 
-mnemonic_is : (o : Operation) → is_mnemonic (map to_ascii_uppercase (run_of (skip_blanks (replicate 9 32 ++ name_of o)))) ≡ true
+mnemonic_is : (o : Operation) → is_mnemonic (map to_ascii_uppercase (word_run (skip_blanks (replicate 9 32 ++ name_of o)))) ≡ true
 unfolding is_mnemonic mnemonics
 mnemonic_is La = refl
 mnemonic_is Ar = refl
@@ -130,7 +130,7 @@ has_name : (at n : ℕ) (i : Instruction) → n < 100000 → has_mnemonic narrow
 unfolding has_mnemonic
 has_name at n i h = rw (source_blank at n i h, source_is at n i h) (mnemonic_is i.operation)
 
-located : (at n : ℕ) (i : Instruction) → at < 16777216 → location_of narrow (plain_line at n i) 0 ≡ Some at
+located : (at n : ℕ) (i : Instruction) → at < 16777216 → column_location narrow (plain_line at n i) 0 ≡ Some at
 located at n i h =
     let line : plain_line at n i ≡ hex_digits 6 at ++ (32 ∷ object_text i ++ number_text n ++ 32 ∷ (replicate 9 32 ++ name_of i.operation)) = line_parts at n i ∙ append_assoc (hex_digits 6 at) (32 ∷ object_text i ++ number_text n) (32 ∷ (replicate 9 32 ++ name_of i.operation)) in
     rw line (number_behind [] (32 ∷ object_text i ++ number_text n ++ 32 ∷ (replicate 9 32 ++ name_of i.operation)) 6 at h)

@@ -18,7 +18,7 @@ use Rattle.listing_reader.specs.declared.lines.Line.TheVariants as says
 use Rattle.brk_table.specs.Meaning.{is_code, shares, module_code, fault_by, first_fault}
 use Rattle.s370_decode.specs.Meaning.{first_half}
 use Rattle.s370_decode.specs.declared.code.Code.{Code}
-use Rattle.job_gen.specs.Meaning.{object, short, long, test_block, drawn, next, kind, block_of, block, bytes_of, code_from, lines_from, heading, listing_of, trial_code, trial_module}
+use Rattle.job_gen.specs.Meaning.{object, short, long_form, test_block, drawn, next, kind, block_of, block, code_bytes, code_from, statement_lines, heading, made_listing, trial_code, trial_module}
 use Rattle.job_gen.specs.declared.instruction.Instruction.{Instruction}
 use Rattle.job_gen.specs.declared.instruction.Operation.{Operation}
 use Rattle.job_gen.specs.declared.instruction.Operation.TheVariants.{La, Ar, Ltr, Bc, Lcr, St, Bct, Br}
@@ -51,7 +51,7 @@ size_two first h k = grind (arith, nat_tests)
 free_one : (o : Operation) (first : ℕ) → first < 16384 → first ≢ breakpoint → IsFree (short o first)
 free_one o first h other = record { sound = record { first = omega arith; second = tt; size = rw (size_one first h) refl }; free = other }
 
-free_two : (o : Operation) (first half : ℕ) → half < 65536 → 16384 ≤ first → first < 49152 → IsFree (long o first half)
+free_two : (o : Operation) (first half : ℕ) → half < 65536 → 16384 ≤ first → first < 49152 → IsFree (long_form o first half)
 free_two o first half small from to =
     record { sound = record { first = omega arith; second = small; size = rw (size_two first from to) refl }; free = λ q. absurd (omega (arith, q)) }
 
@@ -81,10 +81,10 @@ abbrev code_lines : ℕ → List Instruction → List Line
 code_lines at [] = []
 code_lines at (i ∷ is) = says.Code at (code_of i) ∷ code_lines (at + length (object i)) is
 
-lines_are : (earlier : List Line) (is : List Instruction) (at n : ℕ) → at + length (bytes_of is) ≤ 16777215 → n + length is ≤ 100000 → AreFree is → lines_behind earlier narrow 0 (lines_from at n is) ≡ Some (earlier ++ code_lines at is)
+lines_are : (earlier : List Line) (is : List Instruction) (at n : ℕ) → at + length (code_bytes is) ≤ 16777215 → n + length is ≤ 100000 → AreFree is → lines_behind earlier narrow 0 (statement_lines at n is) ≡ Some (earlier ++ code_lines at is)
 lines_are earlier [] at n h k p = ap (λ ls. Some ls) (sym (append-nil earlier))
 lines_are earlier (i ∷ is) at n h k p =
-    let size : length (bytes_of (i ∷ is)) ≡ length (object i) + length (bytes_of is) = length-append (object i) (bytes_of is) in
+    let size : length (code_bytes (i ∷ is)) ≡ length (object i) + length (code_bytes is) = length-append (object i) (code_bytes is) in
     let line : Line = says.Code at (code_of i) in
     let later = lines_are (earlier ++ line ∷ []) is (at + length (object i)) (n + 1) (omega arith) (omega arith) p.1 in
     rw (line_is at n i (omega arith) (omega arith) p.0.sound) (later ∙ ap (λ ls. Some ls) (append_assoc earlier (line ∷ []) (code_lines (at + length (object i)) is)))
@@ -98,9 +98,9 @@ heading_first lines =
     let some : nat_lt 0 (suc (length lines)) ≡ true = grind (arith, nat_tests) in
     rw (heading_is, some, heading_is) refl
 
-listing_is : (code : List Instruction) → length (bytes_of code) ≤ 16777215 → length code ≤ 2000 → AreFree code → reader.listing_of (listing_of code) ≡ Some (Text ∷ code_lines 0 code)
-unfolding listing_of
-listing_is code h k p = rw (heading_first (lines_from 0 1 code)) (lines_are (Text ∷ []) code 0 1 (omega arith) (omega arith) p)
+listing_is : (code : List Instruction) → length (code_bytes code) ≤ 16777215 → length code ≤ 2000 → AreFree code → reader.listing_of (made_listing code) ≡ Some (Text ∷ code_lines 0 code)
+unfolding made_listing
+listing_is code h k p = rw (heading_first (statement_lines 0 1 code)) (lines_are (Text ∷ []) code 0 1 (omega arith) (omega arith) p)
 
 -- ---- the module
 
@@ -164,31 +164,31 @@ code_free i h = λ e. h (sym (halves i.first) ∙ e)
 
 -- code behind other code, whose lines came before
 none_first : (is : List Instruction) (room : ℕ) (before : List ℕ) (earlier : List Line) → AreFree is → AreBefore (length before) earlier → length before % 2 ≡ 0 → length earlier + length is ≤ room →
-    first_fault (before ++ bytes_of is) room earlier (code_lines (length before) is) ≡ None
+    first_fault (before ++ code_bytes is) room earlier (code_lines (length before) is) ≡ None
 none_first [] room before earlier p b even fits = refl
 none_first (i ∷ is) room before earlier p b even fits =
     let code : Code = code_of i in
     let at : ℕ = length before in
-    let bytes : List ℕ = before ++ (object i ++ bytes_of is) in
+    let bytes : List ℕ = before ++ (object i ++ code_bytes is) in
     let count = count_by-le-length is_code earlier in
-    let size : length bytes ≡ at + (length (object i) + length (bytes_of is)) = length-append before (object i ++ bytes_of is) ∙ ap (λ n. at + n) (length-append (object i) (bytes_of is)) in
+    let size : length bytes ≡ at + (length (object i) + length (code_bytes is)) = length-append before (object i ++ code_bytes is) ∙ ap (λ n. at + n) (length-append (object i) (code_bytes is)) in
     let here : fault_by bytes room false (count_by is_code earlier) (length earlier + 1) at code ≡ None =
-    no_fault bytes room (count_by is_code earlier) (length earlier + 1) at code even (omega arith) (omega arith) (code_free i p.0.free) (sym (module_has before (bytes_of is) i)) in
+    no_fault bytes room (count_by is_code earlier) (length earlier + 1) at code even (omega arith) (omega arith) (code_free i p.0.free) (sym (module_has before (code_bytes is) i)) in
     let next : at + length (object i) ≡ length (before ++ object i) = sym (length-append before (object i)) in
-    let whole : bytes ≡ (before ++ object i) ++ bytes_of is = sym (append_assoc before (object i) (bytes_of is)) in
+    let whole : bytes ≡ (before ++ object i) ++ code_bytes is = sym (append_assoc before (object i) (code_bytes is)) in
     let later = none_first is room (before ++ object i) (earlier ++ says.Code at code ∷ []) p.1
     (subst (λ n. AreBefore n (earlier ++ says.Code at code ∷ [])) next (before_more at (length (object i)) code earlier b refl))
     (omega (arith, even_size i, next)) (omega (arith, length-append earlier (says.Code at code ∷ []))) in
     let more : List Line = earlier ++ says.Code at code ∷ [] in
     let there : first_fault bytes room more (code_lines (at + length (object i)) is) ≡ None =
-    subst (λ ys. first_fault ys room more (code_lines (at + length (object i)) is) ≡ None) (sym whole) (subst (λ n. first_fault ((before ++ object i) ++ bytes_of is) room more (code_lines n is) ≡ None) (sym next) later) in
+    subst (λ ys. first_fault ys room more (code_lines (at + length (object i)) is) ≡ None) (sym whole) (subst (λ n. first_fault ((before ++ object i) ++ code_bytes is) room more (code_lines n is) ≡ None) (sym next) later) in
     rw (none_shared at code earlier b, here) there
 
 -- what the listing of a generated module says
 abbrev pub trial_lines : ℕ → List Line
 trial_lines number = Text ∷ code_lines 0 (trial_code number)
 
-pub trial_listing : (number : ℕ) → reader.listing_of (listing_of (trial_code number)) ≡ Some (trial_lines number)
+pub trial_listing : (number : ℕ) → reader.listing_of (made_listing (trial_code number)) ≡ Some (trial_lines number)
 unfolding trial_code
 trial_listing number =
     let size = code_size 400 number 0 in
@@ -200,11 +200,11 @@ trial_matches number =
     let most = (code_size 400 number 0).most in
     none_first (code_from 400 number 0) 65536 [] (Text ∷ []) (free_code 400 number 0 (omega arith)) tt refl (omega (arith, most))
 
-length-lines : (is : List Instruction) (at n : ℕ) → length (lines_from at n is) ≡ length is
+length-lines : (is : List Instruction) (at n : ℕ) → length (statement_lines at n is) ≡ length is
 length-lines [] at n = refl
 length-lines (i ∷ is) at n = ap (λ k. suc k) (length-lines is (at + length (object i)) (n + 1))
 
 -- a heading, and a line for each instruction
-pub trial_listing_size : (number : ℕ) → length (listing_of (trial_code number)) ≤ 1203
-unfolding trial_code listing_of
+pub trial_listing_size : (number : ℕ) → length (made_listing (trial_code number)) ≤ 1203
+unfolding trial_code made_listing
 trial_listing_size number = omega (arith, length-lines (code_from 400 number 0) 0 1, (code_size 400 number 0).most)

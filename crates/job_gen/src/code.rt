@@ -1,6 +1,6 @@
 //! The code of a generated module, drawn block by block.
 ghost use Rattle.std.specs.Prelude.{◌≡◌, ◌+◌, ◌*◌, ◌≤◌, ◌<◌, ◌++◌, length, IfOk};
-ghost use Rattle.job_gen.specs.Meaning.{next, drawn, test_block, block, after_block, bytes_of, code_from};
+ghost use Rattle.job_gen.specs.Meaning.{next, drawn, test_block, block, after_block, code_bytes, code_from};
 
 use crate::instruction::{Instruction, Operation};
 use cov_base::NoMemory;
@@ -54,7 +54,7 @@ fn put_test(code: &mut Vec<Instruction>, mask: u16, behind: u16) -> Result<(), N
 fn put_block(code: &mut Vec<Instruction>, draws: &mut Draws, at: u16) -> Result<u16, NoMemory>
     requires { at ≤ 4000 }
     ensures code { IfOk result (λ _. code.new.items ≡ code.old.items ++ block draws.old.state at) }
-    ensures at { IfOk result (λ n. n ≡ at + length (bytes_of (block draws.old.state at))) }
+    ensures at { IfOk result (λ n. n ≡ at + length (code_bytes (block draws.old.state at))) }
     ensures state { IfOk result (λ _. draws.new.state ≡ after_block draws.old.state) }
 {
     match draws.draw(4) {

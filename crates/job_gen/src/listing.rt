@@ -1,7 +1,7 @@
 //! The bytes and the listing of a generated module.
 ghost use Rattle.std.specs.Prelude.{◌≡◌, ◌+◌, ◌-◌, ◌≤◌, ◌<◌, ◌++◌, length, replicate, IfOk};
 ghost use Rattle.arrayvec.specs.ArrayVec.{array_vec_len};
-ghost use Rattle.job_gen.specs.Meaning.{bytes_of, object, name_of, object_text, number_text, plain_line, listing_of, heading};
+ghost use Rattle.job_gen.specs.Meaning.{code_bytes, object, name_of, object_text, number_text, plain_line, made_listing, heading};
 
 use crate::instruction::{Instruction, Operation};
 use annotator::text::{add_hex, add_number, add_text};
@@ -12,7 +12,7 @@ use std::alloc::Global;
 
 /// The bytes of the code.
 pub(crate) fn bytes_of(alloc: Global, code: &[Instruction]) -> Result<Vec<u8>, NoMemory>
-    ensures { IfOk result (λ v. v.items ≡ bytes_of code.now) }
+    ensures { IfOk result (λ v. v.items ≡ code_bytes code.now) }
 {
     let mut bytes = Vec::new(alloc);
     for instruction in code {
@@ -111,7 +111,7 @@ fn length_of(instruction: &Instruction) -> u32
 /// The heading and the lines of the code, which has at most 2,000 instructions.
 pub(crate) fn listing_of(alloc: Global, code: &[Instruction]) -> Result<ListingLines, NoMemory>
     requires { length code.now ≤ 2000 }
-    ensures { IfOk result (λ l. l ≡ listing_of code.now) }
+    ensures { IfOk result (λ l. l ≡ made_listing code.now) }
 {
     let mut lines = ListingLines::new(alloc);
     lines.push(HEADING)?;

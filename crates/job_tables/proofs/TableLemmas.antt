@@ -20,7 +20,7 @@ use Rattle.report_text.specs.Conditions.{HasFewLines}
 use Rattle.brk_table.specs.declared.faults.BuildFault.{BuildFault}
 use Rattle.brk_table.specs.declared.faults.BuildFault.TheVariants as fault
 use Rattle.session_book.specs.Meaning.{JobView, no_module}
-use Rattle.job_tables.specs.Meaning.{build_fault, fault_from, job_fault, listing_fault, places_in, AreTablesFrom, IsTableOf as IsModuleTable}
+use Rattle.job_tables.specs.Meaning.{build_fault, fault_from, job_fault, listing_fault, code_line_count, AreTablesFrom, IsTableOf as IsModuleTable}
 use Rattle.job_tables.specs.Faults.{IsFaultOf}
 use Rattle.job_tables.specs.Tables.{IsReadyJob}
 
@@ -53,7 +53,7 @@ length-places_push (u ∷ us) t = omega (arith, length-append {A = Place} u.plac
 
 -- module m's table is added
 pub tables_more : (j : JobView) (m room : ℕ) (tables : List TableView) (image : ImageView) (texts : List (List ℕ)) (t : TableView) → drop m j.images ≡ image ∷ drop (m + 1) j.images → drop m j.listings ≡ Some texts ∷ drop (m + 1) j.listings →
-    m < length j.images → listing_fault image room texts ≡ None → IsModuleTable m image texts t → HasOwnPlaces m image t → length t.places ≡ places_in (listing_of texts) → length t.places ≤ room →
+    m < length j.images → listing_fault image room texts ≡ None → IsModuleTable m image texts t → HasOwnPlaces m image t → length t.places ≡ code_line_count (listing_of texts) → length t.places ≤ room →
     TablesBefore j m room tables → TablesBefore j (m + 1) (room - length t.places) (tables ++ t ∷ [])
 tables_more j m room tables image texts t e l here none is own count fits p =
     let at : m + 0 ≡ m = omega arith in

@@ -16,13 +16,13 @@ use Rattle.job_tables.specs.declared.faults.TablesFault.TheVariants as first
 -- The first fault of a job's listings.
 
 -- where a line's instruction stands in its module
-abbrev pub location_of : Line → ℕ
-location_of Text = 0
-location_of (says.Code loc code) = loc
+abbrev pub line_location : Line → ℕ
+line_location Text = 0
+line_location (says.Code loc code) = loc
 
 -- where that of a mismatch stands
 abbrev pub location_in : List Line → BuildFault → ℕ
-location_in lines (build.Mismatch n listing module') = location_of (get_or lines (n - 1) Text)
+location_in lines (build.Mismatch n listing module') = line_location (get_or lines (n - 1) Text)
 location_in lines e = 0
 
 -- of the lines of a module's listing
@@ -35,9 +35,9 @@ abbrev pub listing_fault : ImageView → ℕ → List (List ℕ) → Option Tabl
 listing_fault image room texts = option_or (option_map (first.List image.name) (fault_of texts))
     (option_and_then (λ (lines : List Line). option_map (build_fault image.name lines) (first_fault image.bytes room [] lines)) (listing_of texts))
 
-abbrev pub places_in : Option (List Line) → ℕ
-places_in None = 0
-places_in (Some lines) = count_by is_code lines
+abbrev pub code_line_count : Option (List Line) → ℕ
+code_line_count None = 0
+code_line_count (Some lines) = count_by is_code lines
 
 -- of the listings of these modules
 abbrev pub fault_from : ℕ → List ImageView → List (Option (List (List ℕ))) → Option TablesFault
@@ -45,7 +45,7 @@ fault_from room [] listings = None
 fault_from room (image ∷ images) [] = None
 fault_from room (image ∷ images) (None ∷ listings) = fault_from room images listings
 fault_from room (image ∷ images) (Some texts ∷ listings) =
-    option_or (listing_fault image room texts) (fault_from (room - places_in (listing_of texts)) images listings)
+    option_or (listing_fault image room texts) (fault_from (room - code_line_count (listing_of texts)) images listings)
 
 -- of a job's listings, module by module
 abbrev pub job_fault : JobView → Option TablesFault

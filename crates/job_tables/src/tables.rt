@@ -5,7 +5,7 @@ ghost use Rattle.listing_reader.specs.Meaning.{listing_of};
 ghost use Rattle.brk_table.specs.Build.{HasOwnPlaces};
 ghost use Rattle.brk_table.specs.Together.{AreTables};
 ghost use Rattle.report_text.specs.Conditions.{HasFewLines};
-ghost use Rattle.job_tables.specs.Meaning.{build_fault, job_fault, listing_fault, location_in, places_in, AreTablesFrom, IsTableOf};
+ghost use Rattle.job_tables.specs.Meaning.{build_fault, job_fault, listing_fault, location_in, code_line_count, AreTablesFrom, IsTableOf};
 ghost use Rattle.job_tables.specs.Faults.{IsFaultOf};
 ghost use Rattle.job_tables.specs.Tables.{IsReadyJob};
 
@@ -64,7 +64,7 @@ fn table_of(
     ensures faultless { IfOk result (λ _. listing_fault image.now room texts.now ≡ None) }
     ensures table { IfOk result (λ t. IsTableOf m image.now texts.now t) }
     ensures own { IfOk result (λ t. HasOwnPlaces m image.now t) }
-    ensures count { IfOk result (λ t. length t.places ≡ places_in (listing_of texts.now)) }
+    ensures count { IfOk result (λ t. length t.places ≡ code_line_count (listing_of texts.now)) }
     ensures room { IfOk result (λ t. length t.places ≤ room) }
 {
     let lines = match read_listing(alloc, texts) {

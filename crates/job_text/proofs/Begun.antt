@@ -12,7 +12,7 @@ use Rattle.std.proofs.lemmas.Bool.{and_from, and_parts, not-true, or_right}
 use Rattle.hex.proofs.OnLiterals.{hex_on_literals}
 use Rattle.cov_base.specs.Meaning.{is_name_byte, name_at, unpadded}
 use Rattle.session_book.specs.Meaning.{TaskView}
-use Rattle.job_text.specs.Meaning.{LineView, listing_text, SessionDraft, DraftView, Present, is_controller, is_met_by, is_met, are_met, words, CardView, Cover, Module, Text, Listing, Phase, Session, Task, Reg, Data, Input, End, card_at, card_of, with_module, with_phase, this_phase, may_have, with_session, has_task, with_task, JobBegins, Serve, with_service}
+use Rattle.job_text.specs.Meaning.{LineView, listing_text, SessionDraft, DraftView, Present, is_controller, is_met_by, is_met, are_met, words, CardView, Cover, Module, Text, Listing, Phase, Session, Task, Reg, Data, Input, End, card_at, card_of, with_module, with_phase, this_phase, may_have, with_new_session, has_task, with_task, JobBegins, Serve, with_service}
 use Rattle.session_book.specs.declared.services.Service.{Service}
 use Rattle.job_text.specs.declared.grammar.Grammar.{Grammar}
 use Rattle.job_text.specs.TaskParts.{fresh_task, task_more}
@@ -77,7 +77,7 @@ wanted_new : (j k : DraftView) (by : Option (List ℕ)) → k.tasks ≡ j.tasks 
 wanted_new j k None same here may good = tt
 wanted_new j k (Some n) same here may good = (good, inr ((rw same (not-true (has_task j n) may)), (rw here refl)))
 
-wants_session : (j k : DraftView) (name : List ℕ) (by : Option (List ℕ)) (names : List (List ℕ)) → IfSome by IsName → with_session j name by names ≡ Some k → Wants j → Wants k
+wants_session : (j k : DraftView) (name : List ℕ) (by : Option (List ℕ)) (names : List (List ℕ)) → IfSome by IsName → with_new_session j name by names ≡ Some k → Wants j → Wants k
 wants_session j k name by names good e w =
     let a = session_added j k name by names e in
     let s : SessionDraft = record { name = name; phase = this_phase j; modules = a.modules; by = by } in
@@ -182,7 +182,7 @@ card_waits (Phase name) st s good e w =
     subst WaitsAt m.gives (record { wants = wants_phase t.from m.from name c.1 m.was c.0; early = tt })
 card_waits (Session name by names) st s good e w =
     let g = guard_more (is_sessions st.part) (add_session st.job name by names) s e in
-    let m = map_some (λ k. state part.Sessions k (session_over st.job)) (with_session st.job name by names) s g.1 in
+    let m = map_some (λ k. state part.Sessions k (session_over st.job)) (with_new_session st.job name by names) s g.1 in
     subst WaitsAt m.gives (record { wants = wants_session st.job m.from name by names good.0 m.was w.wants; early = tt })
 card_waits (Task n e p b r) st s good took w =
     let t = then_some (open_task n e p b r) (closed_task st.part st.job) s took in

@@ -9,7 +9,7 @@ use Rattle.cov_base.proofs.NameLemmas.{unpadded-padded}
 use Rattle.hex.specs.Hex.{decode_sized}
 use Rattle.hex.specs.declared.error.FromHexError.{FromHexError}
 use Rattle.hex.proofs.HexLemmas.{decode_sized-ok, decode_sized-twice, decode_of-ok}
-use Rattle.job_text.specs.Meaning.{CardView, Cover, Module, Text, Listing, Phase, Session, Task, Reg, Data, Input, End, words, number_at, bytes_at, ok_of, address_in, address_at, word_at, put_name, names_on, names_at, may_stand, as_module, as_session, as_controlled, controlled_card, session_card, as_task, as_reg, as_data, short_card, pair_card, long_card, card_of, card_at, Serve, as_service}
+use Rattle.job_text.specs.Meaning.{CardView, Cover, Module, Text, Listing, Phase, Session, Task, Reg, Data, Input, End, words, card_number, bytes_at, ok_of, address_in, address_at, card_word, put_name, names_on, names_at, may_stand, as_module, as_session, as_controlled, controlled_card, session_card, as_task, as_reg, as_data, short_card, pair_card, long_card, card_of, card_at, Serve, as_service}
 use Rattle.job_text.proofs.Guards.{guard_more}
 
 -- a name filled with blanks
@@ -140,7 +140,7 @@ input_good false o more c g e = g e
 short_good : (key a : List ℕ) (c : CardView) → short_card key a ≡ Some c → Good c
 short_good key a c e =
     text_good (bytes_eq key (codes "TEXT")) (bytes_at a) _ c
-    (listing_good (bytes_eq key (codes "LISTING")) (number_at a) _ c
+    (listing_good (bytes_eq key (codes "LISTING")) (card_number a) _ c
     (phase_good (bytes_eq key (codes "PHASE")) (name_at a) _ c
     (input_good (bytes_eq key (codes "INPUT")) (bytes_at a) _ c
     (last_good (bytes_eq key (codes "COVERJOB") && bytes_eq a (codes "1")) c Cover tt)))) e
@@ -151,20 +151,20 @@ reg_or_more false n v more c g e = g e
 
 pair_good : (key a b : List ℕ) (c : CardView) → pair_card key a b ≡ Some c → Good c
 pair_good key a b c e =
-    reg_or_more (bytes_eq key (codes "REG")) (number_at a) (word_at b) _ c
-    (data_or_more (bytes_eq key (codes "DATA")) (number_at a) (bytes_at b) _ c
-    (λ d. let g = guard_more (bytes_eq key (codes "SERVICE")) (as_service (number_at a) (address_at b)) c d in service_good (number_at a) (address_at b) c g.1)) e
+    reg_or_more (bytes_eq key (codes "REG")) (card_number a) (card_word b) _ c
+    (data_or_more (bytes_eq key (codes "DATA")) (card_number a) (bytes_at b) _ c
+    (λ d. let g = guard_more (bytes_eq key (codes "SERVICE")) (as_service (card_number a) (address_at b)) c d in service_good (card_number a) (address_at b) c g.1)) e
 
 long_good : (key a : List ℕ) (ws : List (List ℕ)) (c : CardView) → long_card key a ws ≡ Some c → Good c
 long_good key a [] c e = absurd cc
 long_good key a (b ∷ []) c e = pair_good key a b c e
 long_good key a (b ∷ s ∷ []) c e =
-    let g = guard_more (bytes_eq key (codes "MODULE")) (as_module (name_at a) (address_at b) (number_at s)) c e in
-    module_good (name_at a) (address_at b) (number_at s) c (λ m h. name_good a m h) g.1
+    let g = guard_more (bytes_eq key (codes "MODULE")) (as_module (name_at a) (address_at b) (card_number s)) c e in
+    module_good (name_at a) (address_at b) (card_number s) c (λ m h. name_good a m h) g.1
 long_good key a (b ∷ s ∷ d ∷ []) c e = absurd cc
 long_good key a (b ∷ p ∷ q ∷ r ∷ []) c e =
-    let g = guard_more (bytes_eq key (codes "TASK")) (as_task (name_at a) (address_at b) (number_at p) (number_at q) (number_at r)) c e in
-    task_good (name_at a) (address_at b) (number_at p) (number_at q) (number_at r) c (λ k h. address_good b k h) g.1
+    let g = guard_more (bytes_eq key (codes "TASK")) (as_task (name_at a) (address_at b) (card_number p) (card_number q) (card_number r)) c e in
+    task_good (name_at a) (address_at b) (card_number p) (card_number q) (card_number r) c (λ k h. address_good b k h) g.1
 long_good key a (b ∷ p ∷ q ∷ r ∷ s ∷ ws) c e = absurd cc
 
 one_of : (q : Bool) (o more : Option CardView) (c : CardView) → (o ≡ Some c → Good c) → (more ≡ Some c → Good c) → cond q o more ≡ Some c → Good c

@@ -11,7 +11,7 @@ use Rattle.session_book.specs.Meaning.{TaskView, no_task}
 use Rattle.session_book.specs.Names as naming
 use Rattle.session_book.specs.Names.{names_of, session_names, task_names}
 use Rattle.session_book.specs.declared.job_names.JobNames.{JobNames}
-use Rattle.job_text.specs.Meaning.{SessionDraft, DraftView, bound_session, bound, controller_of, has_module, is_clear, fits, has_task}
+use Rattle.job_text.specs.Meaning.{SessionDraft, DraftView, bound_session, bound, controller_named, has_module, is_clear, fits, has_task}
 use Rattle.job_text.specs.Meaning as adding
 use Rattle.job_text.specs.DraftInside.{names_in, draft_view, HasNames}
 use Rattle.job_text.specs.declared.parts.Draft.TheInside.{Inside}
@@ -59,12 +59,12 @@ new_of j n base size e = not-true (has_module j n) (and_parts (not (has_module j
 
 -- the task of a phase that a name finds among all tasks
 
-pub controller_none : (names : List (List ℕ)) (tasks : List TaskView) (phase : ℕ) (n : List ℕ) → names ≡ task_names tasks → index_of names n ≡ None → None ≡ controller_of tasks phase n
+pub controller_none : (names : List (List ℕ)) (tasks : List TaskView) (phase : ℕ) (n : List ℕ) → names ≡ task_names tasks → index_of names n ≡ None → None ≡ controller_named tasks phase n
 controller_none names tasks phase n are e =
     sym (none_named (λ (t : TaskView). t.name) (λ (t : TaskView). nat_eq t.phase phase) tasks n no_task (sym (index_of-map (λ (t : TaskView). t.name) tasks n) ∙ (ap (λ (l : List (List ℕ)). index_of l n) (sym are) ∙ e)))
 
 pub controller_here : (names : List (List ℕ)) (tasks : List TaskView) (phase : ℕ) (n : List ℕ) (i : ℕ) (d : TaskView) (b : Bool) → names ≡ task_names tasks → Differ names → index_of names n ≡ Some i → nat_eq (get_or tasks i d).phase phase ≡ b →
-    (if b then Some i else None) ≡ controller_of tasks phase n
+    (if b then Some i else None) ≡ controller_named tasks phase n
 controller_here names tasks phase n i d b are differ e q =
     let first : position (λ (t : TaskView). bytes_eq t.name n) tasks ≡ Some i = sym (index_of-map (λ (t : TaskView). t.name) tasks n) ∙ (ap (λ (l : List (List ℕ)). index_of l n) (sym are) ∙ e) in
     sym (one_named (λ (t : TaskView). t.name) (λ (t : TaskView). nat_eq t.phase phase) tasks n d i (subst Differ are differ) first ∙ ap (λ (t : Bool). if t then Some i else None) q)

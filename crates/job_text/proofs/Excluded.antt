@@ -7,7 +7,7 @@ use Rattle.std.proofs.lemmas.List.Elements.{All-append, All-cons, All-nil}
 use Rattle.std.specs.List.{list_any}
 use Rattle.std.specs.Str.{bytes_eq}
 use Rattle.session_book.specs.Meaning.{JobView}
-use Rattle.job_text.specs.Meaning.{DraftView, Present, LineView, listing_text, joined, IsListed, IsModule, IsTaskBlock, IsPhase, Spells, JobBegins, no_job, with_phase, with_session, keeps, IsWithin, Passes, GoesOn, IsBadAt, IsOverAt, Lead, IsServiceCard, IsSessionCard, with_service}
+use Rattle.job_text.specs.Meaning.{DraftView, Present, LineView, listing_text, joined, IsListed, IsModule, IsTaskBlock, IsPhase, Spells, JobBegins, no_job, with_phase, with_new_session, keeps, IsWithin, Passes, GoesOn, IsBadAt, IsOverAt, Lead, IsServiceCard, IsSessionCard, with_service}
 use Rattle.session_book.specs.declared.services.Service.{Service}
 use Rattle.job_text.specs.declared.grammar.Grammar.{Grammar}
 use Rattle.job_text.specs.declared.limit.Limit.{Limit}
@@ -136,7 +136,7 @@ phase_listings j after name e =
 service_listings : (j after : DraftView) (s : Service) → with_service j s ≡ Some after → after.listings ≡ j.listings
 service_listings j after s e = ap (λ (x : DraftView). x.listings) (sym (service_added j after s e))
 
-session_listings : (j after : DraftView) (name : List ℕ) (by : Option (List ℕ)) (names : List (List ℕ)) → with_session j name by names ≡ Some after → after.listings ≡ j.listings
+session_listings : (j after : DraftView) (name : List ℕ) (by : Option (List ℕ)) (names : List (List ℕ)) → with_new_session j name by names ≡ Some after → after.listings ≡ j.listings
 session_listings j after name by names e = ap (λ (x : DraftView). x.listings) (sym (session_added j after name by names e).is)
 
 services_keep : (ls : List LineView) (j after : DraftView) → Lead IsServiceCard j ls after → after.listings ≡ j.listings

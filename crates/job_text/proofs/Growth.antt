@@ -9,7 +9,7 @@ use Rattle.std.proofs.lemmas.Bool.{and_from, and_parts, and_right}
 use Rattle.cov_base.specs.Meaning.{ImageView}
 use Rattle.cov_base.specs.declared.limits.TheConstants.{MODULE_LIMIT, SIZE_LIMIT, LINE_LIMIT, PHASE_LIMIT, SESSION_LIMIT, TASK_LIMIT, PRIVATE_LIMIT, BUDGET_LIMIT, ROOM_LIMIT}
 use Rattle.session_book.specs.Meaning.{JobView, TaskView}
-use Rattle.job_text.specs.Meaning.{DraftView, Controllers, bound, LineView, listing_text, CardView, Cover, Module, Text, Listing, Phase, Session, Task, Reg, Data, Input, End, card_at, fits, with_module, with_phase, put_session, with_session, has_task, with_task, are_short, keeps, IsWithin, rank, Serve, with_service}
+use Rattle.job_text.specs.Meaning.{DraftView, Controllers, bound, LineView, listing_text, CardView, Cover, Module, Text, Listing, Phase, Session, Task, Reg, Data, Input, End, card_at, fits, with_module, with_phase, put_session, with_new_session, has_task, with_task, are_short, keeps, IsWithin, rank, Serve, with_service}
 use Rattle.session_book.specs.declared.services.Service.{Service}
 use Rattle.job_text.specs.TaskParts.{part, takes_reg, takes_data, is_inside, with_reg, with_data, fresh_task, task_more}
 use Rattle.job_text.specs.declared.task.TaskPart.{TaskPart}
@@ -288,7 +288,7 @@ session_judged : (j : DraftView) (name : List ℕ) (by : Option (List ℕ)) (ms 
 session_judged j name by ms true e h = (no_room j.sessions _ SESSION_LIMIT e, session_first j name by ms h)
 session_judged j name by ms false e h = session_holds j name by ms h e
 
-session_grown : (j k : DraftView) (name : List ℕ) (by : Option (List ℕ)) (names : List (List ℕ)) → with_session j name by names ≡ Some k → More j k (session_over j)
+session_grown : (j k : DraftView) (name : List ℕ) (by : Option (List ℕ)) (names : List (List ℕ)) → with_new_session j name by names ≡ Some k → More j k (session_over j)
 session_grown j k name by names e =
     let m = session_added j k name by names e in
     subst (λ (x : DraftView). More j x (session_over j)) m.is (record { more = session_more j name by m.modules; judged = session_judged j name by m.modules (nat_le SESSION_LIMIT (length j.sessions)) refl })
@@ -418,7 +418,7 @@ more_grows p j c s e = absurd cc
 
 session_grows : (p : Part) (j : DraftView) (name : List ℕ) (by : Option (List ℕ)) (names : List (List ℕ)) (s : State) → is_sessions p ≡ true → add_session j name by names ≡ Some s → More (sofar_at p j) (draft_sofar s) s.over
 session_grows kind.Sessions j name by names s is e =
-    let m = map_some (λ k. state kind.Sessions k (session_over j)) (with_session j name by names) s e in
+    let m = map_some (λ k. state kind.Sessions k (session_over j)) (with_new_session j name by names) s e in
     subst (λ (x : State). More j (draft_sofar x) x.over) m.gives (session_grown j m.from name by names m.was)
 session_grows p j name by names s is e = absurd cc
 

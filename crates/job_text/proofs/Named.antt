@@ -4,7 +4,7 @@ use Rattle.std.specs.List.{list_any}
 use Rattle.std.specs.Str.{bytes_eq}
 use Rattle.std.proofs.lemmas.Option.{cond_some}
 use Rattle.session_book.specs.Meaning.{JobView}
-use Rattle.job_text.specs.Meaning.{LineView, listing_text, DraftView, Controllers, Named, are_met, CardView, Phase, End, card_at, with_task, indices_on, put_session, may_have, with_session, IsPhase, Spells, Lead, with_service}
+use Rattle.job_text.specs.Meaning.{LineView, listing_text, DraftView, Controllers, Named, are_met, CardView, Phase, End, card_at, with_task, indices_on, put_session, may_have, with_new_session, IsPhase, Spells, Lead, with_service}
 use Rattle.session_book.specs.declared.services.Service.{Service}
 use Rattle.job_text.specs.declared.grammar.Grammar.{Grammar}
 use Rattle.job_text.specs.declared.parts.Part.{Part}
@@ -20,7 +20,7 @@ pub record Added (j after : DraftView) (name : List ℕ) (by : Option (List ℕ)
   pub are : indices_on j by (Some []) names ≡ Some modules
   pub is : put_session j name by modules ≡ after
 
-pub session_added : (j after : DraftView) (name : List ℕ) (by : Option (List ℕ)) (names : List (List ℕ)) → with_session j name by names ≡ Some after → Added j after name by names
+pub session_added : (j after : DraftView) (name : List ℕ) (by : Option (List ℕ)) (names : List (List ℕ)) → with_new_session j name by names ≡ Some after → Added j after name by names
 session_added j after name by names e =
     let g = guard_then _ _ after e in
     let h = guard_more (may_have j by) (option_map (put_session j name by) (indices_on j by (Some []) names)) after g.1 in

@@ -3,7 +3,7 @@ use Rattle.std.proofs.Common.{◌≡◌, ℕ, ◌+◌, ◌<◌, ◌≤◌, Bool,
 use Rattle.std.proofs.lemmas.Bool.Decides.{nat_tests}
 use Rattle.cov_base.specs.declared.limits.TheConstants.{PHASE_LIMIT, SESSION_LIMIT}
 use Rattle.session_book.specs.declared.services.Service.{Service}
-use Rattle.job_text.specs.Meaning.{DraftView, Present, are_met, with_service, with_phase, with_session, with_task}
+use Rattle.job_text.specs.Meaning.{DraftView, Present, are_met, with_service, with_phase, with_new_session, with_task}
 use Rattle.job_text.specs.declared.limit.Limit.TheVariants as limit
 use Rattle.job_text.specs.declared.parts.Part.TheVariants as part
 use Rattle.job_text.specs.declared.task.TaskPart.{TaskPart}
@@ -31,7 +31,7 @@ module _ (j k : DraftView) (name : List ℕ) (e : with_phase j name ≡ Some k) 
       let is = (guard_none _ (record j { phases = j.phases ++ name ∷ [] }) k e).1 in
       subst (λ (x : DraftView). HasRoom part.Sessions x) is (record { new = tt; modules = r.modules; phases = omega (arith, more, h) })
 
-module _ (j k : DraftView) (name : List ℕ) (by : Option (List ℕ)) (names : List (List ℕ)) (e : with_session j name by names ≡ Some k) where
+module _ (j k : DraftView) (name : List ℕ) (by : Option (List ℕ)) (names : List (List ℕ)) (e : with_new_session j name by names ≡ Some k) where
   pub session_passes : SESSION_LIMIT ≤ length j.sessions → option_map (λ s. s.over) (add_session j name by names) ≡ Some (Some limit.Sessions)
   session_passes h =
       let full : nat_le SESSION_LIMIT (length j.sessions) ≡ true = grind (arith, nat_tests) in

@@ -5,7 +5,7 @@ use Rattle.std.proofs.lemmas.Option.{same_Some, cond_some}
 use Rattle.std.specs.List.{concat}
 use Rattle.cov_base.specs.Meaning.{ImageView}
 use Rattle.session_book.specs.Meaning.{TaskView, first_regs}
-use Rattle.job_text.specs.Meaning.{DraftView, Controllers, are_met, bound, LineView, listing_text, CardView, Cover, Module, Text, Listing, Phase, Session, Task, Reg, Data, Input, End, IsCard, card_at, no_job, fits, with_module, with_phase, with_session, has_task, with_task, joined, AreCards, IsListed, Spells, Lead, IsModule, IsServiceCard, IsSessionCard, IsTaskBlock, IsPhase, Serve, with_service}
+use Rattle.job_text.specs.Meaning.{DraftView, Controllers, are_met, bound, LineView, listing_text, CardView, Cover, Module, Text, Listing, Phase, Session, Task, Reg, Data, Input, End, IsCard, card_at, no_job, fits, with_module, with_phase, with_new_session, has_task, with_task, joined, AreCards, IsListed, Spells, Lead, IsModule, IsServiceCard, IsSessionCard, IsTaskBlock, IsPhase, Serve, with_service}
 use Rattle.session_book.specs.declared.services.Service.{Service}
 use Rattle.job_text.specs.declared.grammar.Grammar.{Grammar}
 use Rattle.job_text.specs.TaskParts.{fresh_view, fresh_task, task_more}
@@ -312,7 +312,7 @@ phase_back ask st s name l ls d card e r =
 
 session_back : (ask : Controllers) (p : Part) (j : DraftView) (s : State) (name : List ℕ) (by : Option (List ℕ)) (names : List (List ℕ)) (l : LineView) (ls : List LineView) (d : DraftView) → IsCard l (Session name by names) → is_sessions p ≡ true → add_session j name by names ≡ Some s → RestOf ask s ls d → Rest ask p j (l ∷ ls) d
 session_back ask part.Sessions j s name by names l ls d card is e r =
-    let m = map_some (λ k. state part.Sessions k (session_over j)) (with_session j name by names) s e in
+    let m = map_some (λ k. state part.Sessions k (session_over j)) (with_new_session j name by names) s e in
     let a : RestSessions ask m.from ls d = was ask ls d (state part.Sessions m.from (session_over j)) s m.gives r in
     record {
       sessions = l ∷ a.sessions;

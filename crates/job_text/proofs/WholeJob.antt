@@ -19,7 +19,7 @@ use Rattle.session_book.specs.Meaning.{JobView, SessionView, TaskView, first_reg
 use Rattle.session_book.specs.JobView.{IsJob, IsSession, IsListing, IsTaskOf, HasController, AreParted}
 use Rattle.names.specs.Lists.{Differ}
 use Rattle.session_book.specs.JobView as book
-use Rattle.job_text.specs.Meaning.{SessionDraft, DraftView, Controllers, Present, is_controller, controller_of, is_met_by, is_met, are_met, bound_session, bound, LineView, CardView, Module, Session, Task, may_stand, RegView, set_regs, no_job, has_module, is_clear, with_phase, this_phase, is_same_controller, bars, index_of, is_free, put_index, indices_on, with_session, IsModule, IsTaskBlock, IsPhase, Spells, are_short, IsWithin, Lead, IsServiceCard, IsSessionCard, with_service}
+use Rattle.job_text.specs.Meaning.{SessionDraft, DraftView, Controllers, Present, is_controller, controller_named, is_met_by, is_met, are_met, bound_session, bound, LineView, CardView, Module, Session, Task, may_stand, RegView, set_regs, no_job, has_module, is_clear, with_phase, this_phase, is_same_controller, bars, image_index, is_free, put_index, indices_on, with_new_session, IsModule, IsTaskBlock, IsPhase, Spells, are_short, IsWithin, Lead, IsServiceCard, IsSessionCard, with_service}
 use Rattle.session_book.specs.declared.services.Service.{Service}
 use Rattle.job_text.specs.declared.grammar.Grammar.{Grammar}
 use Rattle.job_text.specs.declared.limit.Limit.TheVariants as limit
@@ -227,7 +227,7 @@ record Indices (j : DraftView) (by : Option (List ℕ)) (used ms : List ℕ) (co
   are : AreUsed j by ms
   length : length ms ≡ length used + count
 
-index_put : (j : DraftView) (by : Option (List ℕ)) (used next : List ℕ) (o : Option ℕ) (n : List ℕ) → index_of j n ≡ o → put_index j by used o ≡ Some next → AreUsed j by used → Indices j by used next 1
+index_put : (j : DraftView) (by : Option (List ℕ)) (used next : List ℕ) (o : Option ℕ) (n : List ℕ) → image_index j n ≡ o → put_index j by used o ≡ Some next → AreUsed j by used → Indices j by used next 1
 index_put j by used next (Some m) n is e u =
     let g = cond_some (is_free j by used m) (used ++ m ∷ []) next e in
     let h : m < length j.images = (position-Some (λ (i : ImageView). bytes_eq i.name n) j.images m (record { name = []; base = 0; bytes = [] }) is).0 in
@@ -240,12 +240,12 @@ no_indices j by (n ∷ ns) ms e = absurd cc
 
 are_indices : (j : DraftView) (by : Option (List ℕ)) (ns : List (List ℕ)) (used ms : List ℕ) → indices_on j by (Some used) ns ≡ Some ms → AreUsed j by used → Indices j by used ms (length ns)
 are_indices j by [] used ms e u = let same : used ≡ ms = cc in rw (← same) (record { are = u; length = omega arith })
-are_indices j by (n ∷ ns) used ms e u = by_index (put_index j by used (index_of j n)) refl e (λ next. are_indices j by ns next ms)
+are_indices j by (n ∷ ns) used ms e u = by_index (put_index j by used (image_index j n)) refl e (λ next. are_indices j by ns next ms)
   where
-    by_index : (o : Option (List ℕ)) → put_index j by used (index_of j n) ≡ o → indices_on j by o ns ≡ Some ms → ((next : List ℕ) → indices_on j by (Some next) ns ≡ Some ms → AreUsed j by next → Indices j by next ms (length ns)) →
+    by_index : (o : Option (List ℕ)) → put_index j by used (image_index j n) ≡ o → indices_on j by o ns ≡ Some ms → ((next : List ℕ) → indices_on j by (Some next) ns ≡ Some ms → AreUsed j by next → Indices j by next ms (length ns)) →
         Indices j by used ms (length (n ∷ ns))
     by_index (Some next) f g more =
-        let p : Indices j by used next 1 = index_put j by used next (index_of j n) n refl f u in
+        let p : Indices j by used next 1 = index_put j by used next (image_index j n) n refl f u in
         let r : Indices j by next ms (length ns) = more next g p.are in
         record { are = r.are; length = omega (arith, p.length, r.length) }
     by_index None f g more = absurd (no_indices j by ns ms g)
@@ -263,7 +263,7 @@ parted_of phase s t at free same other =
     let apart : nat_eq (get_or t.modules i e) (get_or s.modules k d) ≡ false = none_of (nat_eq (get_or t.modules i e)) s.modules off k d l in
     grind (arith, nat_tests, apart))
 
-session_so_far : (j after : DraftView) (name : List ℕ) (by : Option (List ℕ)) (names : List (List ℕ)) → with_session j name by names ≡ Some after → 1 ≤ length names → 1 ≤ length j.phases → SoFar j → SoFar after
+session_so_far : (j after : DraftView) (name : List ℕ) (by : Option (List ℕ)) (names : List (List ℕ)) → with_new_session j name by names ≡ Some after → 1 ≤ length names → 1 ≤ length j.phases → SoFar j → SoFar after
 session_so_far j after name by names e some phases s =
     let m = session_added j after name by names e in
     let t : SessionDraft = record { name = name; phase = this_phase j; modules = m.modules; by = by } in
@@ -284,7 +284,7 @@ session_so_far j after name by names e some phases s =
     })
 
 -- as many phases
-session_phases : (j after : DraftView) (name : List ℕ) (by : Option (List ℕ)) (names : List (List ℕ)) → with_session j name by names ≡ Some after → after.phases ≡ j.phases
+session_phases : (j after : DraftView) (name : List ℕ) (by : Option (List ℕ)) (names : List (List ℕ)) → with_new_session j name by names ≡ Some after → after.phases ≡ j.phases
 session_phases j after name by names e = ap (λ (x : DraftView). x.phases) (sym (session_added j after name by names e).is)
 
 record InPhase (j : DraftView) : Type 0 where
@@ -360,15 +360,15 @@ map_map f g (x ∷ xs) = ap (λ ys. f (g x) ∷ ys) (map_map f g xs)
 is_session : (a b : ℕ) (tasks : List TaskView) (s : SessionDraft) → IsSessionSoFar a b s → IsSession a b (bound_session tasks s)
 is_session a b tasks s i = record { phase = i.phase; some = i.some; modules = i.modules; differ = i.differ }
 
-found_controller : (tasks : List TaskView) (phase : ℕ) (n : List ℕ) (o : Option ℕ) → controller_of tasks phase n ≡ o → IfSome o (IsTaskOf tasks phase)
+found_controller : (tasks : List TaskView) (phase : ℕ) (n : List ℕ) (o : Option ℕ) → controller_named tasks phase n ≡ o → IfSome o (IsTaskOf tasks phase)
 found_controller tasks phase n None e = tt
 found_controller tasks phase n (Some t) e = λ d.
     let p = position-Some (is_controller phase n) tasks t d e in
     (p.0, eqb-true _ _ (and_parts (bytes_eq (get_or tasks t d).name n) (nat_eq (get_or tasks t d).phase phase) p.1).1)
 
-has_controller : (tasks : List TaskView) (phase : ℕ) (by : Option (List ℕ)) → IfSome (option_and_then (controller_of tasks phase) by) (IsTaskOf tasks phase)
+has_controller : (tasks : List TaskView) (phase : ℕ) (by : Option (List ℕ)) → IfSome (option_and_then (controller_named tasks phase) by) (IsTaskOf tasks phase)
 has_controller tasks phase None = tt
-has_controller tasks phase (Some n) = found_controller tasks phase n (controller_of tasks phase n) refl
+has_controller tasks phase (Some n) = found_controller tasks phase n (controller_named tasks phase n) refl
 
 not_least : (n most : ℕ) → cond (nat_lt n most) (Some n) None ≡ None → nat_lt n most ≡ false
 not_least n most e = by_test (nat_lt n most) refl e
@@ -392,16 +392,16 @@ none_pass p (x ∷ xs) e = by_test (none_pass p xs) (p x) refl e
     by_test more true f g = absurd (never_least (length xs) g)
     by_test more false f g = rw f (more (one_more _ _ g))
 
-same_indices : (tasks : List TaskView) (p q : ℕ) (m n : List ℕ) (o : Option ℕ) → controller_of tasks p m ≡ o → list_any (is_controller p m) tasks ≡ true → p ≡ q → m ≡ n → book.is_same_controller (controller_of tasks p m) (controller_of tasks q n) ≡ true
+same_indices : (tasks : List TaskView) (p q : ℕ) (m n : List ℕ) (o : Option ℕ) → controller_named tasks p m ≡ o → list_any (is_controller p m) tasks ≡ true → p ≡ q → m ≡ n → book.is_same_controller (controller_named tasks p m) (controller_named tasks q n) ≡ true
 same_indices tasks p q m n (Some t) e met same name = rw (← same, ← name, e) (eq-eqb t t refl)
 same_indices tasks p q m n None e met same name = let none : list_any (is_controller p m) tasks ≡ false = none_pass (is_controller p m) tasks (not_least _ _ e) in absurd cc
 
 -- sessions whose controllers are there share a controller in the job where the cards name the same one
 same_by : (tasks : List TaskView) (p q : ℕ) (a b : Option (List ℕ)) (r : Bool) → is_same_controller a b ≡ r → is_met_by tasks p a ≡ true → p ≡ q
-    → book.is_same_controller (option_and_then (controller_of tasks p) a) (option_and_then (controller_of tasks q) b) ≡ false → is_same_controller a b ≡ false
+    → book.is_same_controller (option_and_then (controller_named tasks p) a) (option_and_then (controller_named tasks q) b) ≡ false → is_same_controller a b ≡ false
 same_by tasks p q a b false e met same off = e
 same_by tasks p q (Some m) (Some n) true e met same off =
-    let on : book.is_same_controller (controller_of tasks p m) (controller_of tasks q n) ≡ true = same_indices tasks p q m n (controller_of tasks p m) refl met same ((bytes_eq-Decides m n).0 e) in
+    let on : book.is_same_controller (controller_named tasks p m) (controller_named tasks q n) ≡ true = same_indices tasks p q m n (controller_named tasks p m) refl met same ((bytes_eq-Decides m n).0 e) in
     absurd cc
 same_by tasks p q (Some m) None true e met same off = absurd cc
 same_by tasks p q None b true e met same off = absurd cc

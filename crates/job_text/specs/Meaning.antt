@@ -48,8 +48,8 @@ pub data Controllers : Type 0 where
 abbrev pub is_controller : ℕ → List ℕ → TaskView → Bool
 is_controller phase name t = bytes_eq t.name name && nat_eq t.phase phase
 
-abbrev pub controller_of : List TaskView → ℕ → List ℕ → Option ℕ
-controller_of tasks phase name = position (is_controller phase name) tasks
+abbrev pub controller_named : List TaskView → ℕ → List ℕ → Option ℕ
+controller_named tasks phase name = position (is_controller phase name) tasks
 
 abbrev pub is_met_by : List TaskView → ℕ → Option (List ℕ) → Bool
 is_met_by tasks phase (Some name) = list_any (is_controller phase name) tasks
@@ -64,7 +64,7 @@ are_met Present j = list_all (is_met j.tasks) j.sessions
 are_met c j = true
 
 abbrev pub bound_session : List TaskView → SessionDraft → SessionView
-bound_session tasks s = record { name = s.name; phase = s.phase; modules = s.modules; by = option_and_then (controller_of tasks s.phase) s.by }
+bound_session tasks s = record { name = s.name; phase = s.phase; modules = s.modules; by = option_and_then (controller_named tasks s.phase) s.by }
 
 -- the job, with each controller's index among its tasks
 abbrev pub bound : DraftView → JobView
@@ -103,8 +103,8 @@ with_phase j name = if list_any (λ p. bytes_eq p name) j.phases then None else 
 abbrev pub this_phase : DraftView → ℕ
 this_phase j = length j.phases - 1
 
-abbrev pub index_of : DraftView → List ℕ → Option ℕ
-index_of j name = position (λ i. bytes_eq i.name name) j.images
+abbrev pub image_index : DraftView → List ℕ → Option ℕ
+image_index j name = position (λ i. bytes_eq i.name name) j.images
 
 -- the sessions of one controller, which may share modules
 abbrev pub is_same_controller : Option (List ℕ) → Option (List ℕ) → Bool
@@ -128,7 +128,7 @@ put_index j by used None = None
 abbrev pub indices_on : DraftView → Option (List ℕ) → Option (List ℕ) → List (List ℕ) → Option (List ℕ)
 indices_on j by used [] = used
 indices_on j by None (n ∷ ns) = None
-indices_on j by (Some used) (n ∷ ns) = indices_on j by (put_index j by used (index_of j n)) ns
+indices_on j by (Some used) (n ∷ ns) = indices_on j by (put_index j by used (image_index j n)) ns
 
 abbrev pub with_draft : DraftView → SessionDraft → DraftView
 with_draft j s = record j { sessions = j.sessions ++ s ∷ [] }
@@ -144,8 +144,8 @@ abbrev pub may_have : DraftView → Option (List ℕ) → Bool
 may_have j None = true
 may_have j (Some task) = not (has_task j task)
 
-abbrev pub with_session : DraftView → List ℕ → Option (List ℕ) → List (List ℕ) → Option DraftView
-with_session j name by names = if list_any (λ s. bytes_eq s.name name) j.sessions then None
+abbrev pub with_new_session : DraftView → List ℕ → Option (List ℕ) → List (List ℕ) → Option DraftView
+with_new_session j name by names = if list_any (λ s. bytes_eq s.name name) j.sessions then None
     else (if may_have j by then option_map (put_session j name by) (indices_on j by (Some []) names) else None)
 
 -- the task in the phase that is open
@@ -212,16 +212,16 @@ words [] = [] ∷ []
 words (b ∷ bs) = if nat_eq b 32 then [] ∷ words bs else put_first b (words bs)
 
 -- the number that the digits make behind those that made n
-abbrev pub decimal : ℕ → List ℕ → ℕ
-decimal n [] = n
-decimal n (b ∷ bs) = decimal (10 * n + (b - 48)) bs
+abbrev pub decimal_value : ℕ → List ℕ → ℕ
+decimal_value n [] = n
+decimal_value n (b ∷ bs) = decimal_value (10 * n + (b - 48)) bs
 
 -- 1 to 9 digits without a leading zero, but 0 itself
 abbrev pub is_number : List ℕ → Bool
 is_number w = nat_le 1 (length w) && nat_le (length w) 9 && (not (nat_eq (slice_index w 0) 48) || nat_eq (length w) 1) && list_all is_digit w
 
-abbrev pub number_at : List ℕ → Option ℕ
-number_at w = if is_number w then Some (decimal 0 w) else None
+abbrev pub card_number : List ℕ → Option ℕ
+card_number w = if is_number w then Some (decimal_value 0 w) else None
 
 abbrev pub ok_of : Result (List ℕ) FromHexError → Option (List ℕ)
 ok_of (Ok bytes) = Some bytes
@@ -242,8 +242,8 @@ abbrev pub word_in : List ℕ → ℕ
 word_in bytes = slice_index bytes 0 * 16777216 + slice_index bytes 1 * 65536 + slice_index bytes 2 * 256 + slice_index bytes 3
 
 -- eight hexadecimal digits of either case
-abbrev pub word_at : List ℕ → Option ℕ
-word_at w = option_map word_in (ok_of (decode_sized w 4))
+abbrev pub card_word : List ℕ → Option ℕ
+card_word w = option_map word_in (ok_of (decode_sized w 4))
 
 abbrev pub put_name : List (List ℕ) → Option (List ℕ) → Option (List (List ℕ))
 put_name ns (Some n) = Some (ns ++ n ∷ [])
@@ -312,7 +312,7 @@ as_service n e = None
 abbrev pub short_card : List ℕ → List ℕ → Option CardView
 short_card key a =
     if bytes_eq key (codes "TEXT") then option_map Text (bytes_at a)
-    else (if bytes_eq key (codes "LISTING") then option_map Listing (number_at a)
+    else (if bytes_eq key (codes "LISTING") then option_map Listing (card_number a)
     else (if bytes_eq key (codes "PHASE") then option_map Phase (name_at a)
     else (if bytes_eq key (codes "INPUT") then option_map Input (bytes_at a)
     else (if bytes_eq key (codes "COVERJOB") && bytes_eq a (codes "1") then Some Cover
@@ -321,16 +321,16 @@ short_card key a =
 -- the card of a key and two words that is no SESSION
 abbrev pub pair_card : List ℕ → List ℕ → List ℕ → Option CardView
 pair_card key a b =
-    if bytes_eq key (codes "REG") then as_reg (number_at a) (word_at b)
-    else (if bytes_eq key (codes "DATA") then as_data (number_at a) (bytes_at b)
-    else (if bytes_eq key (codes "SERVICE") then as_service (number_at a) (address_at b)
+    if bytes_eq key (codes "REG") then as_reg (card_number a) (card_word b)
+    else (if bytes_eq key (codes "DATA") then as_data (card_number a) (bytes_at b)
+    else (if bytes_eq key (codes "SERVICE") then as_service (card_number a) (address_at b)
     else None))
 
 abbrev pub module_card : List ℕ → List ℕ → List ℕ → List ℕ → Option CardView
-module_card key a b c = if bytes_eq key (codes "MODULE") then as_module (name_at a) (address_at b) (number_at c) else None
+module_card key a b c = if bytes_eq key (codes "MODULE") then as_module (name_at a) (address_at b) (card_number c) else None
 
 abbrev pub task_card : List ℕ → List ℕ → List ℕ → List ℕ → List ℕ → List ℕ → Option CardView
-task_card key a b c d e = if bytes_eq key (codes "TASK") then as_task (name_at a) (address_at b) (number_at c) (number_at d) (number_at e) else None
+task_card key a b c d e = if bytes_eq key (codes "TASK") then as_task (name_at a) (address_at b) (card_number c) (card_number d) (card_number e) else None
 
 -- the card of a key and two or more words that is no SESSION
 abbrev pub long_card : List ℕ → List ℕ → List (List ℕ) → Option CardView
@@ -418,7 +418,7 @@ pub record IsSessionCard (j : DraftView) (line : LineView) (after : DraftView) :
   pub by : Option (List ℕ)
   pub names : List (List ℕ)
   pub card : IsCard line (Session name by names)
-  pub adds : with_session j name by names ≡ Some after
+  pub adds : with_new_session j name by names ≡ Some after
 
 -- TASK, and then REG, DATA and INPUT cards, of each kind as many as wanted
 pub record IsTaskBlock (j : DraftView) (block : List LineView) (after : DraftView) : Type 0 where

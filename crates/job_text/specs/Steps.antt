@@ -2,7 +2,7 @@
 use Rattle.std.specs.Prelude.{◌≡◌, ℕ, ◌+◌, ◌-◌, ◌≤◌, Bool, true, false, not, nat_eq, nat_le, if◌then◌else◌, Option, Some, None, List, [], ◌∷◌, ◌++◌, length, option_map, option_and_then}
 use Rattle.cov_base.specs.Meaning.{ImageView}
 use Rattle.cov_base.specs.declared.limits.TheConstants.{MODULE_LIMIT, SIZE_LIMIT, LINE_LIMIT, PHASE_LIMIT, SESSION_LIMIT, TASK_LIMIT, PRIVATE_LIMIT, BUDGET_LIMIT, ROOM_LIMIT}
-use Rattle.job_text.specs.Meaning.{DraftView, Controllers, are_met, LineView, listing_text, CardView, Cover, Module, Text, Listing, Serve, Phase, Session, Task, End, card_at, no_job, has_module, fits, with_module, with_service, with_phase, with_session, has_task, with_task}
+use Rattle.job_text.specs.Meaning.{DraftView, Controllers, are_met, LineView, listing_text, CardView, Cover, Module, Text, Listing, Serve, Phase, Session, Task, End, card_at, no_job, has_module, fits, with_module, with_service, with_phase, with_new_session, has_task, with_task}
 use Rattle.session_book.specs.declared.services.Service.{Service}
 use Rattle.job_text.specs.TaskParts.{fresh_task, task_more}
 use Rattle.job_text.specs.declared.grammar.Grammar.{Grammar}
@@ -108,7 +108,7 @@ abbrev pub open_phase : List ℕ → DraftView → Option State
 open_phase name j = option_map (λ k. state part.Sessions k (phase_over j)) (with_phase j name)
 
 abbrev pub add_session : DraftView → List ℕ → Option (List ℕ) → List (List ℕ) → Option State
-add_session j name by names = option_map (λ k. state part.Sessions k (session_over j)) (with_session j name by names)
+add_session j name by names = option_map (λ k. state part.Sessions k (session_over j)) (with_new_session j name by names)
 
 abbrev pub take_text : Part → DraftView → List ℕ → Option State
 take_text (part.Texts i left) j bytes = if nat_le (length bytes) left then Some (state (part.Texts (with_bytes i bytes) (left - length bytes)) j None) else None

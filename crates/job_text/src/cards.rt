@@ -1,7 +1,7 @@
 //! The card that a line is.
 ghost use Rattle.std.specs.Prelude.{◌≡◌, map, IfOk, option_map};
 ghost use Rattle.cov_base.specs.Meaning.{name_at};
-ghost use Rattle.job_text.specs.Meaning.{number_at, bytes_at, address_at, word_at, names_at};
+ghost use Rattle.job_text.specs.Meaning.{card_number, bytes_at, address_at, card_word, names_at};
 ghost use Rattle.job_text.specs.Meaning as spell;
 ghost use Rattle.job_text.specs.Views.{view};
 
@@ -119,7 +119,7 @@ fn module_card(key: &[u8], a: &[u8], b: &[u8], c: &[u8]) -> Option<Card>
 }
 
 fn reg_card(a: &[u8], b: &[u8]) -> Option<Card>
-    ensures { option_map view result ≡ spell.as_reg (number_at a.now) (word_at b.now) }
+    ensures { option_map view result ≡ spell.as_reg (card_number a.now) (card_word b.now) }
 {
     match (number_of(a), word_of(b)) {
         (Some(number), Some(value)) => {
@@ -137,7 +137,7 @@ fn reg_card(a: &[u8], b: &[u8]) -> Option<Card>
 }
 
 fn data_card(alloc: Global, a: &[u8], b: &[u8]) -> Result<Option<Card>, AllocError>
-    ensures { IfOk result (λ o. option_map view o ≡ spell.as_data (number_at a.now) (bytes_at b.now)) }
+    ensures { IfOk result (λ o. option_map view o ≡ spell.as_data (card_number a.now) (bytes_at b.now)) }
 {
     let bytes = bytes_of(alloc, b)?;
     match (number_of(a), bytes) {
@@ -147,7 +147,7 @@ fn data_card(alloc: Global, a: &[u8], b: &[u8]) -> Result<Option<Card>, AllocErr
 }
 
 fn service_card(a: &[u8], b: &[u8]) -> Option<Card>
-    ensures { option_map view result ≡ spell.as_service (number_at a.now) (address_at b.now) }
+    ensures { option_map view result ≡ spell.as_service (card_number a.now) (address_at b.now) }
 {
     match (number_of(a), address_of(b)) {
         (Some(number), Some(entry)) => {

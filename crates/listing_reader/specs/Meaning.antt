@@ -70,8 +70,8 @@ object_of c line shift = option_or (code_with c line shift 1) (option_or (code_w
 abbrev pub skip_blanks : List ℕ → List ℕ
 skip_blanks bytes = drop (position_or_len (λ b. not (is_blank b)) bytes) bytes
 
-abbrev pub run_of : List ℕ → List ℕ
-run_of bytes = take (position_or_len is_blank bytes) bytes
+abbrev pub word_run : List ℕ → List ℕ
+word_run bytes = take (position_or_len is_blank bytes) bytes
 
 abbrev pub after_run : List ℕ → List ℕ
 after_run bytes = drop (position_or_len is_blank bytes) bytes
@@ -83,21 +83,21 @@ source_of c line shift = drop (shift + c.source - 1) line
 -- the second run of a statement that begins with a name, else the first
 abbrev pub operation_of : Columns → List ℕ → ℕ → List ℕ
 operation_of c line shift =
-    if is_blank_at line shift c.source then run_of (skip_blanks (source_of c line shift))
-    else run_of (skip_blanks (after_run (source_of c line shift)))
+    if is_blank_at line shift c.source then word_run (skip_blanks (source_of c line shift))
+    else word_run (skip_blanks (after_run (source_of c line shift)))
 
 -- the operation, its letters in either case, is a mnemonic; a statement that begins with an asterisk has none
 unfoldable pub has_mnemonic : Columns → List ℕ → ℕ → Bool
 has_mnemonic c line shift =
     not (column line shift c.source == 42) && is_mnemonic (map to_ascii_uppercase (operation_of c line shift))
 
-abbrev pub location_of : Columns → List ℕ → ℕ → Option ℕ
-location_of c line shift = number_in line shift c.location c.digits
+abbrev pub column_location : Columns → List ℕ → ℕ → Option ℕ
+column_location c line shift = number_in line shift c.location c.digits
 
 -- a line behind the heading is one of an instruction: a location, a blank, an operation, and some object code
 unfoldable pub is_instruction : Columns → List ℕ → ℕ → Bool
 is_instruction c line shift =
-    is_some (location_of c line shift) && is_blank_at line shift (c.location + c.digits) && has_mnemonic c line shift
+    is_some (column_location c line shift) && is_blank_at line shift (c.location + c.digits) && has_mnemonic c line shift
     && not (are_blank line shift c.object c.room)
 
 -- What a listing says, line by line, and its first fault.
@@ -105,7 +105,7 @@ is_instruction c line shift =
 -- a line behind the heading; none where it is an instruction's and its object code is no code
 unfoldable pub line_of : Columns → ℕ → List ℕ → Option Line
 line_of c shift line =
-    if is_instruction c line shift then option_map (λ code. says.Code (unwrap_or (location_of c line shift) 0) code) (object_of c line shift)
+    if is_instruction c line shift then option_map (λ code. says.Code (unwrap_or (column_location c line shift) 0) code) (object_of c line shift)
     else Some Text
 
 -- what the lines behind the heading say, behind what the earlier ones do; none where one is bad

@@ -2,7 +2,7 @@
 ghost use Rattle.std.specs.Prelude.{◌≡◌, ◌≤◌, ◌<◌, map, position, not};
 ghost use Rattle.std.specs.Char.{to_ascii_uppercase};
 ghost use Rattle.s370_decode.specs.Meaning.{is_mnemonic};
-ghost use Rattle.listing_reader.specs.Meaning.{is_blank, skip_blanks, run_of, after_run, source_of, operation_of, has_mnemonic};
+ghost use Rattle.listing_reader.specs.Meaning.{is_blank, skip_blanks, word_run, after_run, source_of, operation_of, has_mnemonic};
 
 use crate::fields::is_blank_at;
 use listing_lines::{Columns, column};
@@ -29,7 +29,7 @@ fn skip_blanks(bytes: &[u8]) -> &[u8]
 }
 
 fn run_of(bytes: &[u8]) -> &[u8]
-    ensures { result.now ≡ run_of bytes.now }
+    ensures { result.now ≡ word_run bytes.now }
 {
     match first_blank(bytes) {
         Some(at) => &bytes[..at],

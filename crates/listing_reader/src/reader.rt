@@ -3,7 +3,7 @@ ghost use Rattle.std.specs.Prelude.{◌≡◌, ◌+◌, ◌≤◌, ◌<◌, leng
 ghost use Rattle.std.specs.declared.option.Option.TheVariants.{Some, None};
 ghost use Rattle.std.specs.List.{AllPass};
 ghost use Rattle.listing_lines.specs.Columns.{AreColumns};
-ghost use Rattle.listing_reader.specs.Meaning.{location_of, is_instruction, line_of, lines_behind, bad_from, listing_of, fault_of};
+ghost use Rattle.listing_reader.specs.Meaning.{column_location, is_instruction, line_of, lines_behind, bad_from, listing_of, fault_of};
 ghost use Rattle.listing_reader.specs.Listing.{is_sound, IsTold};
 
 use crate::fields::{are_blank, is_blank_at, number_in};
@@ -17,7 +17,7 @@ use std::alloc::Global;
 
 fn location_of(line: &[u8], shift: u8, columns: Columns) -> Option<u32>
     requires { AreColumns columns }
-    ensures { result ≡ location_of columns line.now shift }
+    ensures { result ≡ column_location columns line.now shift }
 {
     number_in(
         line,

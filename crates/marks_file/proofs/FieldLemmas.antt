@@ -3,7 +3,7 @@ use Rattle.std.proofs.Common.{◌≡◌, ℕ, ◌+◌, ◌≤◌, Bool, true, fa
 use Rattle.std.specs.List.{list_all}
 use Rattle.std.proofs.lemmas.Bool.{le-leb}
 use Rattle.byteorder.specs.Endian.{big_number}
-use Rattle.marks_file.specs.Meaning.{MarkedView, kind_of_number, is_location, is_length, is_original, is_set, is_new_name, is_base, is_size, is_count, place_count, Field, first_bad, place_fields, header_fields, count_at}
+use Rattle.marks_file.specs.Meaning.{MarkedView, kind_of_number, is_location, is_length, is_original, is_set, is_new_name, is_base, is_size, is_count, place_total, FieldAt, first_bad, place_fields, header_fields, place_count_at}
 use Rattle.marks_file.proofs.MarksLemmas.{both-left, both-right, le_of_test}
 
 goes : (g : Bool) (a : ℕ) (x y z : Option ℕ) → (x ≡ None → y ≡ z) → (if g then x else Some a) ≡ None → (if g then y else Some a) ≡ z
@@ -19,20 +19,20 @@ keeps true a x y k h = k h
 keeps false a x y k h = h
 
 -- where the first fields are good the later ones tell
-pub first_none : (xs ys : List Field) → first_bad xs ≡ None → first_bad (xs ++ ys) ≡ first_bad ys
+pub first_none : (xs ys : List FieldAt) → first_bad xs ≡ None → first_bad (xs ++ ys) ≡ first_bad ys
 first_none [] ys h = refl
 first_none (f ∷ fs) ys h = goes f.good f.at (first_bad fs) (first_bad (fs ++ ys)) (first_bad ys) (first_none fs ys) h
 
 -- a bad one among the first is the first
-pub first_some : (xs ys : List Field) (o : ℕ) → first_bad xs ≡ Some o → first_bad (xs ++ ys) ≡ Some o
+pub first_some : (xs ys : List FieldAt) (o : ℕ) → first_bad xs ≡ Some o → first_bad (xs ++ ys) ≡ Some o
 first_some [] ys o h = let e : None ≡ Some o = h in absurd cc
 first_some (f ∷ fs) ys o h = stops f.good f.at o (first_bad fs) (first_bad (fs ++ ys)) (first_some fs ys o) h
 
-pub none_left : (xs ys : List Field) → first_bad (xs ++ ys) ≡ None → first_bad xs ≡ None
+pub none_left : (xs ys : List FieldAt) → first_bad (xs ++ ys) ≡ None → first_bad xs ≡ None
 none_left [] ys h = refl
 none_left (f ∷ fs) ys h = keeps f.good f.at (first_bad (fs ++ ys)) (first_bad fs) (none_left fs ys) h
 
-pub none_right : (xs ys : List Field) → first_bad (xs ++ ys) ≡ None → first_bad ys ≡ None
+pub none_right : (xs ys : List FieldAt) → first_bad (xs ++ ys) ≡ None → first_bad ys ≡ None
 none_right xs ys h = sym (first_none xs ys (none_left xs ys h)) ∙ h
 
 all_here : (g : Bool) (a : ℕ) (x : Option ℕ) (r : Bool) → (x ≡ None → r ≡ true) → (if g then x else Some a) ≡ None → (g && r) ≡ true
@@ -40,9 +40,9 @@ all_here true a x r k h = k h
 all_here false a x r k h = let e : Some a ≡ None = h in absurd cc
 
 -- no field is bad exactly where each is good
-pub all_good : (fs : List Field) → first_bad fs ≡ None → list_all (λ (f : Field). f.good) fs ≡ true
+pub all_good : (fs : List FieldAt) → first_bad fs ≡ None → list_all (λ (f : FieldAt). f.good) fs ≡ true
 all_good [] h = refl
-all_good (f ∷ fs) h = all_here f.good f.at (first_bad fs) (list_all (λ (g : Field). g.good) fs) (all_good fs) h
+all_good (f ∷ fs) h = all_here f.good f.at (first_bad fs) (list_all (λ (g : FieldAt). g.good) fs) (all_good fs) h
 
 -- a field that is whole and keeps its rule
 whole : (k n : ℕ) (b : Bool) → k ≤ n → b ≡ true → (nat_le k n && b) ≡ true
@@ -91,7 +91,7 @@ pub record IsModuleRecord (earlier : List MarkedView) (bs : List ℕ) : Type 0 w
   pub name : is_new_name earlier (take 8 bs) ≡ true
   pub base : is_base (big_number 4 (drop 8 bs)) ≡ true
   pub size : is_size earlier (big_number 4 (drop 8 bs)) (big_number 4 (drop 12 bs)) ≡ true
-  pub count : is_count earlier (count_at bs) ≡ true
+  pub count : is_count earlier (place_count_at bs) ≡ true
 
 pub module_record : (at : ℕ) (earlier : List MarkedView) (bs : List ℕ) → first_bad (header_fields at earlier bs) ≡ None → IsModuleRecord earlier bs
 unfolding header_fields
@@ -99,7 +99,7 @@ module_record at earlier bs h =
     let t1 = nat_le 8 (length bs) && is_new_name earlier (take 8 bs) in
     let t2 = nat_le 12 (length bs) && is_base (big_number 4 (drop 8 bs)) in
     let t3 = nat_le 16 (length bs) && is_size earlier (big_number 4 (drop 8 bs)) (big_number 4 (drop 12 bs)) in
-    let t4 = nat_le 20 (length bs) && is_count earlier (count_at bs) in
+    let t4 = nat_le 20 (length bs) && is_count earlier (place_count_at bs) in
     let h1 : (t1 && (t2 && (t3 && (t4 && true)))) ≡ true = all_good (header_fields at earlier bs) h in
     let h2 = both-right t1 (t2 && (t3 && (t4 && true))) h1 in
     let h3 = both-right t2 (t3 && (t4 && true)) h2 in
@@ -120,11 +120,11 @@ header_none at earlier bs r =
 
 -- what the reader's tests say
 pub header_read : (at : ℕ) (earlier : List MarkedView) (bs : List ℕ) (before base : ℕ) (b s c : Bool)
-    → before ≡ place_count earlier → base ≡ big_number 4 (drop 8 bs)
+    → before ≡ place_total earlier → base ≡ big_number 4 (drop 8 bs)
     → (nat_le 8 (length bs) && is_new_name earlier (take 8 bs)) ≡ true
     → b ≡ (nat_le 12 (length bs) && is_base (big_number 4 (drop 8 bs))) → b ≡ true
     → s ≡ (nat_le 16 (length bs) && is_size earlier base (big_number 4 (drop 12 bs))) → s ≡ true
-    → c ≡ (nat_le 20 (length bs) && nat_le (before + count_at bs) 65536) → c ≡ true
+    → c ≡ (nat_le 20 (length bs) && nat_le (before + place_count_at bs) 65536) → c ≡ true
     → first_bad (header_fields at earlier bs) ≡ None
 unfolding is_count
 header_read at earlier bs before base b s c e f name bt bh st sh ct ch =

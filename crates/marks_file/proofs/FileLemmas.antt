@@ -8,7 +8,7 @@ use Rattle.std.proofs.lemmas.Bool.{le-leb}
 use Rattle.byteorder.specs.Endian.{big_number, big_bytes}
 use Rattle.byteorder.specs.Numbers.{big_number-reads_back}
 use Rattle.cov_base.specs.Meaning.{is_filled}
-use Rattle.marks_file.specs.Meaning.{modules_bytes, MarkedView, MarksView, is_new_name, is_base, is_size, is_count, are_modules, is_module_count, are_marks, is_runs, keeps_rules, place_count, place_bytes, module_row, module_bytes, magic, name_field, session_bytes, file_bytes, HasFile, first_bad, places_at, places_fields, header_fields, module_fields, module_at, modules_fields, count_at, table_fields, version_of, table_from, heading_fields, file_fields}
+use Rattle.marks_file.specs.Meaning.{modules_bytes, MarkedView, MarksView, is_new_name, is_base, is_size, is_count, are_modules, is_module_count, are_marks, is_runs, keeps_rules, place_total, place_bytes, module_row, module_bytes, magic, name_field, session_bytes, file_bytes, HasFile, first_bad, places_at, places_fields, header_fields, module_fields, module_at, modules_fields, place_count_at, table_fields, version_of, table_from, heading_fields, file_fields}
 use Rattle.marks_file.specs.Reading.{IsFault, modules_at, table_at, name_at, runs_at, marks_of, marks_at}
 use Rattle.marks_file.specs.declared.marks.MarkedPlace.{MarkedPlace}
 use Rattle.marks_file.specs.declared.fault.MarksFault.{MarksFault}
@@ -40,7 +40,7 @@ size_few earlier base size h = le_of_test size 262144 (both-left (nat_le size 26
 
 count_small : (earlier : List MarkedView) (n : ℕ) → is_count earlier n ≡ true → n ≤ 65536
 unfolding is_count
-count_small earlier n h = let small = le_of_test (place_count earlier + n) 65536 h in omega arith
+count_small earlier n h = let small = le_of_test (place_total earlier + n) 65536 h in omega arith
 
 name_long : (earlier : List MarkedView) (name : List ℕ) → is_new_name earlier name ≡ true → length name ≡ 8
 unfolding is_new_name
@@ -50,7 +50,7 @@ name_long earlier name h = length-filled name (both-left (is_filled name) _ h)
 pub record IsModuleRead (at : ℕ) (earlier : List MarkedView) (m : MarkedView) (rest bs : List ℕ) : Type 0 where
   pub value : module_at bs ≡ m
   pub good : first_bad (module_fields at earlier bs) ≡ None
-  pub rest_is : drop (module_size (count_at bs)) bs ≡ rest
+  pub rest_is : drop (module_size (place_count_at bs)) bs ≡ rest
 
 pub module_read : (at : ℕ) (earlier : List MarkedView) (m : MarkedView) (rest : List ℕ) → is_module earlier m ≡ true → IsModuleRead at earlier m rest (module_bytes m ++ rest)
 unfolding module_at
@@ -70,7 +70,7 @@ module_read at earlier m rest h =
     let bs = module_row m ++ after in
     let hr : IsHeaderRead m.name m.base m.size n after bs = header_read_back m.name m.base m.size n after (name_long earlier m.name name) (base_small m.base base) (omega arith) (omega arith) in
     let ps : ArePlacesRead (at + 20) m.size 0 m.places after = places_read (at + 20) m.size 0 m.places rest few (both-right (is_count earlier n) _ h4) in
-    let places : places_at (count_at bs) (drop 20 bs) ≡ m.places = ap (λ k. places_at k (drop 20 bs)) hr.count_is ∙ (ap (λ t. places_at n t) hr.rest_is ∙ ps.value) in
+    let places : places_at (place_count_at bs) (drop 20 bs) ≡ m.places = ap (λ k. places_at k (drop 20 bs)) hr.count_is ∙ (ap (λ t. places_at n t) hr.rest_is ∙ ps.value) in
     let record_none = header_none at earlier bs (record {
       room = hr.room;
       name = ap (is_new_name earlier) hr.name_is ∙ name;
@@ -79,9 +79,9 @@ module_read at earlier m rest h =
       count = ap (is_count earlier) hr.count_is ∙ count;
     }) in
     let whole : IsModuleRead at earlier m rest bs = record {
-      value = same_module (take 8 bs) (big_number 4 (drop 8 bs)) (big_number 4 (drop 12 bs)) (places_at (count_at bs) (drop 20 bs)) m hr.name_is hr.base_is hr.size_is places;
-      good = first_none (header_fields at earlier bs) (places_fields (at + 20) (big_number 4 (drop 12 bs)) 0 (count_at bs) (drop 20 bs)) record_none
-          ∙ (ap (λ z. first_bad (places_fields (at + 20) z 0 (count_at bs) (drop 20 bs))) hr.size_is
+      value = same_module (take 8 bs) (big_number 4 (drop 8 bs)) (big_number 4 (drop 12 bs)) (places_at (place_count_at bs) (drop 20 bs)) m hr.name_is hr.base_is hr.size_is places;
+      good = first_none (header_fields at earlier bs) (places_fields (at + 20) (big_number 4 (drop 12 bs)) 0 (place_count_at bs) (drop 20 bs)) record_none
+          ∙ (ap (λ z. first_bad (places_fields (at + 20) z 0 (place_count_at bs) (drop 20 bs))) hr.size_is
           ∙ (ap (λ k. first_bad (places_fields (at + 20) m.size 0 k (drop 20 bs))) hr.count_is
           ∙ (ap (λ t. first_bad (places_fields (at + 20) m.size 0 n t)) hr.rest_is ∙ ps.good)));
       rest_is = ap (λ k. drop (module_size k) bs) hr.count_is
@@ -103,7 +103,7 @@ modules_read at earlier [] rest h = record { value = refl; good = refl }
 modules_read at earlier (m ∷ ms) rest h =
     let after = flat_map module_bytes ms ++ rest in
     let bs = module_bytes m ++ after in
-    let size = module_size (count_at bs) in
+    let size = module_size (place_count_at bs) in
     let n = length ms in
     let one : IsModuleRead at earlier m after bs = module_read at earlier m after (both-left (is_module earlier m) (are_modules (earlier ++ m ∷ []) ms) h) in
     let more = modules_read (at + size) (earlier ++ m ∷ []) ms rest (both-right (is_module earlier m) _ h) in

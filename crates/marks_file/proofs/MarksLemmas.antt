@@ -4,7 +4,7 @@ use Rattle.std.specs.Str.{bytes_eq}
 use Rattle.std.proofs.lemmas.Bool.Decides.{nat_tests}
 use Rattle.std.proofs.lemmas.Slice.Eq.{bytes_eq-Decides}
 use Rattle.cov_base.specs.Meaning.{is_name, padded, unpadded, is_filled}
-use Rattle.marks_file.specs.Meaning.{MarkedView, MarksView, is_new_name, is_base, is_size, is_count, are_modules, is_module_count, are_marks, is_runs, keeps_rules, place_count}
+use Rattle.marks_file.specs.Meaning.{MarkedView, MarksView, is_new_name, is_base, is_size, is_count, are_modules, is_module_count, are_marks, is_runs, keeps_rules, place_total}
 use Rattle.marks_file.specs.Marks.{HasRow}
 use Rattle.marks_file.proofs.Parts.{is_module, is_session_name}
 
@@ -33,7 +33,7 @@ unfolding is_new_name is_count
 module_has_row earlier m h =
     let name = both-left _ _ (both-left (is_new_name earlier m.name) _ h) in
     let rest = both-right (is_size earlier m.base m.size) _ (both-right (is_base m.base) _ (both-right (is_new_name earlier m.name) _ h)) in
-    let count = le_of_test (place_count earlier + length m.places) 65536 (both-left (is_count earlier (length m.places)) _ rest) in
+    let count = le_of_test (place_total earlier + length m.places) 65536 (both-left (is_count earlier (length m.places)) _ rest) in
     record { name = filled_name m.name name; count = omega arith }
 
 modules_have_rows : (earlier ms : List MarkedView) → are_modules earlier ms ≡ true → All HasRow ms

@@ -6,7 +6,7 @@ use Rattle.std.proofs.lemmas.List.{drop-drop, take-append-drop, length-replicate
 use Rattle.byteorder.specs.Endian.{big_number, big_bytes}
 use Rattle.byteorder.specs.Numbers.{big_number-reads_back}
 use Rattle.cov_base.specs.Meaning.{is_name, is_letter, is_name_byte, padded, unpadded, is_filled}
-use Rattle.marks_file.specs.Meaning.{modules_bytes, MarkedView, is_count, are_modules, is_module_count, are_marks, place_count, place_bytes, module_row, module_bytes, first_bad, field, places_at, places_fields, header_fields, module_fields, module_at, modules_fields, count_at, table_fields}
+use Rattle.marks_file.specs.Meaning.{modules_bytes, MarkedView, is_count, are_modules, is_module_count, are_marks, place_total, place_bytes, module_row, module_bytes, first_bad, field, places_at, places_fields, header_fields, module_fields, module_at, modules_fields, place_count_at, table_fields}
 use Rattle.marks_file.specs.Reading.{modules_at, table_at}
 use Rattle.marks_file.proofs.Parts.{is_module, module_size}
 use Rattle.marks_file.proofs.MarksLemmas.{both-left, both-right, both, le_of_test, filled_name}
@@ -35,16 +35,16 @@ header_spelled bs h u =
 
 -- what good fields of a module spell
 pub record IsModuleSpelled (earlier : List MarkedView) (bs : List ℕ) : Type 0 where
-  pub room : module_size (count_at bs) ≤ length bs
+  pub room : module_size (place_count_at bs) ≤ length bs
   pub is : is_module earlier (module_at bs) ≡ true
-  pub count : place_count earlier + count_at bs ≤ 65536
-  pub spelled : module_bytes (module_at bs) ++ drop (module_size (count_at bs)) bs ≡ bs
+  pub count : place_total earlier + place_count_at bs ≤ 65536
+  pub spelled : module_bytes (module_at bs) ++ drop (module_size (place_count_at bs)) bs ≡ bs
 
 pub module_spelled : (at : ℕ) (earlier : List MarkedView) (bs : List ℕ) → AreBytes bs → first_bad (module_fields at earlier bs) ≡ None → IsModuleSpelled earlier bs
 unfolding module_at is_count
 module_spelled at earlier bs u h =
     let size = big_number 4 (drop 12 bs) in
-    let n = count_at bs in
+    let n = place_count_at bs in
     let first = header_fields at earlier bs in
     let others = places_fields (at + 20) size 0 n (drop 20 bs) in
     let r = module_record at earlier bs (none_left first others h) in
@@ -57,7 +57,7 @@ module_spelled at earlier bs u h =
     record {
       room = omega (arith, length-drop 20 bs, left, room);
       is = both _ _ r.name (both _ _ r.base (both _ _ r.size (both _ _ (ap (λ k. is_count earlier k) many ∙ r.count) ps.are)));
-      count = le_of_test (place_count earlier + n) 65536 r.count;
+      count = le_of_test (place_total earlier + n) 65536 r.count;
       spelled = append_assoc (module_row (module_at bs)) (flat_map place_bytes (places_at n (drop 20 bs))) (drop (module_size n) bs)
           ∙ (ap (λ t. module_row (module_at bs) ++ (flat_map place_bytes (places_at n (drop 20 bs)) ++ t)) (sym past)
           ∙ (ap (λ t. module_row (module_at bs) ++ t) ps.spelled
@@ -66,7 +66,7 @@ module_spelled at earlier bs u h =
 
 pub length-modules_at : (n : ℕ) (bs : List ℕ) → length (modules_at n bs) ≡ n
 length-modules_at zero bs = refl
-length-modules_at (suc n) bs = ap suc (length-modules_at n (drop (module_size (count_at bs)) bs))
+length-modules_at (suc n) bs = ap suc (length-modules_at n (drop (module_size (place_count_at bs)) bs))
 
 -- and of modules, with the bytes behind them
 pub record AreModulesSpelled (earlier : List MarkedView) (n : ℕ) (bs : List ℕ) : Type 0 where
@@ -77,7 +77,7 @@ pub record AreModulesSpelled (earlier : List MarkedView) (n : ℕ) (bs : List �
 pub modules_spelled : (at : ℕ) (earlier : List MarkedView) (n : ℕ) (bs : List ℕ) → AreBytes bs → first_bad (modules_fields at earlier n bs) ≡ None → AreModulesSpelled earlier n bs
 modules_spelled at earlier zero bs u h = record { are = refl; rest = bs; spelled = refl }
 modules_spelled at earlier (suc n) bs u h =
-    let size = module_size (count_at bs) in
+    let size = module_size (place_count_at bs) in
     let first = module_fields at earlier bs in
     let others = modules_fields (at + size) (earlier ++ module_at bs ∷ []) n (drop size bs) in
     let one = module_spelled at earlier bs u (none_left first others h) in
@@ -149,7 +149,7 @@ pub record IsHeaderRead (name : List ℕ) (base size n : ℕ) (rest bs : List �
   pub name_is : take 8 bs ≡ name
   pub base_is : big_number 4 (drop 8 bs) ≡ base
   pub size_is : big_number 4 (drop 12 bs) ≡ size
-  pub count_is : count_at bs ≡ n
+  pub count_is : place_count_at bs ≡ n
   pub rest_is : drop 20 bs ≡ rest
   pub room : 20 ≤ length bs
 

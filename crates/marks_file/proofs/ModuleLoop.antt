@@ -3,7 +3,7 @@ use Rattle.std.proofs.Common.{◌≡◌, ℕ, ◌+◌, ◌-◌, ◌*◌, ◌≤�
 use Rattle.std.specs.List.{flat_map}
 use Rattle.std.proofs.lemmas.List.{drop-drop}
 use Rattle.std.proofs.lemmas.Grind.{flat_map-append}
-use Rattle.marks_file.specs.Meaning.{MarkedView, place_count, module_bytes, first_bad, module_fields, modules_fields, count_at, module_at, is_new_name}
+use Rattle.marks_file.specs.Meaning.{MarkedView, place_total, module_bytes, first_bad, module_fields, modules_fields, place_count_at, module_at, is_new_name}
 use Rattle.marks_file.specs.Reading.{IsFault, modules_at}
 use Rattle.marks_file.specs.declared.fault.MarksFault.{MarksFault}
 use Rattle.marks_file.specs.declared.fault.MarksFault.TheVariants.{BadMarks, NoMemory}
@@ -18,17 +18,17 @@ pub record ModulesSoFar (input : List ℕ) (from count at i before : ℕ) (modul
   pub inside : at ≤ length input
   pub fields : first_bad (modules_fields from [] count (drop from input)) ≡ first_bad (modules_fields at modules (count - i) (drop at input))
   pub value : modules_at count (drop from input) ≡ modules ++ modules_at (count - i) (drop at input)
-  pub places : before ≡ place_count modules
+  pub places : before ≡ place_total modules
   pub few : before ≤ 65536
   pub end : at ≡ from + length (flat_map module_bytes modules)
 
-place_count-append : (ms : List MarkedView) (m : MarkedView) → place_count (ms ++ m ∷ []) ≡ place_count ms + length m.places
+place_count-append : (ms : List MarkedView) (m : MarkedView) → place_total (ms ++ m ∷ []) ≡ place_total ms + length m.places
 place_count-append [] m = omega arith
 place_count-append (x ∷ ms) m = let e = place_count-append ms m in omega (arith, e)
 
-places_of : (bs : List ℕ) → length (module_at bs).places ≡ count_at bs
+places_of : (bs : List ℕ) → length (module_at bs).places ≡ place_count_at bs
 unfolding module_at
-places_of bs = length-places_at (count_at bs) (drop 20 bs)
+places_of bs = length-places_at (place_count_at bs) (drop 20 bs)
 
 pub modules_step : (input : List ℕ) (from count at i before n : ℕ) (modules : List MarkedView) (m : MarkedView) → AreBytes input → ModulesSoFar input from count at i before modules → i < count
     → first_bad (module_fields at modules (drop at input)) ≡ None → m ≡ module_at (drop at input) → n ≡ length m.places
@@ -37,9 +37,9 @@ modules_step input from count at i before n modules m u s h good is many =
     let k : count - i ≡ suc (count - (i + 1)) = omega arith in
     let bs = drop at input in
     let left = count - (i + 1) in
-    let size = module_size (count_at bs) in
+    let size = module_size (place_count_at bs) in
     let one = module_spelled at modules bs (bytes_later at input u) good in
-    let same : n ≡ count_at bs = many ∙ (ap (λ (x : MarkedView). length x.places) is ∙ places_of bs) in
+    let same : n ≡ place_count_at bs = many ∙ (ap (λ (x : MarkedView). length x.places) is ∙ places_of bs) in
     let past : drop size bs ≡ drop (at + size) input = drop-drop size at input in
     let here : at + (20 + 9 * n) ≡ at + size = ap (λ x. at + (20 + 9 * x)) same in
     let inside = s.inside in
@@ -76,7 +76,7 @@ modules_stop input from count at i before modules NoMemory s h bad = tt
 modules_stop input from count at i before modules (BadMarks o) s h bad =
     let k : count - i ≡ suc (count - (i + 1)) = omega arith in
     let bs = drop at input in
-    let size = module_size (count_at bs) in
+    let size = module_size (place_count_at bs) in
     s.fields
     ∙ (ap (λ j. first_bad (modules_fields at modules j bs)) k
     ∙ first_some (module_fields at modules bs) (modules_fields (at + size) (modules ++ module_at bs ∷ []) (count - (i + 1)) (drop size bs)) o bad)

@@ -9,7 +9,7 @@ use Rattle.cov_base.specs.Meaning.{FactSet, facts_of_number, number_of_facts}
 use Rattle.cov_base.specs.FactSet.{number_of_facts-facts_of_number}
 use Rattle.cov_base.specs.declared.facts.Kind.{Kind}
 use Rattle.cov_base.specs.declared.facts.Kind.TheVariants.{Straight, Conditional}
-use Rattle.marks_file.specs.Meaning.{kind_number, kind_of_number, is_location, is_length, is_original, is_set, are_places, end_of, place_bytes, first_bad, place_at, place_fields, places_at, places_fields}
+use Rattle.marks_file.specs.Meaning.{kind_number, kind_of_number, is_location, is_length, is_original, is_set, are_places, end_location, place_bytes, first_bad, marked_place_at, place_fields, places_at, places_fields}
 use Rattle.marks_file.specs.declared.marks.MarkedPlace.{MarkedPlace}
 use Rattle.marks_file.proofs.Parts.{is_place}
 use Rattle.marks_file.proofs.MarksLemmas.{both-left, both-right, both, le_of_test}
@@ -86,8 +86,8 @@ set_small : (k : Kind) (n : ℕ) → is_set k n ≡ true → n < 8
 unfolding is_set
 set_small k n h = ltb-true n 8 (both-left (nat_lt n 8) _ h)
 
-pub place_spelled : (size end : ℕ) (bs : List ℕ) → AreBytes bs → IsPlaceRecord size end bs → place_bytes (place_at bs) ++ drop 9 bs ≡ bs
-unfolding place_at
+pub place_spelled : (size end : ℕ) (bs : List ℕ) → AreBytes bs → IsPlaceRecord size end bs → place_bytes (marked_place_at bs) ++ drop 9 bs ≡ bs
+unfolding marked_place_at
 place_spelled size end [] u r = let room : 9 ≤ 0 = r.room in absurd (omega arith)
 place_spelled size end (a ∷ []) u r = let room : 9 ≤ 1 = r.room in absurd (omega arith)
 place_spelled size end (a ∷ b ∷ []) u r = let room : 9 ≤ 2 = r.room in absurd (omega arith)
@@ -104,8 +104,8 @@ place_spelled size end (a ∷ b ∷ c ∷ d ∷ e ∷ f ∷ g ∷ i ∷ j ∷ bs
     (half_spelled g i [] (u 6) (u 7))
     (number_of_facts-facts_of_number j (set_small (kind_of_number f) j r.set))
 
-pub place_is : (size end : ℕ) (bs : List ℕ) → IsPlaceRecord size end bs → is_place size end (place_at bs) ≡ true
-unfolding place_at
+pub place_is : (size end : ℕ) (bs : List ℕ) → IsPlaceRecord size end bs → is_place size end (marked_place_at bs) ≡ true
+unfolding marked_place_at
 place_is size end bs r =
     let set : number_of_facts (facts_of_number (slice_index bs 8)) ≡ slice_index bs 8 = number_of_facts-facts_of_number (slice_index bs 8) (set_small _ _ r.set) in
     let same : is_set (kind_of_number (slice_index bs 5)) (number_of_facts (facts_of_number (slice_index bs 8))) ≡ true = ap (is_set (kind_of_number (slice_index bs 5))) set ∙ r.set in
@@ -123,8 +123,8 @@ half_small len k half h = let small = ltb-true half 65536 (both-left (nat_lt hal
 same_place : (l o : ℕ) (k : Kind) (s : FactSet) (p : MarkedPlace) → l ≡ p.location → o ≡ p.original → k ≡ p.kind → s ≡ p.set → ◌≡◌ {A = MarkedPlace} (record { location = l; len = p.len; kind = k; original = o; set = s }) p
 same_place l o k s p e1 e2 e3 e4 = rw (e1, e2, e3, e4) refl
 
-pub place_read : (size end : ℕ) (p : MarkedPlace) (rest : List ℕ) → size ≤ 262144 → is_place size end p ≡ true → place_at (place_bytes p ++ rest) ≡ p
-unfolding place_at
+pub place_read : (size end : ℕ) (p : MarkedPlace) (rest : List ℕ) → size ≤ 262144 → is_place size end p ≡ true → marked_place_at (place_bytes p ++ rest) ≡ p
+unfolding marked_place_at
 place_read size end p rest few h =
     let long = both-left (is_length size p.location p.len) _ (both-right (is_location size end p.location) _ h) in
     let original = both-left (is_original p.len p.kind p.original) _ (both-right (is_length size p.location p.len) _ (both-right (is_location size end p.location) _ h)) in
@@ -175,9 +175,9 @@ pub places_spelled : (at size end n : ℕ) (bs : List ℕ) → AreBytes bs → f
 places_spelled at size end zero bs u h = record { room = omega arith; are = refl; spelled = refl }
 places_spelled at size end (suc n) bs u h =
     let first = place_fields at size end bs in
-    let others = places_fields (at + 9) size (end_of (place_at bs)) n (drop 9 bs) in
+    let others = places_fields (at + 9) size (end_location (marked_place_at bs)) n (drop 9 bs) in
     let r = place_record at size end bs (none_left first others h) in
-    let more = places_spelled (at + 9) size (end_of (place_at bs)) n (drop 9 bs) (bytes_later 9 bs u) (none_right first others h) in
+    let more = places_spelled (at + 9) size (end_location (marked_place_at bs)) n (drop 9 bs) (bytes_later 9 bs u) (none_right first others h) in
     let one = place_spelled size end bs u r in
     let room = r.room in
     let left = more.room in
@@ -185,9 +185,9 @@ places_spelled at size end (suc n) bs u h =
     record {
       room = omega (arith, length-drop 9 bs, left);
       are = both _ _ (place_is size end bs r) more.are;
-      spelled = append_assoc (place_bytes (place_at bs)) (flat_map place_bytes (places_at n (drop 9 bs))) (drop (9 * suc n) bs)
-          ∙ (ap (λ t. place_bytes (place_at bs) ++ (flat_map place_bytes (places_at n (drop 9 bs)) ++ t)) (sym past)
-          ∙ (ap (λ t. place_bytes (place_at bs) ++ t) more.spelled ∙ one));
+      spelled = append_assoc (place_bytes (marked_place_at bs)) (flat_map place_bytes (places_at n (drop 9 bs))) (drop (9 * suc n) bs)
+          ∙ (ap (λ t. place_bytes (marked_place_at bs) ++ (flat_map place_bytes (places_at n (drop 9 bs)) ++ t)) (sym past)
+          ∙ (ap (λ t. place_bytes (marked_place_at bs) ++ t) more.spelled ∙ one));
     }
 
 -- what was spelled is read back
@@ -199,13 +199,13 @@ pub places_read : (at size end : ℕ) (ps : List MarkedPlace) (rest : List ℕ) 
 places_read at size end [] rest few h = record { value = refl; good = refl }
 places_read at size end (p ∷ ps) rest few h =
     let after = flat_map place_bytes ps ++ rest in
-    let is = both-left (is_place size end p) (are_places size (end_of p) ps) h in
+    let is = both-left (is_place size end p) (are_places size (end_location p) ps) h in
     let one = place_read size end p after few is in
-    let more = places_read (at + 9) size (end_of p) ps rest few (both-right (is_place size end p) _ h) in
+    let more = places_read (at + 9) size (end_location p) ps rest few (both-right (is_place size end p) _ h) in
     let joined : (place_bytes p ++ flat_map place_bytes ps) ++ rest ≡ place_bytes p ++ after = append_assoc (place_bytes p) (flat_map place_bytes ps) rest in
     let first = place_fields at size end (place_bytes p ++ after) in
     let none = place_none at size end (place_bytes p ++ after) (place_is_record size end p after few is) in
-    let others : first_bad (places_fields (at + 9) size (end_of (place_at (place_bytes p ++ after))) (length ps) after) ≡ None = ap (λ q. first_bad (places_fields (at + 9) size (end_of q) (length ps) after)) one ∙ more.good in
+    let others : first_bad (places_fields (at + 9) size (end_location (marked_place_at (place_bytes p ++ after))) (length ps) after) ≡ None = ap (λ q. first_bad (places_fields (at + 9) size (end_location q) (length ps) after)) one ∙ more.good in
     record {
       value = ap (λ bs. places_at (suc (length ps)) bs) joined ∙ joined_list _ _ _ _ one more.value;
       good = ap (λ bs. first_bad (places_fields at size end (suc (length ps)) bs)) joined ∙ (first_none first _ none ∙ others);

@@ -49,15 +49,15 @@ is_original len kind half = nat_lt half 65536 && (nat_eq (length_of half) len &&
 unfoldable pub is_set : Kind → ℕ → Bool
 is_set kind set = nat_lt set 8 && is_within kind (facts_of_number set)
 
-abbrev pub end_of : MarkedPlace → ℕ
-end_of p = p.location + p.len
+abbrev pub end_location : MarkedPlace → ℕ
+end_location p = p.location + p.len
 
 -- the places of a module of this size, behind one that ends there
 abbrev pub are_places : ℕ → ℕ → List MarkedPlace → Bool
 are_places size end [] = true
 are_places size end (p ∷ ps) =
     (is_location size end p.location && (is_length size p.location p.len && (is_original p.len p.kind p.original && is_set p.kind (number_of_facts p.set))))
-    && are_places size (end_of p) ps
+    && are_places size (end_location p) ps
 
 -- name: one filled with blanks, other than the earlier modules'
 unfoldable pub is_new_name : List MarkedView → List ℕ → Bool
@@ -75,13 +75,13 @@ is_clear base size m = nat_le (m.base + m.size) base || nat_le (base + size) m.b
 unfoldable pub is_size : List MarkedView → ℕ → ℕ → Bool
 is_size earlier base size = nat_eq (size % 2) 0 && (nat_le 2 size && (nat_le size 262144 && (nat_le (base + size) 16773120 && list_all (is_clear base size) earlier)))
 
-abbrev pub place_count : List MarkedView → ℕ
-place_count [] = 0
-place_count (m ∷ ms) = length m.places + place_count ms
+abbrev pub place_total : List MarkedView → ℕ
+place_total [] = 0
+place_total (m ∷ ms) = length m.places + place_total ms
 
 -- count: the counts so far sum to at most 65,536
 unfoldable pub is_count : List MarkedView → ℕ → Bool
-is_count earlier count = nat_le (place_count earlier + count) 65536
+is_count earlier count = nat_le (place_total earlier + count) 65536
 
 -- the modules behind these
 abbrev pub are_modules : List MarkedView → List MarkedView → Bool
@@ -170,22 +170,22 @@ rows ms = flat_map module_rows ms
 -- What bytes say where a marks file is expected: its fields in their order, and the first of them that is bad.
 
 -- the offset of a field, and whether the input has it whole and it keeps its rule
-pub record Field : Type 0 where
+pub record FieldAt : Type 0 where
   pub at : ℕ
   pub good : Bool
 
 -- so many bytes from k on, of the bytes that begin at this offset, under this rule
-abbrev pub field : ℕ → List ℕ → ℕ → ℕ → Bool → Field
+abbrev pub field : ℕ → List ℕ → ℕ → ℕ → Bool → FieldAt
 field at bs k width rule = record { at = at + k; good = nat_le (k + width) (length bs) && rule }
 
 -- the offset of the first bad field
-abbrev pub first_bad : List Field → Option ℕ
+abbrev pub first_bad : List FieldAt → Option ℕ
 first_bad [] = None
 first_bad (f ∷ fs) = if f.good then first_bad fs else Some f.at
 
 -- the place that the first 9 bytes say
-unfoldable pub place_at : List ℕ → MarkedPlace
-place_at bs = record {
+unfoldable pub marked_place_at : List ℕ → MarkedPlace
+marked_place_at bs = record {
   location = big_number 4 bs;
   len = slice_index bs 4;
   kind = kind_of_number (slice_index bs 5);
@@ -194,7 +194,7 @@ place_at bs = record {
 }
 
 -- of a place in a module of this size, behind one that ends there
-unfoldable pub place_fields : ℕ → ℕ → ℕ → List ℕ → List Field
+unfoldable pub place_fields : ℕ → ℕ → ℕ → List ℕ → List FieldAt
 place_fields at size end bs =
     field at bs 0 4 (is_location size end (big_number 4 bs))
     ∷ field at bs 4 1 (is_length size (big_number 4 bs) (slice_index bs 4))
@@ -205,43 +205,43 @@ place_fields at size end bs =
 
 abbrev pub places_at : ℕ → List ℕ → List MarkedPlace
 places_at zero bs = []
-places_at (suc n) bs = place_at bs ∷ places_at n (drop 9 bs)
+places_at (suc n) bs = marked_place_at bs ∷ places_at n (drop 9 bs)
 
-abbrev pub places_fields : ℕ → ℕ → ℕ → ℕ → List ℕ → List Field
+abbrev pub places_fields : ℕ → ℕ → ℕ → ℕ → List ℕ → List FieldAt
 places_fields at size end zero bs = []
-places_fields at size end (suc n) bs = place_fields at size end bs ++ places_fields (at + 9) size (end_of (place_at bs)) n (drop 9 bs)
+places_fields at size end (suc n) bs = place_fields at size end bs ++ places_fields (at + 9) size (end_location (marked_place_at bs)) n (drop 9 bs)
 
 -- the number of places that a module's first 20 bytes say
-abbrev pub count_at : List ℕ → ℕ
-count_at bs = big_number 4 (drop 16 bs)
+abbrev pub place_count_at : List ℕ → ℕ
+place_count_at bs = big_number 4 (drop 16 bs)
 
 unfoldable pub module_at : List ℕ → MarkedView
 module_at bs = record {
   name = take 8 bs;
   base = big_number 4 (drop 8 bs);
   size = big_number 4 (drop 12 bs);
-  places = places_at (count_at bs) (drop 20 bs);
+  places = places_at (place_count_at bs) (drop 20 bs);
 }
 
 -- of a module without its places, behind these
-unfoldable pub header_fields : ℕ → List MarkedView → List ℕ → List Field
+unfoldable pub header_fields : ℕ → List MarkedView → List ℕ → List FieldAt
 header_fields at earlier bs =
     field at bs 0 8 (is_new_name earlier (take 8 bs))
     ∷ field at bs 8 4 (is_base (big_number 4 (drop 8 bs)))
     ∷ field at bs 12 4 (is_size earlier (big_number 4 (drop 8 bs)) (big_number 4 (drop 12 bs)))
-    ∷ field at bs 16 4 (is_count earlier (count_at bs))
+    ∷ field at bs 16 4 (is_count earlier (place_count_at bs))
     ∷ []
 
-abbrev pub module_fields : ℕ → List MarkedView → List ℕ → List Field
-module_fields at earlier bs = header_fields at earlier bs ++ places_fields (at + 20) (big_number 4 (drop 12 bs)) 0 (count_at bs) (drop 20 bs)
+abbrev pub module_fields : ℕ → List MarkedView → List ℕ → List FieldAt
+module_fields at earlier bs = header_fields at earlier bs ++ places_fields (at + 20) (big_number 4 (drop 12 bs)) 0 (place_count_at bs) (drop 20 bs)
 
-abbrev pub modules_fields : ℕ → List MarkedView → ℕ → List ℕ → List Field
+abbrev pub modules_fields : ℕ → List MarkedView → ℕ → List ℕ → List FieldAt
 modules_fields at earlier zero bs = []
 modules_fields at earlier (suc n) bs =
-    module_fields at earlier bs ++ modules_fields (at + (20 + 9 * count_at bs)) (earlier ++ module_at bs ∷ []) n (drop (20 + 9 * count_at bs) bs)
+    module_fields at earlier bs ++ modules_fields (at + (20 + 9 * place_count_at bs)) (earlier ++ module_at bs ∷ []) n (drop (20 + 9 * place_count_at bs) bs)
 
 -- of the number of modules, and of the modules behind it
-abbrev pub table_fields : ℕ → List ℕ → List Field
+abbrev pub table_fields : ℕ → List ℕ → List FieldAt
 table_fields at bs = field at bs 0 2 (is_module_count (big_number 2 bs)) ∷ modules_fields (at + 2) [] (big_number 2 bs) (drop 2 bs)
 
 abbrev pub is_magic : List ℕ → Bool
@@ -261,7 +261,7 @@ abbrev pub is_name_field : List ℕ → Bool
 is_name_field bs = is_filled bs || bytes_eq bs (name_field None)
 
 -- of name and runs
-abbrev pub session_fields : Version → ℕ → List ℕ → List Field
+abbrev pub session_fields : Version → ℕ → List ℕ → List FieldAt
 session_fields First at bs = []
 session_fields Second at bs =
     field at bs 8 8 (is_name_field (take 8 (drop 8 bs)))
@@ -269,9 +269,9 @@ session_fields Second at bs =
     ∷ []
 
 -- of what stands before the number of modules
-unfoldable pub heading_fields : ℕ → List ℕ → List Field
+unfoldable pub heading_fields : ℕ → List ℕ → List FieldAt
 heading_fields at bs = field at bs 0 8 (is_magic (take 8 bs)) ∷ session_fields (version_of bs) at bs
 
 -- the fields of the file that the bytes begin with, where the first of them has this offset
-abbrev pub file_fields : ℕ → List ℕ → List Field
+abbrev pub file_fields : ℕ → List ℕ → List FieldAt
 file_fields at bs = heading_fields at bs ++ table_fields (at + table_from (version_of bs)) (drop (table_from (version_of bs)) bs)

@@ -3,7 +3,7 @@ use Rattle.std.specs.Prelude.{◌≡◌, ℕ, zero, suc, ◌+◌, ◌*◌, Bool,
 use Rattle.std.specs.Io.{StartsWith}
 use Rattle.byteorder.specs.Endian.{big_number}
 use Rattle.cov_base.specs.Meaning.{is_filled}
-use Rattle.marks_file.specs.Meaning.{MarkedView, MarksView, keeps_rules, file_bytes, HasFile, Field, first_bad, count_at, module_at, version_of, table_from, is_name_field}
+use Rattle.marks_file.specs.Meaning.{MarkedView, MarksView, keeps_rules, file_bytes, HasFile, FieldAt, first_bad, place_count_at, module_at, version_of, table_from, is_name_field}
 use Rattle.marks_file.specs.declared.fault.MarksFault.{MarksFault}
 use Rattle.marks_file.specs.declared.fault.MarksFault.TheVariants.{BadMarks, NoMemory}
 use Rattle.marks_file.specs.declared.version.Version.{Version}
@@ -11,7 +11,7 @@ use Rattle.marks_file.specs.declared.version.Version.TheVariants.{First, Second}
 
 abbrev pub modules_at : ℕ → List ℕ → List MarkedView
 modules_at zero bs = []
-modules_at (suc n) bs = module_at bs ∷ modules_at n (drop (20 + 9 * count_at bs) bs)
+modules_at (suc n) bs = module_at bs ∷ modules_at n (drop (20 + 9 * place_count_at bs) bs)
 
 abbrev pub table_at : List ℕ → List MarkedView
 table_at bs = modules_at (big_number 2 bs) (drop 2 bs)
@@ -42,7 +42,7 @@ unfoldable pub marks_at : List ℕ → MarksView
 marks_at bs = marks_of (version_of bs) bs
 
 -- a fault of these fields: the first bad one, or want of memory
-abbrev pub IsFault : List Field → MarksFault → Type 0
+abbrev pub IsFault : List FieldAt → MarksFault → Type 0
 IsFault fields (BadMarks offset) = first_bad fields ≡ Some offset
 IsFault fields NoMemory = Unit {0}
 

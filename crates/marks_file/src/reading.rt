@@ -3,7 +3,7 @@ ghost use Rattle.std.specs.Prelude.{◌≡◌, ◌+◌, ◌≤◌, ◌<◌, ◌^
 ghost use Rattle.std.specs.Io.{StartsWith};
 ghost use Rattle.std.specs.List.{flat_map};
 ghost use Rattle.byteorder.specs.Endian.{big_number};
-ghost use Rattle.marks_file.specs.Meaning.{MarksView, is_location, is_length, is_original, is_set, kind_of_number, is_base, is_size, is_count, is_module_count, place_count, module_bytes, modules_bytes, file_bytes, HasFile, first_bad, place_at, place_fields, places_at, places_fields, header_fields, module_at, module_fields, modules_fields, table_fields, count_at, file_fields};
+ghost use Rattle.marks_file.specs.Meaning.{MarksView, is_location, is_length, is_original, is_set, kind_of_number, is_base, is_size, is_count, is_module_count, place_total, module_bytes, modules_bytes, file_bytes, HasFile, first_bad, marked_place_at, place_fields, places_at, places_fields, header_fields, module_at, module_fields, modules_fields, table_fields, place_count_at, file_fields};
 ghost use Rattle.marks_file.specs.Reading.{modules_at, table_at, IsFault, IfHasFile, IfBeginsWith, marks_at};
 ghost use Rattle.marks_file.specs.declared.version.Version.{Version};
 
@@ -74,10 +74,10 @@ fn has_set(bytes: &[u8], kind: Kind) -> bool
 }
 
 /// The place that begins there, of a module of this size, behind one that ends at `end`.
-#[tactic(auto, unfolding(crate::specs::Meaning::place_fields, crate::specs::Meaning::place_at))]
+#[tactic(auto, unfolding(crate::specs::Meaning::place_fields, crate::specs::Meaning::marked_place_at))]
 fn read_place(bytes: &[u8], at: usize, size: u32, end: u32) -> Result<MarkedPlace, BadField>
     requires { at < 2 ^ 63 }
-    ensures place { IfOk result (λ p. p ≡ place_at bytes.now) }
+    ensures place { IfOk result (λ p. p ≡ marked_place_at bytes.now) }
     ensures good { OnOk result (first_bad (place_fields at size end bytes.now) ≡ None) }
     ensures bad { IfErr result (λ e. first_bad (place_fields at size end bytes.now) ≡ Some e.0) }
 {
@@ -155,7 +155,7 @@ fn has_size(bytes: &[u8], earlier: &NamedModules, base: u32) -> bool
 
 fn has_count(bytes: &[u8], before: u32) -> bool
     requires { before ≤ 65536 }
-    ensures { result ≡ (nat_le 20 (length bytes.now) && nat_le (before + count_at bytes.now) 65536) }
+    ensures { result ≡ (nat_le 20 (length bytes.now) && nat_le (before + place_count_at bytes.now) 65536) }
 {
     bytes.len() >= 20 && is_count(before, word_at(bytes, 16))
 }
@@ -169,12 +169,12 @@ fn read_header(
     before: u32,
 ) -> Result<Header, BadField>
     requires offset { at < 2 ^ 63 }
-    requires before { before ≡ place_count earlier.now }
+    requires before { before ≡ place_total earlier.now }
     requires few { before ≤ 65536 }
     ensures name { IfOk result (λ h. h.name ≡ take 8 bytes.now) }
     ensures base { IfOk result (λ h. h.base ≡ big_number 4 (drop 8 bytes.now)) }
     ensures size { IfOk result (λ h. h.size ≡ big_number 4 (drop 12 bytes.now)) }
-    ensures count { IfOk result (λ h. h.count ≡ count_at bytes.now) }
+    ensures count { IfOk result (λ h. h.count ≡ place_count_at bytes.now) }
     ensures good { OnOk result (first_bad (header_fields at earlier.now bytes.now) ≡ None) }
     ensures bad { IfErr result (λ e. first_bad (header_fields at earlier.now bytes.now) ≡ Some e.0) }
 {
@@ -208,7 +208,7 @@ fn read_module(
     before: u32,
 ) -> Result<MarkedModule, MarksFault>
     requires inside { at ≤ length input.now }
-    requires before { before ≡ place_count earlier.now }
+    requires before { before ≡ place_total earlier.now }
     requires few { before ≤ 65536 }
     ensures value { IfOk result (λ m. m ≡ module_at (drop at input.now)) }
     ensures good { OnOk result (first_bad (module_fields at earlier.now (drop at input.now)) ≡ None) }

@@ -5,7 +5,7 @@ use Rattle.s370_exec.specs.Meaning.{Run, solo_step, run_ended, run_after, has_re
 use Rattle.s370_state.specs.declared.endings.Ending.TheVariants.{Returned, Spent}
 use Rattle.s370_state.specs.declared.endings.Next.{Next}
 use Rattle.s370_state.specs.declared.endings.Next.TheVariants.{On, Ended}
-use Rattle.observed_step.specs.Meaning.{After, Tour, course_on, state_behind, step_behind, visits_of}
+use Rattle.observed_step.specs.Meaning.{DoneBehind, Tour, course_on, state_behind, step_behind, visits_of}
 use Rattle.observed_step.proofs.CourseLemmas.{course-returned, course-none, course-more, course-ended}
 
 -- the run of a tour behind a trace
@@ -13,13 +13,13 @@ abbrev pub run_of : List Visit → Tour → Run
 run_of trace tour = run_ended tour.ending tour.state (trace ++ visits_of tour.turns)
 
 -- how the run is told, with so many instructions left of the budget
-pub record TellsRun {K : Type 0} (after : After K) (m : Memory) (run : ℕ → K → State → List Visit → Run) : Type 0 where
+pub record TellsRun {K : Type 0} (after : DoneBehind K) (m : Memory) (run : ℕ → K → State → List Visit → Run) : Type 0 where
   pub none : (k : K) (s : State) (trace : List Visit) → run 0 k s trace ≡ run_ended (if has_returned s then Returned else Spent) s trace
   pub returned : (n : ℕ) (k : K) (s : State) (trace : List Visit) → has_returned s ≡ true → run (suc n) k s trace ≡ run_ended Returned s trace
   pub more : (n : ℕ) (k : K) (s : State) (trace : List Visit) → has_returned s ≡ false → run (suc n) k s trace
       ≡ run_after (λ t trace. run n (step_behind after m k s).key t trace) trace (state_behind after m k s) (solo_step m s).visits (step_behind after m k s).next
 
-module _ {K : Type 0} (after : After K) (m : Memory) (run : ℕ → K → State → List Visit → Run) (tells : TellsRun after m run) where
+module _ {K : Type 0} (after : DoneBehind K) (m : Memory) (run : ℕ → K → State → List Visit → Run) (tells : TellsRun after m run) where
   abbrev IsRunOf : ℕ → K → State → Type 0
   IsRunOf n k s = (trace : List Visit) → run n k s trace ≡ run_of trace (course_on after m n k s)
 

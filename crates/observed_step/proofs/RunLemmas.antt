@@ -5,19 +5,19 @@ use Rattle.s370_exec.specs.Meaning.{solo_step, has_returned}
 use Rattle.s370_state.specs.declared.endings.Ending.{Ending}
 use Rattle.s370_state.specs.declared.endings.Ending.TheVariants.{Returned, Spent}
 use Rattle.s370_state.specs.declared.endings.Next.TheVariants.{On, Ended}
-use Rattle.observed_step.specs.Meaning.{After, Behind, Tour, Turn, course_on, ends_here, step_behind, turn_of, turned, with_cpu}
+use Rattle.observed_step.specs.Meaning.{DoneBehind, Behind, Tour, Turn, course_on, ends_here, step_behind, turn_of, turned, with_cpu}
 use Rattle.observed_step.specs.Runs.{Goes}
 use Rattle.observed_step.proofs.CourseLemmas.{course-returned, course-none, course-more, course-ended, last_turn, turned-more}
 use Rattle.observed_step.proofs.GoesLemmas.{goes_more}
 
 -- i instructions of the course have led to this key and state, and between them from x to y
-pub record LedTo {K S : Type 0} (after : After K) (m : Memory) (takes : ℕ → Turn → S → S → Type 0) (budget : ℕ) (first : K) (start : State) (x : S) (i : ℕ) (key : K) (now : State) (y : S) : Type 0 where
+pub record LedTo {K S : Type 0} (after : DoneBehind K) (m : Memory) (takes : ℕ → Turn → S → S → Type 0) (budget : ℕ) (first : K) (start : State) (x : S) (i : ℕ) (key : K) (now : State) (y : S) : Type 0 where
   pub turns : List Turn
   pub count : length turns ≡ i
   pub course : course_on after m budget first start ≡ turned turns (course_on after m (budget - i) key now)
   pub goes : Goes takes 0 turns x y
 
-pub LedTo-start : {K S : Type 0} (after : After K) (m : Memory) (takes : ℕ → Turn → S → S → Type 0) (budget : ℕ) (k : K) (s : State) (x : S) → LedTo after m takes budget k s x 0 k s x
+pub LedTo-start : {K S : Type 0} (after : DoneBehind K) (m : Memory) (takes : ℕ → Turn → S → S → Type 0) (budget : ℕ) (k : K) (s : State) (x : S) → LedTo after m takes budget k s x 0 k s x
 LedTo-start after m takes budget k s x =
     let all : budget - 0 ≡ budget = omega arith in
     record { turns = []; count = refl; course = rw all refl; goes = refl }
@@ -25,7 +25,7 @@ LedTo-start after m takes budget k s x =
 left : (budget i : ℕ) → i < budget → budget - i ≡ suc (budget - (i + 1))
 left budget i lt = omega arith
 
-pub LedTo-more : {K S : Type 0} (after : After K) (m : Memory) (takes : ℕ → Turn → S → S → Type 0) (budget : ℕ) (first : K) (start : State) (x : S) (i : ℕ) (k : K) (s t : State) (y z : S) (b : Behind K) →
+pub LedTo-more : {K S : Type 0} (after : DoneBehind K) (m : Memory) (takes : ℕ → Turn → S → S → Type 0) (budget : ℕ) (first : K) (start : State) (x : S) (i : ℕ) (k : K) (s t : State) (y z : S) (b : Behind K) →
     LedTo after m takes budget first start x i k s y → i < budget → has_returned s ≡ false → step_behind after m k s ≡ b → b.next ≡ On → with_cpu (solo_step m s).state b.cpu ≡ t →
     takes (i + 1) (turn_of m s) y z → LedTo after m takes budget first start x (i + 1) b.key t z
 LedTo-more after m takes budget first start x i k s t y z b r lt here behind next state took = record {
@@ -55,7 +55,7 @@ ran takes tour x y ending last at done turns is count goes = record {
   goes = subst (λ (ts : List Turn). Goes takes 0 ts x y) (sym (ap (λ (t : Tour). t.turns) is)) goes;
 }
 
-pub Ran-ended : {K S : Type 0} (after : After K) (m : Memory) (takes : ℕ → Turn → S → S → Type 0) (budget : ℕ) (first : K) (start : State) (x : S) (i : ℕ) (k : K) (s t : State) (y z : S) (b : Behind K) (e : Ending) (at : ℕ) →
+pub Ran-ended : {K S : Type 0} (after : DoneBehind K) (m : Memory) (takes : ℕ → Turn → S → S → Type 0) (budget : ℕ) (first : K) (start : State) (x : S) (i : ℕ) (k : K) (s t : State) (y z : S) (b : Behind K) (e : Ending) (at : ℕ) →
     LedTo after m takes budget first start x i k s y → i < budget → has_returned s ≡ false → step_behind after m k s ≡ b → b.next ≡ Ended e → with_cpu (solo_step m s).state b.cpu ≡ t →
     takes (i + 1) (turn_of m s) y z → s.machine.cpu.ia ≡ at → Ran takes (course_on after m budget first start) x z e t at (i + 1)
 Ran-ended after m takes budget first start x i k s t y z b e at r lt here behind next state took ia =
@@ -69,13 +69,13 @@ Ran-ended after m takes budget first start x i k s t y z b e at r lt here behind
 stays : (turns : List Turn) (e : Ending) (s : State) → turned turns (ends_here e s) ≡ record { ending = e; state = s; at = s.machine.cpu.ia; turns = turns }
 stays turns e s = ap (λ (ts : List Turn). record (ends_here e s) { turns = ts }) (append-nil turns)
 
-pub Ran-returned : {K S : Type 0} (after : After K) (m : Memory) (takes : ℕ → Turn → S → S → Type 0) (budget : ℕ) (first : K) (start : State) (x : S) (i : ℕ) (k : K) (s : State) (y : S) (at : ℕ) →
+pub Ran-returned : {K S : Type 0} (after : DoneBehind K) (m : Memory) (takes : ℕ → Turn → S → S → Type 0) (budget : ℕ) (first : K) (start : State) (x : S) (i : ℕ) (k : K) (s : State) (y : S) (at : ℕ) →
     LedTo after m takes budget first start x i k s y → has_returned s ≡ true → s.machine.cpu.ia ≡ at → Ran takes (course_on after m budget first start) x y Returned s at i
 Ran-returned after m takes budget first start x i k s y at r here ia =
     ran takes (course_on after m budget first start) x y Returned s at i r.turns
     (r.course ∙ (ap (turned r.turns) (course-returned after m (budget - i) k s here) ∙ (stays r.turns Returned s ∙ ap (λ a. record (ends_here Returned s) { at = a; turns = r.turns }) ia))) r.count r.goes
 
-pub Ran-all : {K S : Type 0} (after : After K) (m : Memory) (takes : ℕ → Turn → S → S → Type 0) (budget : ℕ) (first : K) (start : State) (x : S) (i : ℕ) (k : K) (s : State) (y : S) (e : Ending) (at : ℕ) →
+pub Ran-all : {K S : Type 0} (after : DoneBehind K) (m : Memory) (takes : ℕ → Turn → S → S → Type 0) (budget : ℕ) (first : K) (start : State) (x : S) (i : ℕ) (k : K) (s : State) (y : S) (e : Ending) (at : ℕ) →
     LedTo after m takes budget first start x i k s y → budget ≤ i → (if has_returned s then Returned else Spent) ≡ e → s.machine.cpu.ia ≡ at → Ran takes (course_on after m budget first start) x y e s at i
 Ran-all after m takes budget first start x i k s y e at r all ending ia =
     let none : budget - i ≡ 0 = omega arith in

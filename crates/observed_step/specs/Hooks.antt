@@ -4,7 +4,7 @@ use Rattle.brk_table.specs.Meaning.{TablesView}
 use Rattle.module_area.specs.Meaning.{ControlView}
 use Rattle.s370_state.specs.Meaning.{machine_of}
 use Rattle.s370_state.specs.declared.endings.Next.{Next}
-use Rattle.observed_step.specs.Meaning.{After, nothing}
+use Rattle.observed_step.specs.Meaning.{DoneBehind, nothing}
 use Rattle.observed_step.specs.Steps.{CanStep, StepsAs, memory_at}
 use Rattle.observed_step.specs.declared.bench.Bench.{Bench}
 use Rattle.observed_step.specs.declared.observer.Observer as observer
@@ -14,7 +14,7 @@ use Rattle.observed_step.specs.declared.observer.Observer as observer
 pub record Way (H O P : Type 0) : Type 1 where
   pub Key : Type 0
   pub key : H → Key
-  pub after : After Key
+  pub after : DoneBehind Key
   pub IsSet : H → O → P → ControlView → ℕ → Type 0
   pub Aside : H → O → P → ControlView → ℕ → P → H → Type 0
 

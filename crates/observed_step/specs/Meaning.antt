@@ -20,11 +20,11 @@ pub record Behind (K : Type 0) : Type 0 where
   pub key : K
 
 -- what is done behind an instruction that has left the machine so, and how the task would go on
-abbrev pub After : Type 0 → Type 0
-After K = K → Memory → Machine → Next → Behind K
+abbrev pub DoneBehind : Type 0 → Type 0
+DoneBehind K = K → Memory → Machine → Next → Behind K
 
 -- nothing is done
-abbrev pub nothing : {K : Type 0} → After K
+abbrev pub nothing : {K : Type 0} → DoneBehind K
 nothing k m s next = record { cpu = s.cpu; next = next; key = k }
 
 -- the visits of an instruction, and the supervisor call that it executes, if it is one
@@ -58,13 +58,13 @@ abbrev pub turned : List Turn → Tour → Tour
 turned turns tour = record { ending = tour.ending; state = tour.state; at = tour.at; turns = turns ++ tour.turns }
 
 -- one instruction with what is done behind it
-abbrev pub step_behind : {K : Type 0} → After K → Memory → K → State → Behind K
+abbrev pub step_behind : {K : Type 0} → DoneBehind K → Memory → K → State → Behind K
 step_behind after m k s = after k m (solo_step m s).state.machine (solo_step m s).next
 
 abbrev pub with_cpu : State → CpuView → State
 with_cpu s cpu = record { machine = record { cpu = cpu; bytes = s.machine.bytes }; io = s.io; done = s.done }
 
-abbrev pub state_behind : {K : Type 0} → After K → Memory → K → State → State
+abbrev pub state_behind : {K : Type 0} → DoneBehind K → Memory → K → State → State
 state_behind after m k s = with_cpu (solo_step m s).state (step_behind after m k s).cpu
 
 -- by how the task goes on behind an instruction that began at this address
@@ -73,7 +73,7 @@ tour_behind rest began s On = rest s
 tour_behind rest began s (Ended e) = record { ending = e; state = s; at = began; turns = [] }
 
 -- with so many instructions left of the budget
-unfoldable pub course_on : {K : Type 0} → After K → Memory → ℕ → K → State → Tour
+unfoldable pub course_on : {K : Type 0} → DoneBehind K → Memory → ℕ → K → State → Tour
 course_on after m zero k s = ends_here (if has_returned s then Returned else Spent) s
 course_on after m (suc n) k s =
     if has_returned s then ends_here Returned s

@@ -9,7 +9,7 @@ use Rattle.std.proofs.lemmas.List.Elements.{All-head, All-tail}
 use Rattle.std.proofs.lemmas.List.Sums.{fold_more}
 use Rattle.module_area.specs.Meaning.{DataView, with_card, first_bytes}
 use Rattle.report_text.specs.FirstRows.{IsPartOf, FitsIn}
-use Rattle.report_text.specs.Meaning.{row_lines, changed_row, row_of}
+use Rattle.report_text.specs.Meaning.{row_lines, changed_row, hexadecimal_row}
 
 -- the byte at an address, once bytes are stored from an offset on
 unfoldable byte_after : ℕ → List ℕ → ℕ → ℕ → ℕ
@@ -106,7 +106,7 @@ zeros_part n size from k below room =
     get_or-replicate n k 0 0 inside ∙ sym (get_or-replicate size (from + k) 0 0 whole)
 
 -- a part of the first bytes has their row
-part_row : (part : List ℕ) (size : ℕ) (cards : List DataView) (from n m : ℕ) → All (FitsIn size) cards → from ≤ n → 16 * (n - from) + 16 ≤ length part → IsPartOf part (first_bytes size cards) (16 * from) → 16 * n < size → m ≡ min (16 * n + 16) size - 16 * n → take m (between (16 * (n - from)) (16 * (n - from) + 16) part) ≡ row_of 16 (first_bytes size cards) n
+part_row : (part : List ℕ) (size : ℕ) (cards : List DataView) (from n m : ℕ) → All (FitsIn size) cards → from ≤ n → 16 * (n - from) + 16 ≤ length part → IsPartOf part (first_bytes size cards) (16 * from) → 16 * n < size → m ≡ min (16 * n + 16) size - 16 * n → take m (between (16 * (n - from)) (16 * (n - from) + 16) part) ≡ hexadecimal_row 16 (first_bytes size cards) n
 part_row part size cards from n m fit later long is exists count =
     let bytes = first_bytes size cards in
     let at = 16 * (n - from) in
@@ -116,11 +116,11 @@ part_row part size cards from n m fit later long is exists count =
     let room : 16 * n + m ≤ length bytes = omega arith in
     let left : length (take m (between at (at + 16) part)) ≡ m = simp (length-take, length-drop) (omega arith) in
     let right : length (take (end - 16 * n) (drop (16 * n) bytes)) ≡ m = simp (length-take, length-drop) (omega arith) in
-    ext_get_or 0 (take m (between at (at + 16) part)) (row_of 16 bytes n) (left ∙ sym right)
+    ext_get_or 0 (take m (between at (at + 16) part)) (hexadecimal_row 16 bytes n) (left ∙ sym right)
     (λ k below. get_or-take m (between at (at + 16) part) k 0 (omega arith) ∙ get_or-take (at + 16 - at) (drop at part) k 0 (omega arith) ∙ get_or-drop at part k 0 ∙ is (at + k) (omega arith) (omega arith) ∙ ap (λ i. get_or bytes i 0) {x = 16 * from + (at + k)} {y = 16 * n + k} (omega arith) ∙ sym (get_or-drop (16 * n) bytes k 0) ∙ sym (get_or-take (end - 16 * n) (drop (16 * n) bytes) k 0 (omega arith)))
 
 -- the lines of a row by such a part
-pub part_row_lines : (part now row : List ℕ) (size : ℕ) (cards : List DataView) (from n : ℕ) → All (FitsIn size) cards → from ≤ n → 16 * (n - from) + 16 ≤ length part → IsPartOf part (first_bytes size cards) (16 * from) → length now ≡ size → 16 * n < size → row ≡ row_of 16 now n → row_lines (16 * n) (take (length row) (between (16 * (n - from)) (16 * (n - from) + 16) part)) row ≡ changed_row (first_bytes size cards) now n
+pub part_row_lines : (part now row : List ℕ) (size : ℕ) (cards : List DataView) (from n : ℕ) → All (FitsIn size) cards → from ≤ n → 16 * (n - from) + 16 ≤ length part → IsPartOf part (first_bytes size cards) (16 * from) → length now ≡ size → 16 * n < size → row ≡ hexadecimal_row 16 now n → row_lines (16 * n) (take (length row) (between (16 * (n - from)) (16 * (n - from) + 16) part)) row ≡ changed_row (first_bytes size cards) now n
 part_row_lines part now row size cards from n fit later long is whole exists read =
     let count : length row ≡ min (16 * n + 16) size - 16 * n = simp (read, length-take, length-drop) (omega arith) in
-    ap (λ first. row_lines (16 * n) first row) (part_row part size cards from n (length row) fit later long is exists count) ∙ ap (row_lines (16 * n) (row_of 16 (first_bytes size cards) n)) read
+    ap (λ first. row_lines (16 * n) first row) (part_row part size cards from n (length row) fit later long is exists count) ∙ ap (row_lines (16 * n) (hexadecimal_row 16 (first_bytes size cards) n)) read

@@ -27,8 +27,8 @@ abbrev pub hex_bytes : List ℕ → List ℕ
 hex_bytes bytes = flat_map (hex_digits 2) bytes
 
 -- row n of the bytes, so many to a row; the last may be shorter
-abbrev pub row_of : ℕ → List ℕ → ℕ → List ℕ
-row_of size bytes n = slice_range bytes (size * n) (min (size * n + size) (length bytes))
+abbrev pub hexadecimal_row : ℕ → List ℕ → ℕ → List ℕ
+hexadecimal_row size bytes n = slice_range bytes (size * n) (min (size * n + size) (length bytes))
 
 abbrev pub row_count : ℕ → List ℕ → ℕ
 row_count size bytes = (length bytes + (size - 1)) / size
@@ -144,7 +144,7 @@ state_lines name ending done cpu =
 
 -- the bytes of output, 32 to a line, and before them how many there are
 abbrev pub output_rows : List ℕ → List (List ℕ)
-output_rows output = lines_from (λ n. hex_bytes (row_of 32 output n) ∷ []) 0 (row_count 32 output)
+output_rows output = lines_from (λ n. hex_bytes (hexadecimal_row 32 output n) ∷ []) 0 (row_count 32 output)
 
 unfoldable pub output_lines : List ℕ → List (List ℕ)
 output_lines output = (codes "OUT " ++ decimal (length output)) ∷ output_rows output
@@ -155,7 +155,7 @@ row_lines at first now = if bytes_eq first now then [] else (codes "STOR " ++ he
 
 -- of row n, where it has changed
 abbrev pub changed_row : List ℕ → List ℕ → ℕ → List (List ℕ)
-changed_row first now n = row_lines (16 * n) (row_of 16 first n) (row_of 16 now n)
+changed_row first now n = row_lines (16 * n) (hexadecimal_row 16 first n) (hexadecimal_row 16 now n)
 
 -- the changed rows of 16 bytes
 unfoldable pub storage_lines : List ℕ → List ℕ → List (List ℕ)

@@ -1,7 +1,7 @@
 //! What a report says of a task.
 ghost use Rattle.std.specs.Prelude.{◌≡◌, ◌+◌, ◌*◌, ◌<◌, ◌≤◌, ◌++◌, ◌∷◌, [], length, codes, decimal, drop};
 ghost use Rattle.report_text.specs.Conditions.{HasResultOf};
-ghost use Rattle.report_text.specs.Meaning.{task_part, task_words, register_line, output_rows, output_lines, state_lines, hex_bytes, row_of};
+ghost use Rattle.report_text.specs.Meaning.{task_part, task_words, register_line, output_rows, output_lines, state_lines, hex_bytes, hexadecimal_row};
 ghost use Rattle.report_text.specs.Writes.{Prints};
 
 use crate::storage::storage_part;
@@ -87,7 +87,7 @@ fn state_part<K: Sink>(
 /// Row n of the output.
 fn output_row(output: &[u8], n: usize) -> &[u8]
     requires { 32 * n < length output.now }
-    ensures value { result.now ≡ row_of 32 output.now n }
+    ensures value { result.now ≡ hexadecimal_row 32 output.now n }
     ensures fits { length result.now ≤ 32 }
 {
     let from = 32 * n;

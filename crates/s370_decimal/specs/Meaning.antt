@@ -27,8 +27,8 @@ abbrev pub replaces : CpuView → Code → List Use
 replaces s c = stores (e1 s c) (l1 c + 1) ∷ (reads (e2 s c) (l2 c + 1) ∷ [])
 
 -- both are read
-abbrev pub compares : CpuView → Code → List Use
-compares s c = reads (e1 s c) (l1 c + 1) ∷ (reads (e2 s c) (l2 c + 1) ∷ [])
+abbrev pub reads_both : CpuView → Code → List Use
+reads_both s c = reads (e1 s c) (l1 c + 1) ∷ (reads (e2 s c) (l2 c + 1) ∷ [])
 
 abbrev pub both : Option Field → Option Field → Option Operands
 both None g = None
@@ -42,8 +42,8 @@ operands m s bytes c = both (field_at m bytes (e1 s c) (l1 c)) (field_at m bytes
 -- The room of packed decimal fields.
 
 -- the magnitude is one of 2l + 1 digits
-abbrev pub fits : ℕ → ℕ → Bool
-fits l v = nat_lt v (10 ^ (2 * l + 1))
+abbrev pub fits_field : ℕ → ℕ → Bool
+fits_field l v = nat_lt v (10 ^ (2 * l + 1))
 
 -- Multiplication and division (Principles of Operation, "Decimal Instructions", "Multiply Decimal", "Divide
 -- Decimal").
@@ -63,15 +63,15 @@ longer_by l1 l2 = l1 - l2 - 1
 -- the product goes to the first field, unless that has fewer leading zero bytes than the second has bytes
 unfoldable pub multiplied : Machine → Code → Operands → Outcome
 multiplied s c o =
-    if fits (longer_by (l1 c) (l2 c)) o.first.magnitude then
+    if fits_field (longer_by (l1 c) (l2 c)) o.first.magnitude then
     Completes (with_bytes s (store_field s.bytes (e1 s.cpu c) (l1 c) (o.first.magnitude * o.second.magnitude) (signs_differ o)))
     else Program 7
 
 -- the quotient goes to the left of the first field, and the remainder, which has the second field's length and the first one's
 -- sign, to its right; unless the divisor is zero or the quotient too long
-unfoldable pub divided : Machine → Code → Operands → Outcome
-divided s c o =
-    if (nat_lt 0 o.second.magnitude && fits (longer_by (l1 c) (l2 c)) (o.first.magnitude / o.second.magnitude)) then
+unfoldable pub divided_fields : Machine → Code → Operands → Outcome
+divided_fields s c o =
+    if (nat_lt 0 o.second.magnitude && fits_field (longer_by (l1 c) (l2 c)) (o.first.magnitude / o.second.magnitude)) then
     Completes (with_bytes s (store_field (store_field s.bytes (e1 s.cpu c) (longer_by (l1 c) (l2 c)) (o.first.magnitude / o.second.magnitude) (signs_differ o))
     (wrap (e1 s.cpu c + (l1 c - l2 c))) (l2 c) (o.first.magnitude % o.second.magnitude) o.first.minus))
     else Program 11
@@ -81,15 +81,15 @@ divided s c o =
 -- what a field of length code l keeps of a whole result, given by magnitude and sign: its low digits, its sign, where zero
 -- is plus, and whether other digits than zeros are lost
 unfoldable pub kept : ℕ → ℕ → Bool → Kept
-kept l v minus = record { digits = v % 10 ^ (2 * l + 1); minus = if v == 0 then false else minus; lost = not (fits l v) }
+kept l v minus = record { digits = v % 10 ^ (2 * l + 1); minus = if v == 0 then false else minus; lost = not (fits_field l v) }
 
 -- code 3 where digits are lost, else the sign code
 unfoldable pub code_of : Kept → ℕ
 code_of k = if k.lost then 3 else (if k.digits == 0 then 0 else (if k.minus then 1 else 2))
 
 -- the field of length code l at a becomes what is kept; where digits are lost it is an overflow, with code X'A'
-abbrev pub results : Machine → ℕ → ℕ → Kept → Outcome
-results s a l k = Overflows (with_cc (with_bytes s (store_field s.bytes a l k.digits k.minus)) (code_of k)) (if k.lost then 10 else 0)
+abbrev pub results_kept : Machine → ℕ → ℕ → Kept → Outcome
+results_kept s a l k = Overflows (with_cc (with_bytes s (store_field s.bytes a l k.digits k.minus)) (code_of k)) (if k.lost then 10 else 0)
 
 -- The shift (Principles of Operation, "Decimal Instructions", "Shift and Round Decimal").
 
@@ -102,7 +102,7 @@ shifted v i n = if nat_lt n 32 then v * 10 ^ n else (v + i * 10 ^ (63 - n)) / 10
 
 -- the first field becomes the number
 abbrev pub becomes : Machine → Code → ℤ → Outcome
-becomes s c z = results s (e1 s.cpu c) (l1 c) (kept (l1 c) (unsigned_abs z) (is_negative z))
+becomes s c z = results_kept s (e1 s.cpu c) (l1 c) (kept (l1 c) (unsigned_abs z) (is_negative z))
 
 -- the first field is replaced by what comes of both
 abbrev pub on_both : Memory → Machine → Code → (Operands → Outcome) → Row
@@ -116,18 +116,18 @@ decimal_row ZAP c m s = Some (record {
   well = true;
   uses = replaces s.cpu c;
   outcome =
-      on_data (field_at m s.bytes (e2 s.cpu c) (l2 c)) (λ f. results s (e1 s.cpu c) (l1 c) (kept (l1 c) f.magnitude f.minus));
+      on_data (field_at m s.bytes (e2 s.cpu c) (l2 c)) (λ f. results_kept s (e1 s.cpu c) (l1 c) (kept (l1 c) f.magnitude f.minus));
 })
 -- zeros of either sign are equal
 decimal_row CP c m s = Some (record {
   well = true;
-  uses = compares s.cpu c;
+  uses = reads_both s.cpu c;
   outcome =
       on_data (operands m s.cpu s.bytes c) (λ o. Completes (with_cc s (order_code (int_cmp (number o.first) (number o.second)))));
 })
 decimal_row MP c m s = Some (needing (is_shorter c) (on_both m s c (multiplied s c)))
-decimal_row DP c m s = Some (needing (is_shorter c) (on_both m s c (divided s c)))
+decimal_row DP c m s = Some (needing (is_shorter c) (on_both m s c (divided_fields s c)))
 -- the rounding digit, in bits 12-15, is to be a digit too
 decimal_row SRP c m s = Some (storing (e1 s.cpu c) (l1 c + 1) (on_data (if nat_le (r2 c) 9 then field_at m s.bytes (e1 s.cpu c) (l1 c) else None)
-    (λ f. results s (e1 s.cpu c) (l1 c) (kept (l1 c) (shifted f.magnitude (r2 c) (shift_distance s.cpu c)) f.minus))))
+    (λ f. results_kept s (e1 s.cpu c) (l1 c) (kept (l1 c) (shifted f.magnitude (r2 c) (shift_distance s.cpu c)) f.minus))))
 decimal_row _ c m s = None

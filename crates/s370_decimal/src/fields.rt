@@ -1,6 +1,6 @@
 //! The room of packed decimal fields.
 ghost use Rattle.std.specs.Prelude.{◌≡◌, ◌+◌, ◌*◌, ◌^◌, ◌<◌, ◌≤◌};
-ghost use Rattle.s370_decimal.specs.Meaning.{fits};
+ghost use Rattle.s370_decimal.specs.Meaning.{fits_field};
 
 /// 10 to the power k, which fits 64 bits below 20.
 #[tactic(auto, using(crate::proofs::Powers::power_fits, crate::proofs::Powers::power_short, crate::proofs::Powers::power_above))]
@@ -19,7 +19,7 @@ pub fn power(k: u8) -> u128
 /// Whether the magnitude is one of 2l + 1 digits.
 pub fn fits(l: u8, v: u128) -> bool
     requires { l ≤ 15 }
-    ensures { result ≡ fits l v }
+    ensures { result ≡ fits_field l v }
 {
     v < power(2 * l + 1)
 }

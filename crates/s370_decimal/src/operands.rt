@@ -3,7 +3,7 @@ ghost use Rattle.std.specs.Prelude.{◌≡◌, ◌+◌, ◌*◌, ◌^◌, ◌<�
 ghost use Rattle.cov_base.specs.Meaning.{can_reach, can_store};
 ghost use Rattle.s370_state.specs.Parts.{Tested};
 ghost use Rattle.s370_decode.specs.Meaning.{e1, e2};
-ghost use Rattle.s370_decimal.specs.Meaning.{l1, l2, replaces, compares, operands};
+ghost use Rattle.s370_decimal.specs.Meaning.{l1, l2, replaces, reads_both, operands};
 
 use s370_decode::Code;
 use s370_state::{Cpu, Ending, Field, Space, field_at, test_read_both, test_store_read};
@@ -35,7 +35,7 @@ pub fn test_replaced<P: Space>(cpu: &Cpu, space: &P, code: &Code) -> Result<(), 
 
 /// Tests two fields that are read: code 5 by either, then touch by the first, then by the second.
 pub fn test_compared<P: Space>(cpu: &Cpu, space: &P, code: &Code) -> Result<(), Ending>
-    ensures tested { Tested (P.memory space.now) (compares cpu.now code.now) result }
+    ensures tested { Tested (P.memory space.now) (reads_both cpu.now code.now) result }
     ensures reach { IfOk result (λ _. can_reach (P.memory space.now) (e1 cpu.now code.now) (l1 code.now + 1) ≡ true) }
     ensures second { IfOk result (λ _. can_reach (P.memory space.now) (e2 cpu.now code.now) (l2 code.now + 1) ≡ true) }
 {

@@ -6,7 +6,7 @@ ghost use Rattle.cov_base.specs.Meaning.{can_store};
 ghost use Rattle.s370_state.specs.Row.{Performs};
 ghost use Rattle.s370_state.specs.Parts.{Follows};
 ghost use Rattle.s370_decode.specs.Meaning.{e1};
-ghost use Rattle.s370_decimal.specs.Meaning.{l1, l2, is_shorter, signs_differ, multiplied, divided, decimal_row};
+ghost use Rattle.s370_decimal.specs.Meaning.{l1, l2, is_shorter, signs_differ, multiplied, divided_fields, decimal_row};
 
 use crate::fields::fits;
 use crate::operands::{Operands, read_operands, test_replaced};
@@ -46,11 +46,11 @@ fn put_product<P: Space>(cpu: &Cpu, space: &mut P, code: &Code, o: Operands) -> 
 }
 
 /// Quotient and remainder go to the first field, unless the divisor is zero or the quotient too long.
-#[tactic(auto, unfolding(crate::specs::Meaning::divided), using(crate::proofs::Powers::store_left, crate::proofs::Powers::store_right))]
+#[tactic(auto, unfolding(crate::specs::Meaning::divided_fields), using(crate::proofs::Powers::store_left, crate::proofs::Powers::store_right))]
 fn put_quotient<P: Space>(cpu: &Cpu, space: &mut P, code: &Code, o: Operands) -> Next
     requires shorter { l2 code.now < l1 code.now }
     requires store { can_store (P.memory space.old) (e1 cpu.now code.now) (l1 code.now + 1) ≡ true }
-    ensures { Follows P.memory P.bytes (λ m s. divided s code.now o) cpu.now space.old cpu.now space.new result }
+    ensures { Follows P.memory P.bytes (λ m s. divided_fields s code.now o) cpu.now space.old cpu.now space.new result }
 {
     let (l1, l2) = (code.l1(), code.l2());
     let (dividend, divisor) = (o.first.magnitude, o.second.magnitude);

@@ -2,9 +2,9 @@
 use Rattle.std.proofs.Common.{◌≡◌, ℕ, ◌+◌, ◌<◌, ◌≤◌, zero, suc, Bool, true, false, if◌then◌else◌, ◌==◌, Option, Some, None, List, [], ◌∷◌, ◌++◌, refl, add-one, arith, ◌⊎◌, inl, inr}
 use Rattle.std.proofs.lemmas.Bool.{and_left}
 use Rattle.cov_base.specs.Meaning.{Memory, can_reach}
-use Rattle.s370_edit.specs.Meaning.{fresh, digit_of, next_digit, selected, stepped, step_at, worked, formed}
+use Rattle.s370_edit.specs.Meaning.{fresh, digit_of, next_digit, digit_selected, pattern_stepped, step_at, worked, formed}
 use Rattle.s370_edit.specs.declared.working.Working.{Working}
-use Rattle.s370_edit.specs.declared.working.Step.{Step}
+use Rattle.s370_edit.specs.declared.working.PatternStep.{PatternStep}
 
 pub worked_none : (m : Memory) (bytes : List ℕ) (a b : ℕ) → worked m bytes a b 0 ≡ fresh
 unfolding worked
@@ -31,7 +31,7 @@ unfolding can_reach
 more_lost m b k zero l h = let e : k ≡ 0 = omega arith in rw e at h
 more_lost m b k (suc n) l h = elim (le_or k n l) [ inl e ↦ rw e at h | inr z ↦ and_left _ _ (more_lost m b k n z h) ]
 
-either_grows : (k : ℕ) (c : Bool) (x y : Step) → k ≤ x.working.taken → k ≤ y.working.taken → k ≤ (if c then x else y).working.taken
+either_grows : (k : ℕ) (c : Bool) (x y : PatternStep) → k ≤ x.working.taken → k ≤ y.working.taken → k ≤ (if c then x else y).working.taken
 either_grows k true x y h l = h
 either_grows k false x y h l = l
 
@@ -39,8 +39,8 @@ digit_grows : (w : Working) (v : ℕ) (r : Option ℕ) → w.taken ≤ (digit_of
 digit_grows w v None = omega arith
 digit_grows w v (Some d) = omega arith
 
-taken_grows : (m : Memory) (bytes : List ℕ) (b fill p at : ℕ) (w : Working) → w.taken ≤ (stepped m bytes b fill p at w).working.taken
-unfolding stepped selected next_digit
+taken_grows : (m : Memory) (bytes : List ℕ) (b fill p at : ℕ) (w : Working) → w.taken ≤ (pattern_stepped m bytes b fill p at w).working.taken
+unfolding pattern_stepped digit_selected next_digit
 taken_grows m bytes b fill p at w =
     let d : w.taken ≤ (next_digit m bytes b w).taken = digit_grows w _ w.right in
     either_grows w.taken w.bad _ _ (omega arith) (

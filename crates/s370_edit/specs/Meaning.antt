@@ -1,10 +1,10 @@
 -- What the claim of the program says by this crate's clauses.
 use Rattle.std.specs.Prelude.{ℕ, zero, suc, ◌+◌, ◌/◌, ◌%◌, Bool, true, false, not, ◌&&◌, ◌||◌, ◌==◌, if◌then◌else◌, Option, Some, None, List, [], ◌∷◌, ◌++◌}
 use Rattle.cov_base.specs.Meaning.{Memory, byte_at, wrap, Machine}
-use Rattle.s370_state.specs.Meaning.{is_digit, is_sign, is_minus, store_bytes, Row, Use, Outcome, Completes, Program, reads, stores, with_address}
+use Rattle.s370_state.specs.Meaning.{is_decimal_digit, is_sign, is_minus, store_bytes, Row, Use, Outcome, Completes, Program, reads, stores, with_address}
 use Rattle.s370_edit.specs.declared.working.Digit.{Digit}
 use Rattle.s370_edit.specs.declared.working.Working.{Working}
-use Rattle.s370_edit.specs.declared.working.Step.{Step}
+use Rattle.s370_edit.specs.declared.working.PatternStep.{PatternStep}
 use Rattle.s370_decode.specs.Meaning.{i2, e1, e2}
 use Rattle.s370_decode.specs.declared.code.Code.{Code}
 use Rattle.s370_decode.specs.declared.op.Op.{Op}
@@ -39,39 +39,39 @@ is_shown w d = w.significant || not (d.value == 0)
 
 -- A digit selector, or a significance starter, at an address. The digit is shown with the zone F or replaced by the fill
 -- byte; significance is on after a digit that is shown and after a starter, unless a plus sign follows the digit.
-unfoldable pub selected : Working → Digit → Bool → ℕ → ℕ → Step
-selected w d starts fill at = record {
+unfoldable pub digit_selected : Working → Digit → Bool → ℕ → ℕ → PatternStep
+digit_selected w d starts fill at = record {
   working = record {
     taken = d.taken;
     right = d.right;
     significant = (is_shown w d || starts) && not d.plus;
     nonzero = w.nonzero || not (d.value == 0);
     mark = if not w.significant && not (d.value == 0) then Some at else w.mark;
-    bad = not (is_digit d.value);
+    bad = not (is_decimal_digit d.value);
   };
   byte = if is_shown w d then 240 + d.value else fill;
 }
 
 -- a field separator becomes the fill byte, and a new field begins
-abbrev pub separated : Working → ℕ → Step
+abbrev pub separated : Working → ℕ → PatternStep
 separated w fill = record { working = record w { significant = false; nonzero = false }; byte = fill }
 
 -- every other byte stays where significance is on, and else becomes the fill byte
-abbrev pub kept : Working → ℕ → ℕ → Step
-kept w p fill = record { working = w; byte = if w.significant then p else fill }
+abbrev pub byte_kept : Working → ℕ → ℕ → PatternStep
+byte_kept w p fill = record { working = w; byte = if w.significant then p else fill }
 
 -- the pattern byte p at an address; a bad digit has ended the working
-unfoldable pub stepped : Memory → List ℕ → ℕ → ℕ → ℕ → ℕ → Working → Step
-stepped m bytes b fill p at w =
+unfoldable pub pattern_stepped : Memory → List ℕ → ℕ → ℕ → ℕ → ℕ → Working → PatternStep
+pattern_stepped m bytes b fill p at w =
     if w.bad then record { working = w; byte = fill } else (
-    if p == 32 then selected w (next_digit m bytes b w) false fill at else (
-    if p == 33 then selected w (next_digit m bytes b w) true fill at else (
+    if p == 32 then digit_selected w (next_digit m bytes b w) false fill at else (
+    if p == 33 then digit_selected w (next_digit m bytes b w) true fill at else (
     if p == 34 then separated w fill else
-    kept w p fill)))
+    byte_kept w p fill)))
 
 -- the step of the n-th pattern byte of a pattern from a on, whose first byte is the fill byte
-abbrev pub step_at : Memory → List ℕ → ℕ → ℕ → ℕ → Working → Step
-step_at m bytes a b n w = stepped m bytes b (byte_at m bytes (wrap a)) (byte_at m bytes (wrap (a + n))) (wrap (a + n)) w
+abbrev pub step_at : Memory → List ℕ → ℕ → ℕ → ℕ → Working → PatternStep
+step_at m bytes a b n w = pattern_stepped m bytes b (byte_at m bytes (wrap a)) (byte_at m bytes (wrap (a + n))) (wrap (a + n)) w
 
 -- the working after n pattern bytes
 unfoldable pub worked : Memory → List ℕ → ℕ → ℕ → ℕ → Working

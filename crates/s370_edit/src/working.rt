@@ -1,7 +1,7 @@
 //! The working of a pattern, a byte at a time from left to right.
 ghost use Rattle.std.specs.Prelude.{◌≡◌, ◌+◌, ◌*◌, ◌/◌, ◌%◌, ◌<◌, ◌≤◌, true, false, not, ◌&&◌, ◌||◌, ◌==◌, if◌then◌else◌, Some, None, IfSome, IfNone};
 ghost use Rattle.cov_base.specs.Meaning.{byte_at, is_accessible, can_reach, wrap};
-ghost use Rattle.s370_edit.specs.Meaning.{fresh, left_digit, next_digit, selected, separated, kept, stepped};
+ghost use Rattle.s370_edit.specs.Meaning.{fresh, left_digit, next_digit, digit_selected, separated, byte_kept, pattern_stepped};
 ghost use Rattle.s370_edit.specs.Taking.{Takes, digit_taken, step_taken, digit_after, digit_step, byte_step};
 
 use cov_base::Addr;
@@ -38,7 +38,7 @@ pub struct Working {
 
 /// What a pattern byte does: the working after it, and the result byte.
 #[derive(Clone, Copy)]
-pub struct Step {
+pub struct PatternStep {
     pub working: Working,
     pub byte: u8,
 }
@@ -115,10 +115,10 @@ fn next_digit<P: Space>(space: &P, b: Addr, w: &Working) -> Option<Digit>
 }
 
 /// A digit selector, or a significance starter, at an address.
-#[tactic(auto, unfolding(crate::specs::Meaning::selected))]
-fn select(w: &Working, d: &Digit, starts: bool, fill: u8, at: Addr) -> Step
+#[tactic(auto, unfolding(crate::specs::Meaning::digit_selected))]
+fn select(w: &Working, d: &Digit, starts: bool, fill: u8, at: Addr) -> PatternStep
     requires { d.now.value < 16 }
-    ensures { result ≡ selected w.now d.now starts fill at }
+    ensures { result ≡ digit_selected w.now d.now starts fill at }
 {
     let nonzero = d.value != 0;
     let shown = w.significant || nonzero;
@@ -135,11 +135,11 @@ fn select(w: &Working, d: &Digit, starts: bool, fill: u8, at: Addr) -> Step
         bad: !is_digit(d.value),
     };
     let byte = if shown { 240 + d.value } else { fill };
-    Step { working, byte }
+    PatternStep { working, byte }
 }
 
 /// Takes the next digit for a selector or starter; none where its byte is inaccessible.
-#[tactic(auto, unfolding(crate::specs::Meaning::selected))]
+#[tactic(auto, unfolding(crate::specs::Meaning::digit_selected))]
 fn take_digit<P: Space>(
     space: &P,
     b: Addr,
@@ -147,7 +147,7 @@ fn take_digit<P: Space>(
     starts: bool,
     fill: u8,
     at: Addr,
-) -> Option<Step>
+) -> Option<PatternStep>
     requires taken { w.now.taken < 256 }
     requires right { IfSome w.now.right (λ d. d < 16) }
     requires reach { can_reach (P.memory space.now) b w.now.taken ≡ true }
@@ -163,7 +163,7 @@ fn take_digit<P: Space>(
 }
 
 /// A field separator.
-fn separate(w: &Working, fill: u8) -> Step
+fn separate(w: &Working, fill: u8) -> PatternStep
     ensures { result ≡ separated w.now fill }
 {
     let working = Working {
@@ -171,24 +171,24 @@ fn separate(w: &Working, fill: u8) -> Step
         nonzero: false,
         ..*w
     };
-    Step {
+    PatternStep {
         working,
         byte: fill,
     }
 }
 
 /// A message byte.
-fn keep(w: &Working, p: u8, fill: u8) -> Step
-    ensures { result ≡ kept w.now p fill }
+fn keep(w: &Working, p: u8, fill: u8) -> PatternStep
+    ensures { result ≡ byte_kept w.now p fill }
 {
-    Step {
+    PatternStep {
         working: *w,
         byte: if w.significant { p } else { fill },
     }
 }
 
 /// Works the pattern byte p, whose address is given; none where a source byte that it needs is inaccessible.
-#[tactic(auto, unfolding(crate::specs::Meaning::stepped))]
+#[tactic(auto, unfolding(crate::specs::Meaning::pattern_stepped))]
 pub fn work_byte<P: Space>(
     space: &P,
     b: Addr,
@@ -196,7 +196,7 @@ pub fn work_byte<P: Space>(
     p: u8,
     at: Addr,
     w: &Working,
-) -> Option<Step>
+) -> Option<PatternStep>
     requires taken { w.now.taken < 256 }
     requires right { IfSome w.now.right (λ d. d < 16) }
     requires reach { can_reach (P.memory space.now) b w.now.taken ≡ true }
@@ -206,7 +206,7 @@ pub fn work_byte<P: Space>(
     ensures reach { IfSome result (λ s. can_reach (P.memory space.now) b s.working.taken ≡ true) }
 {
     if w.bad {
-        return Some(Step {
+        return Some(PatternStep {
             working: *w,
             byte: fill,
         });

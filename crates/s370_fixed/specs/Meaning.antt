@@ -139,8 +139,8 @@ abbrev pub differs : Machine → Code → ℕ → Outcome
 differs s c v = sums s c (reg s (r1 c) + (4294967295 - v) + 1)
 
 -- R1 is the first operand
-abbrev pub compares : Machine → Code → ℤ → Outcome
-compares s c z = Completes (with_cc s (order_code (int_cmp (first s c) z)))
+abbrev pub compares_signed : Machine → Code → ℤ → Outcome
+compares_signed s c z = Completes (with_cc s (order_code (int_cmp (first s c) z)))
 
 -- The row of each operation of fixed point and loads (Principles of Operation, "General Instructions").
 
@@ -169,9 +169,9 @@ fixed_row ALR c m s = Some (from_register s c (λ v. sums s c (reg s (r1 c) + v)
 fixed_row AL c m s = Some (from_word m s c (λ v. sums s c (reg s (r1 c) + v)))
 fixed_row SLR c m s = Some (from_register s c (differs s c))
 fixed_row SL c m s = Some (from_word m s c (differs s c))
-fixed_row CR c m s = Some (from_register s c (λ v. compares s c (signed v)))
-fixed_row C c m s = Some (from_word m s c (λ v. compares s c (signed v)))
-fixed_row CH c m s = Some (from_half m s c (compares s c))
+fixed_row CR c m s = Some (from_register s c (λ v. compares_signed s c (signed v)))
+fixed_row C c m s = Some (from_word m s c (λ v. compares_signed s c (signed v)))
+fixed_row CH c m s = Some (from_half m s c (compares_signed s c))
 fixed_row MR c m s = Some (needing (is_even (r1 c)) (from_register s c (multiplies s c)))
 fixed_row M c m s = Some (needing (is_even (r1 c)) (from_word m s c (multiplies s c)))
 -- the low word of the product; its high part is lost without a code

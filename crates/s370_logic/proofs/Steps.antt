@@ -7,24 +7,24 @@ use Rattle.std.specs.Cmp.{nat_cmp_is}
 use Rattle.std.specs.declared.cmp.Ordering.TheVariants.{Less, Equal, Greater}
 use Rattle.cov_base.specs.Meaning.{Memory, byte_at, wrap}
 use Rattle.s370_state.specs.Meaning.{number_at, store_number, order_code}
-use Rattle.s370_logic.specs.Meaning.{joined, joined_byte, are_zero, compared}
+use Rattle.s370_logic.specs.Meaning.{bytes_joined, joined_byte, are_zero, compared}
 
 is_not_zero : (n : ℕ) → 0 < n → (n == 0) ≡ false
 is_not_zero n h = grind (arith, nat_tests)
 
-pub joined_none : (f : ℕ → ℕ → ℕ) (m : Memory) (bytes : List ℕ) (a b : ℕ) → joined f m bytes a b 0 ≡ bytes
-unfolding joined
+pub joined_none : (f : ℕ → ℕ → ℕ) (m : Memory) (bytes : List ℕ) (a b : ℕ) → bytes_joined f m bytes a b 0 ≡ bytes
+unfolding bytes_joined
 joined_none f m bytes a b = refl
 
-pub joined_more : (f : ℕ → ℕ → ℕ) (m : Memory) (bytes : List ℕ) (a b n : ℕ) → joined f m bytes a b (n + 1) ≡ slice_set (joined f m bytes a b n) (wrap (a + n)) (joined_byte f m (joined f m bytes a b n) a b n)
-unfolding joined
+pub joined_more : (f : ℕ → ℕ → ℕ) (m : Memory) (bytes : List ℕ) (a b n : ℕ) → bytes_joined f m bytes a b (n + 1) ≡ slice_set (bytes_joined f m bytes a b n) (wrap (a + n)) (joined_byte f m (bytes_joined f m bytes a b n) a b n)
+unfolding bytes_joined
 joined_more f m bytes a b n = rw add-one refl
 
 pub are_zero_none : (f : ℕ → ℕ → ℕ) (m : Memory) (bytes : List ℕ) (a b : ℕ) → are_zero f m bytes a b 0 ≡ true
 unfolding are_zero
 are_zero_none f m bytes a b = refl
 
-pub are_zero_more : (f : ℕ → ℕ → ℕ) (m : Memory) (bytes : List ℕ) (a b n : ℕ) → are_zero f m bytes a b (n + 1) ≡ (are_zero f m bytes a b n && joined_byte f m (joined f m bytes a b n) a b n == 0)
+pub are_zero_more : (f : ℕ → ℕ → ℕ) (m : Memory) (bytes : List ℕ) (a b n : ℕ) → are_zero f m bytes a b (n + 1) ≡ (are_zero f m bytes a b n && joined_byte f m (bytes_joined f m bytes a b n) a b n == 0)
 unfolding are_zero
 are_zero_more f m bytes a b n = rw add-one refl
 

@@ -36,21 +36,21 @@ joined_byte f m bytes a b n = f (byte_at m bytes (wrap (a + n))) (byte_at m byte
 
 -- n bytes of the operand at a became f of them and of those at b, one at a time and left to right: where the operands
 -- overlap, a byte can be read after it was stored
-unfoldable pub joined : (ℕ → ℕ → ℕ) → Memory → List ℕ → ℕ → ℕ → ℕ → List ℕ
-joined f m bytes a b zero = bytes
-joined f m bytes a b (suc n) = slice_set (joined f m bytes a b n) (wrap (a + n)) (joined_byte f m (joined f m bytes a b n) a b n)
+unfoldable pub bytes_joined : (ℕ → ℕ → ℕ) → Memory → List ℕ → ℕ → ℕ → ℕ → List ℕ
+bytes_joined f m bytes a b zero = bytes
+bytes_joined f m bytes a b (suc n) = slice_set (bytes_joined f m bytes a b n) (wrap (a + n)) (joined_byte f m (bytes_joined f m bytes a b n) a b n)
 
 -- each of these results is zero
 unfoldable pub are_zero : (ℕ → ℕ → ℕ) → Memory → List ℕ → ℕ → ℕ → ℕ → Bool
 are_zero f m bytes a b zero = true
-are_zero f m bytes a b (suc n) = are_zero f m bytes a b n && joined_byte f m (joined f m bytes a b n) a b n == 0
+are_zero f m bytes a b (suc n) = are_zero f m bytes a b n && joined_byte f m (bytes_joined f m bytes a b n) a b n == 0
 
 abbrev pub row_fields : (ℕ → ℕ → ℕ) → Code → Memory → Machine → Option Row
 row_fields f c m s =
     let a = e1 s.cpu c in
     let b = e2 s.cpu c in
     let n = i2 c + 1 in
-    Some (replacing a n b n (Completes (with_cc (with_bytes s (joined f m s.bytes a b n)) (zero_code (are_zero f m s.bytes a b n)))))
+    Some (replacing a n b n (Completes (with_cc (with_bytes s (bytes_joined f m s.bytes a b n)) (zero_code (are_zero f m s.bytes a b n)))))
 
 -- Comparisons without signs (Principles of Operation, "General Instructions", "Compare Logical").
 

@@ -4,7 +4,7 @@
 ghost use Rattle.std.specs.Prelude.{◌≡◌, ◌+◌, ◌<◌, ◌≤◌, ◌^◌, true, ◌==◌, if◌then◌else◌, slice_set, slice_index};
 ghost use Rattle.cov_base.specs.Meaning.{can_reach, can_store};
 ghost use Rattle.s370_state.specs.Row.{Performs};
-ghost use Rattle.s370_logic.specs.Meaning.{zero_code, joined, are_zero, row_registers, row_word, row_immediate, row_fields};
+ghost use Rattle.s370_logic.specs.Meaning.{zero_code, bytes_joined, are_zero, row_registers, row_word, row_immediate, row_fields};
 ghost use Rattle.s370_logic.specs.Bitwise.{connected, with_result};
 
 use cov_base::Addr;
@@ -68,7 +68,7 @@ fn join_bytes<P: Space>(f: Connective, space: &mut P, a: Addr, b: Addr, n: u32) 
     requires reach { can_reach (P.memory space.old) a n ≡ true }
     requires reach_second { can_reach (P.memory space.old) b n ≡ true }
     ensures memory { P.memory space.new ≡ P.memory space.old }
-    ensures bytes { P.bytes space.new ≡ joined (connected f) (P.memory space.old) (P.bytes space.old) a b n }
+    ensures bytes { P.bytes space.new ≡ bytes_joined (connected f) (P.memory space.old) (P.bytes space.old) a b n }
     ensures zero { result ≡ are_zero (connected f) (P.memory space.old) (P.bytes space.old) a b n }
 {
     let mut is_zero = true;

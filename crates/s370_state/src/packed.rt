@@ -4,7 +4,7 @@ ghost use Rattle.std.specs.Prelude.{◌≡◌, ◌+◌, ◌-◌, ◌*◌, ◌/�
 ghost use Rattle.std.specs.List.{list_all};
 ghost use Rattle.cov_base.specs.Meaning.{can_reach, can_store};
 ghost use Rattle.s370_state.specs.Fields.{AreBytes};
-ghost use Rattle.s370_state.specs.Meaning.{is_sign, is_minus, sign_half, is_digit, halves_at, decimal, field_at, number, digits_of, bytes_of, store_field};
+ghost use Rattle.s370_state.specs.Meaning.{is_sign, is_minus, sign_half, is_decimal_digit, halves_at, decimal, field_at, number, digits_of, bytes_of, store_field};
 
 use crate::operands::byte_of;
 use crate::space::Space;
@@ -21,7 +21,7 @@ pub struct Field {
 
 /// Whether the half byte is a digit.
 pub fn is_digit(half: u8) -> bool
-    ensures { result ≡ is_digit half }
+    ensures { result ≡ is_decimal_digit half }
 {
     half < 10
 }
@@ -50,14 +50,14 @@ fn sign_half(minus: bool) -> u8
 
 /// Whether both halves of the byte are digits.
 fn is_pair(byte: u8) -> bool
-    ensures { result ≡ (is_digit (byte / 16) && is_digit (byte % 16)) }
+    ensures { result ≡ (is_decimal_digit (byte / 16) && is_decimal_digit (byte % 16)) }
 {
     is_digit(byte / 16) && is_digit(byte % 16)
 }
 
 /// Whether the halves of a field's last byte are a digit and a sign.
 fn is_last(byte: u8) -> bool
-    ensures { result ≡ (is_digit (byte / 16) && is_sign (byte % 16)) }
+    ensures { result ≡ (is_decimal_digit (byte / 16) && is_sign (byte % 16)) }
 {
     is_digit(byte / 16) && is_sign(byte % 16)
 }
@@ -67,10 +67,10 @@ fn is_last(byte: u8) -> bool
 fn pairs<P: Space>(_space: &P, at: Addr, n: u32, row: &[u8]) -> Option<u128>
     requires most { n ≤ 15 }
     requires row { AreBytes (P.memory _space.now) (P.bytes _space.now) at (n + 1) row.now }
-    ensures good { IfSome result (λ _. list_all is_digit (halves_at (P.memory _space.now) (P.bytes _space.now) at n) ≡ true) }
+    ensures good { IfSome result (λ _. list_all is_decimal_digit (halves_at (P.memory _space.now) (P.bytes _space.now) at n) ≡ true) }
     ensures value { IfSome result (λ v. v ≡ decimal 0 (halves_at (P.memory _space.now) (P.bytes _space.now) at n)) }
     ensures below { IfSome result (λ v. v < 100 ^ n) }
-    ensures bad { IfNone result (list_all is_digit (halves_at (P.memory _space.now) (P.bytes _space.now) at n) ≡ false) }
+    ensures bad { IfNone result (list_all is_decimal_digit (halves_at (P.memory _space.now) (P.bytes _space.now) at n) ≡ false) }
 {
     let mut v: u128 = 0;
     for i in 0..n {

@@ -3,15 +3,15 @@ use Rattle.std.proofs.Common.{◌≡◌, ◌≢◌, ℕ, ◌+◌, ◌<◌, ◌�
 use Rattle.std.proofs.lemmas.Bool.Decides.{nat_tests}
 use Rattle.cov_base.specs.Meaning.{Memory, wrap, can_reach, can_store, is_accessible, is_private}
 use Rattle.s370_storage.proofs.Firsts.{first_none, first_more, first_here}
-use Rattle.s370_storage.specs.Meaning.{lesser, padded, first_byte, second_byte, unequal}
+use Rattle.s370_storage.specs.Meaning.{lesser, padded_bytes, first_byte, second_byte, unequal}
 use Rattle.s370_storage.specs.declared.long.Long.{Long}
 
-pub padded_none : (bytes : List ℕ) (o : Long) → padded bytes o 0 ≡ bytes
-unfolding padded
+pub padded_none : (bytes : List ℕ) (o : Long) → padded_bytes bytes o 0 ≡ bytes
+unfolding padded_bytes
 padded_none bytes o = refl
 
-pub padded_more : (bytes : List ℕ) (o : Long) (k : ℕ) → padded bytes o (k + 1) ≡ slice_set (padded bytes o k) (wrap (o.first + (lesser o + k))) o.padding
-unfolding padded
+pub padded_more : (bytes : List ℕ) (o : Long) (k : ℕ) → padded_bytes bytes o (k + 1) ≡ slice_set (padded_bytes bytes o k) (wrap (o.first + (lesser o + k))) o.padding
+unfolding padded_bytes
 padded_more bytes o k = rw add-one refl
 
 both_left : (a b : Bool) → (a && b) ≡ true → a ≡ true

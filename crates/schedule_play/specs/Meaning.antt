@@ -5,7 +5,7 @@ use Rattle.std.specs.Option.{option_map_or}
 use Rattle.module_area.specs.Meaning.{window_at, place_of}
 use Rattle.module_area.specs.declared.places.Place.{Place}
 use Rattle.session_book.specs.Meaning.{JobView, task_of, session_of}
-use Rattle.interleave_core.specs.Meaning.{World, Parts, plan_in, first_parts, Stepped, parts_step, run_on, set_of, most_events, go, next_of, results_of}
+use Rattle.interleave_core.specs.Meaning.{World, Parts, plan_in, first_parts, Stepped, parts_step, events_on, set_of, most_events, go, next_of, results_of}
 use Rattle.interleave_core.specs.MeaningOfEvents.{Stands}
 use Rattle.interleave_core.specs.declared.events.Event.{Event}
 use Rattle.interleave_core.specs.declared.events.Event.TheVariants as event
@@ -89,12 +89,12 @@ play w n c (line ∷ lines) = play_line (λ d. play w (n + 1) d lines) w n c lin
 abbrev pub play_of : JobView → List Place → ℕ → List LineView → Play
 play_of j places count lines =
     let w : World = record { job = j; places = places } in
-    if nat_eq (length j.phases) 1 then option_map_or (λ (c : Parts). play w (count + 1) c lines) (run_on w (first_parts w) (plants w)) (Bad 0) else Bad 0
+    if nat_eq (length j.phases) 1 then option_map_or (λ (c : Parts). play w (count + 1) c lines) (events_on w (first_parts w) (plants w)) (Bad 0) else Bad 0
 
 -- The play is a run of the core, whose first events are the plants. It stands as the core does after every list of events.
 pub record IsRun (w : World) (parts : Parts) : Type 0 where
   pub events : List Event
-  pub run : run_on w (first_parts w) (plants w ++ events) ≡ Some parts
+  pub run : events_on w (first_parts w) (plants w ++ events) ≡ Some parts
   pub stands : Stands w (plants w ++ events) parts
 
 -- The text that tells a schedule that was played.
@@ -130,14 +130,14 @@ abbrev pub at_words : JobView → List Place → ℕ → ℕ → List ℕ
 at_words j places s p = codes " " ++ unpadded (session_of j s).name ++ codes " " ++ hex_digits 6 (place_of places p).at
 
 -- a session that was planted or closed, and the address of the place
-abbrev pub place_words : JobView → List Place → Option Event → List ℕ
-place_words j places (Some (event.Plant s p)) = at_words j places s.0 p.0
-place_words j places (Some (event.Close s p)) = at_words j places s.0 p.0
-place_words j places made = []
+abbrev pub event_words : JobView → List Place → Option Event → List ℕ
+event_words j places (Some (event.Plant s p)) = at_words j places s.0 p.0
+event_words j places (Some (event.Close s p)) = at_words j places s.0 p.0
+event_words j places made = []
 
 -- of item n, which numbers from 1
 abbrev pub event_line : JobView → List Place → ℕ → Played → List ℕ
-event_line j places n p = codes "EVENT " ++ decimal n ++ codes " " ++ item_words j p.item ++ place_words j places p.event ++ shown_words p.shown
+event_line j places n p = codes "EVENT " ++ decimal n ++ codes " " ++ item_words j p.item ++ event_words j places p.event ++ shown_words p.shown
 
 abbrev pub no_item : Played
 no_item = record { item = End; event = None; shown = Done }

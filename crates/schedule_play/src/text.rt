@@ -9,7 +9,7 @@ ghost use Rattle.interleave_core.specs.World.{world_of};
 ghost use Rattle.report_text.specs.Conditions.{HasFewLines};
 ghost use Rattle.report_text.specs.Writes.{Prints};
 ghost use Rattle.session_book.specs.Meaning.{task_of};
-ghost use Rattle.schedule_play.specs.Meaning.{letters, or_dash, shown_words, item_words, at_words, place_words, event_line, event_lines, replay_lines};
+ghost use Rattle.schedule_play.specs.Meaning.{letters, or_dash, shown_words, item_words, at_words, event_words, event_line, event_lines, replay_lines};
 
 use crate::playing::Played;
 use annotator::text::{add_hex, add_number, add_text};
@@ -107,7 +107,7 @@ fn add_at(line: &mut ArrayVec<u8, 160>, job: &Job, tables: &Tables, s: SessNo, p
 /// Adds the session that was planted or closed and the place, where the event says them.
 fn add_place(line: &mut ArrayVec<u8, 160>, job: &Job, tables: &Tables, event: Option<Event>)
     requires { array_vec_len line.old ≤ 80 }
-    ensures items { line.new.items ≡ line.old.items ++ place_words job.now tables.now.places event }
+    ensures items { line.new.items ≡ line.old.items ++ event_words job.now tables.now.places event }
     ensures short { array_vec_len line.new ≤ array_vec_len line.old + 16 }
 {
     match event {

@@ -3,7 +3,7 @@ use Rattle.std.proofs.Common.{◌≡◌, ℕ, zero, suc, ◌+◌, ◌<◌, ◌�
 use Rattle.std.proofs.lemmas.List.{take-append-drop}
 use Rattle.cov_base.specs.Meaning.{FactSet, is_filled}
 use Rattle.brk_table.specs.Meaning.{TableView, TablesView, first_place, place_count, all_places}
-use Rattle.marks_file.specs.Meaning.{MarkedView, is_location, is_length, is_original, are_places, end_of, is_new_name, is_base, is_size, is_count, are_modules, is_module_count, are_marks}
+use Rattle.marks_file.specs.Meaning.{MarkedView, is_location, is_length, is_original, are_places, end_location, is_new_name, is_base, is_size, is_count, are_modules, is_module_count, are_marks}
 use Rattle.marks_file.proofs.MarksLemmas.{both-left, both-right}
 use Rattle.std.proofs.lemmas.List.Elements.{All-cons, All-nil}
 use Rattle.std.proofs.lemmas.Bool.{ltb-true}
@@ -66,10 +66,10 @@ half_of len kind half h = ltb-true half 65536 (both-left (nat_lt half 65536) _ h
 halfwords : (size end : ℕ) (ps : List MarkedPlace) → are_places size end ps ≡ true → AreHalfwords ps
 halfwords size end [] h = All-nil (λ (p : MarkedPlace). p.original < 65536)
 halfwords size end (p ∷ ps) h =
-    let one = both-left (is_place size end p) (are_places size (end_of p) ps) h in
+    let one = both-left (is_place size end p) (are_places size (end_location p) ps) h in
     let rest = both-right (is_length size p.location p.len) _ (both-right (is_location size end p.location) _ one) in
     All-cons (λ (x : MarkedPlace). x.original < 65536) p ps (half_of p.len p.kind p.original (both-left (is_original p.len p.kind p.original) _ rest))
-    (halfwords size (end_of p) ps (both-right (is_place size end p) (are_places size (end_of p) ps) h))
+    (halfwords size (end_location p) ps (both-right (is_place size end p) (are_places size (end_location p) ps) h))
 
 halfwords_kept : (base : ℕ) (places : List Place) (old new : ℕ → FactSet) (n count : ℕ) → AreHalfwords (marked_places base places old n count) → AreHalfwords (marked_places base places new n count)
 halfwords_kept base places old new n zero h = All-nil (λ (p : MarkedPlace). p.original < 65536)

@@ -14,10 +14,10 @@ use Rattle.cov_base.specs.Meaning.{FactSet, ImageView, is_filled}
 use Rattle.module_area.specs.Images.{IsImage, AreClear}
 use Rattle.module_area.specs.Meaning.{place_of, no_place}
 use Rattle.module_area.specs.declared.places.Place.{Place}
-use Rattle.brk_table.specs.Meaning.{TablesView, all_places, first_place, place_count as count_in}
+use Rattle.brk_table.specs.Meaning.{TablesView, all_places, first_place, place_total as count_in}
 use Rattle.brk_table.specs.Places.{IsPlace, AreApart}
 use Rattle.brk_table.specs.Together.{AreTables}
-use Rattle.marks_file.specs.Meaning.{MarkedView, is_new_name, is_base, is_clear, is_size, is_count, place_count, are_modules, is_module_count, are_marks, are_places}
+use Rattle.marks_file.specs.Meaning.{MarkedView, is_new_name, is_base, is_clear, is_size, is_count, place_total, are_modules, is_module_count, are_marks, are_places}
 use Rattle.marks_file.specs.declared.marks.MarkedPlace.{MarkedPlace}
 use Rattle.marks_file.proofs.Parts.{is_module}
 use Rattle.marks_file.proofs.MarksLemmas.{both}
@@ -161,7 +161,7 @@ all_clear j tables sets m [] is l are differ = refl
 all_clear j tables sets m (e ∷ es) is l are differ =
     both _ _ (clear_of j e m is (differ 0 e (omega arith)) (are 0 e (omega arith)).exists l) (all_clear j tables sets m es is l (All-tail (IsMarked j tables sets) e es are) (All-tail (λ e. e ≢ m) e es differ))
 
-counted : (j : JobView) (tables : TablesView) (sets : ℕ → FactSet) (ms : List ℕ) → place_count (map (marked_module j tables sets) ms) ≡ count_of tables.tables ms
+counted : (j : JobView) (tables : TablesView) (sets : ℕ → FactSet) (ms : List ℕ) → place_total (map (marked_module j tables sets) ms) ≡ count_of tables.tables ms
 counted j tables sets [] = refl
 counted j tables sets (m ∷ ms) =
     let one = length-marked_places (module_of j m).base tables.places sets (first_place tables.tables m) (count_in tables.tables m) in
@@ -201,7 +201,7 @@ count_kept j tables sets m es are differ =
     let more = count_more tables.tables es m in
     let fit = counts_fit tables.tables (es ++ m ∷ []) differ in
     let most = are.most in
-    le-leb (place_count (map (marked_module j tables sets) es) + length (marked_module j tables sets m).places) 65536 (omega (arith, one, before, more, fit, most))
+    le-leb (place_total (map (marked_module j tables sets) es) + length (marked_module j tables sets m).places) 65536 (omega (arith, one, before, more, fit, most))
 
 module_kept : (j : JobView) (tables : TablesView) (sets : ℕ → FactSet) (m : ℕ) (es : List ℕ) → IsJob j → AreTables j.images tables.tables → IsMarked j tables sets m → All (IsMarked j tables sets) es → All (λ e. e ≢ m) es → Differ (es ++ m ∷ [])
     → is_module (map (marked_module j tables sets) es) (marked_module j tables sets m) ≡ true

@@ -9,7 +9,7 @@ use Rattle.module_area.specs.Images.{IsImage}
 use Rattle.module_area.specs.Meaning.{place_of}
 use Rattle.module_area.specs.declared.places.Place.{Place}
 use Rattle.brk_table.specs.Places.{IsPlace}
-use Rattle.marks_file.specs.Meaning.{kind_number, is_location, is_length, is_original, is_set, are_places, end_of, is_runs}
+use Rattle.marks_file.specs.Meaning.{kind_number, is_location, is_length, is_original, is_set, are_places, end_location, is_runs}
 use Rattle.marks_file.specs.declared.marks.MarkedPlace.{MarkedPlace}
 use Rattle.marks_file.proofs.Parts.{is_place}
 use Rattle.marks_file.proofs.MarksLemmas.{both}
@@ -91,9 +91,9 @@ places_from image places sets first (suc count) end i are halves h =
     let rest = marked_places image.base places sets (first + 1) count in
     let here = are.each first (omega arith) (omega arith) in
     let half = halves 0 p (omega arith) in
-    let next : 0 < count → end_of p + image.base ≤ (place_of places (first + 1)).at = λ l. (let rise = are.rise first (omega arith) (omega arith) in omega (arith, rise, here.from)) in
+    let next : 0 < count → end_location p + image.base ≤ (place_of places (first + 1)).at = λ l. (let rise = are.rise first (omega arith) (omega arith) in omega (arith, rise, here.from)) in
     both _ _ (place_kept image places sets first end i here half (h (omega arith)))
-    (places_from image places sets (first + 1) count (end_of p) i (later_places image places sets first count are) (All-tail (λ (q : MarkedPlace). q.original < 65536) p rest halves) next)
+    (places_from image places sets (first + 1) count (end_location p) i (later_places image places sets first count are) (All-tail (λ (q : MarkedPlace). q.original < 65536) p rest halves) next)
 
 -- a module's places keep their rules
 pub places_kept : (image : ImageView) (places : List Place) (sets : ℕ → FactSet) (first count : ℕ) → IsImage image → AreMarkable image places sets first count → AreHalfwords (marked_places image.base places sets first count)

@@ -3,7 +3,7 @@ use Rattle.std.proofs.Common.{◌≡◌, ℕ, ◌+◌, ◌-◌, ◌<◌, zero, s
 use Rattle.std.proofs.lemmas.List.{get_or-map}
 use Rattle.cov_base.specs.Meaning.{FactSet, number_of_facts, is_within}
 use Rattle.cov_base.specs.declared.facts.Kind.{Kind}
-use Rattle.marks_file.specs.Meaning.{MarkedView, is_location, is_length, is_original, is_set, are_places, end_of, is_new_name, is_base, is_size, is_count, are_modules, is_module_count, are_marks, place_row, module_row, module_rows, rows}
+use Rattle.marks_file.specs.Meaning.{MarkedView, is_location, is_length, is_original, is_set, are_places, end_location, is_new_name, is_base, is_size, is_count, are_modules, is_module_count, are_marks, place_row, module_row, module_rows, rows}
 use Rattle.marks_file.specs.declared.marks.MarkedPlace.{MarkedPlace}
 use Rattle.marks_file.proofs.Parts.{is_place, is_module}
 use Rattle.marks_file.proofs.MarksLemmas.{both-left, both-right}
@@ -99,7 +99,7 @@ places_within base places sets size end n (suc count) zero h l =
     subst (λ x. is_within (place_of places x).kind (sets x) ≡ true) (omega arith) (set_within p.kind p.set set)
 places_within base places sets size end n (suc count) (suc k) h l =
     let p = marked_place base places sets n in
-    let more = places_within base places sets size (end_of p) (n + 1) count k (both-right (is_place size end p) _ h) (omega arith) in
+    let more = places_within base places sets size (end_location p) (n + 1) count k (both-right (is_place size end p) _ h) (omega arith) in
     subst (λ x. is_within (place_of places x).kind (sets x) ≡ true) (omega arith) more
 
 module_within : (j : JobView) (tables : TablesView) (sets : ℕ → FactSet) (m : ℕ) (earlier : List MarkedView) → is_module earlier (marked_module j tables sets m) ≡ true → AreWithin tables sets m

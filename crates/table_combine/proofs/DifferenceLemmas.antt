@@ -6,7 +6,7 @@ use Rattle.std.proofs.lemmas.Slice.Eq.{bytes_eq-Decides}
 use Rattle.std.proofs.Math.Seq.{drop-append_seam}
 use Rattle.byteorder.specs.Endian.{big_bytes, big_number}
 use Rattle.byteorder.specs.Numbers.{big_number-reads_back}
-use Rattle.marks_file.specs.Meaning.{MarkedView, place_count, place_row, module_row, module_rows, rows}
+use Rattle.marks_file.specs.Meaning.{MarkedView, place_total, place_row, module_row, module_rows, rows}
 use Rattle.marks_file.specs.Marks.{HasRow}
 use Rattle.marks_file.specs.declared.marks.MarkedPlace.{MarkedPlace}
 use Rattle.table_combine.specs.Meaning.{Difference, first_difference}
@@ -59,7 +59,7 @@ pub record PlacesPassed (n : ℕ) (a b : List MarkedPlace) (i : ℕ) : Type 0 wh
 
 -- the rows that this many modules have
 abbrev pub row_total : List MarkedView → ℕ
-row_total ms = length ms + place_count ms
+row_total ms = length ms + place_total ms
 
 -- i modules are the same, and the next row has this number
 pub record ModulesPassed (a b : List MarkedView) (i n : ℕ) : Type 0 where

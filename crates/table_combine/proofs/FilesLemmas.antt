@@ -14,7 +14,7 @@ use Rattle.marks_file.specs.declared.version.Version.{Version}
 use Rattle.marks_file.proofs.Parts.{is_session_name}
 use Rattle.marks_file.proofs.MarksLemmas.{both-left, both-right, both, le_of_test}
 use Rattle.marks_file.proofs.FileLemmas.{same_marks}
-use Rattle.table_combine.specs.Meaning.{Difference, first_difference, unite, unite_places, unite_module, File, IsFile, text_of, modules_of, held, united, AreOfOneTable, IsOtherTable, spelling}
+use Rattle.table_combine.specs.Meaning.{Difference, first_difference, unite, unite_places, unite_module, File, IsFile, file_text, modules_of, held, united, AreOfOneTable, IsOtherTable, spelling}
 use Rattle.table_combine.proofs.UnionLemmas.{length-unite_places, same_rows, joined_rows}
 
 abbrev pub runs_of : File → ℕ
@@ -73,22 +73,22 @@ pub files_start : (bytes : List ℕ) (at : ℕ) (m : MarksView) → keeps_rules 
 unfolding file_of
 files_start bytes at m h f =
     let x = file_of 0 bytes m at f in
-    let e : at ≡ length (text_of x) = omega (arith, f.ends) in
-    let inside = fits (text_of x) bytes f.starts in
-    let one : spelling (x ∷ []) ≡ text_of x = append-nil (text_of x) in
+    let e : at ≡ length (file_text x) = omega (arith, f.ends) in
+    let inside = fits (file_text x) bytes f.starts in
+    let one : spelling (x ∷ []) ≡ file_text x = append-nil (file_text x) in
     record {
       inside = omega (arith, e, inside);
       first = x;
       others = [];
       table = record { first_is = file_of_is 0 bytes m at f h; are = λ k d l. absurd (omega arith); same = λ k d l. absurd (omega arith) };
-      spelled = starts (text_of x) bytes f.starts ∙ (ap (λ t. t ++ drop (length (text_of x)) bytes) (sym one) ∙ ap (λ k. spelling (x ∷ []) ++ drop k bytes) (sym e));
+      spelled = starts (file_text x) bytes f.starts ∙ (ap (λ t. t ++ drop (length (file_text x)) bytes) (sym one) ∙ ap (λ k. spelling (x ∷ []) ++ drop k bytes) (sym e));
       end = e ∙ ap length (sym one);
       is = alone m f.version h;
       rows_are = refl;
     }
 
-more_spelled : (first : File) (others : List File) (x : File) → spelling (first ∷ (others ++ x ∷ [])) ≡ spelling (first ∷ others) ++ text_of x
-more_spelled first others x = flat_map-append text_of (first ∷ others) (x ∷ []) ∙ ap (λ t. spelling (first ∷ others) ++ t) (append-nil (text_of x))
+more_spelled : (first : File) (others : List File) (x : File) → spelling (first ∷ (others ++ x ∷ [])) ≡ spelling (first ∷ others) ++ file_text x
+more_spelled first others x = flat_map-append file_text (first ∷ others) (x ∷ []) ∙ ap (λ t. spelling (first ∷ others) ++ t) (append-nil (file_text x))
 
 -- the union with a further file
 more_united : (first : File) (others : List File) (x : File) (all : MarksView) → all.name ≡ (united first others).name → all.runs ≡ held ((united first others).runs + x.marks.runs) → all.modules ≡ unite (united first others).modules (modules_of x) → all ≡ united first (others ++ x ∷ [])
@@ -104,7 +104,7 @@ pub files_step : (bytes : List ℕ) (at end : ℕ) (all next new : MarksView) �
 unfolding file_of
 files_step bytes at end all next new s h f same name runs modules =
     let x = file_of at (drop at bytes) next end f in
-    let text = text_of x in
+    let text = file_text x in
     let e : end ≡ at + length text = f.ends in
     let more = more_spelled s.first s.others x in
     let inside = s.inside in
@@ -138,10 +138,10 @@ other_fault bytes at end all next d s h f found =
       first = s.first;
       others = s.others;
       next = x;
-      rest = drop (length (text_of x)) (drop at bytes);
+      rest = drop (length (file_text x)) (drop at bytes);
       table = s.table;
       next_is = file_of_is at (drop at bytes) next end f h;
-      spelled = s.spelled ∙ ap (λ t. spelling (s.first ∷ s.others) ++ t) (starts (text_of x) (drop at bytes) f.starts);
+      spelled = s.spelled ∙ ap (λ t. spelling (s.first ∷ s.others) ++ t) (starts (file_text x) (drop at bytes) f.starts);
       differs = ap (λ r. first_difference 0 r (rows next.modules)) (sym s.rows_are) ∙ found;
     }
 

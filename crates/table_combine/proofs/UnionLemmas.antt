@@ -7,7 +7,7 @@ use Rattle.std.proofs.lemmas.List.{take-append-drop}
 use Rattle.cov_base.specs.Meaning.{union, is_within, FactSet, facts_of_number, number_of_facts, is_filled}
 use Rattle.cov_base.specs.declared.facts.Kind.{Kind}
 use Rattle.cov_base.specs.declared.facts.Kind.TheVariants.{Straight, Conditional}
-use Rattle.marks_file.specs.Meaning.{MarkedView, kind_number, is_location, is_length, is_original, is_set, are_places, end_of, is_new_name, is_base, is_clear, is_size, is_count, place_count, are_modules, is_module_count, are_marks, place_row, module_row, module_rows, rows}
+use Rattle.marks_file.specs.Meaning.{MarkedView, kind_number, is_location, is_length, is_original, is_set, are_places, end_location, is_new_name, is_base, is_clear, is_size, is_count, place_total, are_modules, is_module_count, are_marks, place_row, module_row, module_rows, rows}
 use Rattle.marks_file.specs.declared.marks.MarkedPlace.{MarkedPlace}
 use Rattle.marks_file.proofs.Parts.{is_place, is_module}
 use Rattle.marks_file.proofs.MarksLemmas.{both-left, both-right, both, le_of_test}
@@ -90,9 +90,9 @@ places_both size end size2 end2 [] [] h g s = refl
 places_both size end size2 end2 [] (q ∷ qs) h g s = absurd s
 places_both size end size2 end2 (p ∷ ps) [] h g s = absurd s
 places_both size end size2 end2 (p ∷ ps) (q ∷ qs) h g s =
-    both (is_place size end (unite_place p q)) (are_places size (end_of p) (unite_places ps qs))
+    both (is_place size end (unite_place p q)) (are_places size (end_location p) (unite_places ps qs))
     (place_both size end size2 end2 p q (both-left (is_place size end p) _ h) (both-left (is_place size2 end2 q) _ g) s.0)
-    (places_both size (end_of p) size2 (end_of q) ps qs (both-right (is_place size end p) _ h) (both-right (is_place size2 end2 q) _ g) s.1)
+    (places_both size (end_location p) size2 (end_location q) ps qs (both-right (is_place size end p) _ h) (both-right (is_place size2 end2 q) _ g) s.1)
 
 pub length-unite_places : (ps qs : List MarkedPlace) → length (unite_places ps qs) ≡ length ps
 length-unite_places [] qs = refl
@@ -139,7 +139,7 @@ clear_same (x ∷ xs) (y ∷ ys) base size s =
     ∙ (ap (λ z. (nat_le (y.base + z) base || nat_le (base + size) y.base) && list_all (is_clear base size) xs) s.0.size
     ∙ ap (λ t. is_clear base size y && t) (clear_same xs ys base size s.1))
 
-count_same : (ms ns : List MarkedView) → SameHeads ms ns → place_count ms ≡ place_count ns
+count_same : (ms ns : List MarkedView) → SameHeads ms ns → place_total ms ≡ place_total ns
 count_same [] [] s = refl
 count_same [] (y ∷ ys) s = absurd s
 count_same (x ∷ xs) [] s = absurd s
@@ -208,15 +208,15 @@ modules_united a b i all h e =
     sym (take-append-drop i a) ∙ (ap (λ t. take i a ++ t) (sym (no_module_united (drop i a) (drop i b) none)) ∙ e)
 
 -- the places of a file's modules
-counts_append : (ms : List MarkedView) (m : MarkedView) → place_count (ms ++ m ∷ []) ≡ place_count ms + length m.places
+counts_append : (ms : List MarkedView) (m : MarkedView) → place_total (ms ++ m ∷ []) ≡ place_total ms + length m.places
 counts_append [] m = omega arith
 counts_append (x ∷ ms) m = let e = counts_append ms m in omega (arith, e)
 
-few_places : (earlier : List MarkedView) (n : ℕ) → is_count earlier n ≡ true → place_count earlier + n ≤ 65536
+few_places : (earlier : List MarkedView) (n : ℕ) → is_count earlier n ≡ true → place_total earlier + n ≤ 65536
 unfolding is_count
-few_places earlier n h = le_of_test (place_count earlier + n) 65536 h
+few_places earlier n h = le_of_test (place_total earlier + n) 65536 h
 
-modules_places : (earlier ms : List MarkedView) → place_count earlier ≤ 65536 → are_modules earlier ms ≡ true → place_count earlier + place_count ms ≤ 65536
+modules_places : (earlier ms : List MarkedView) → place_total earlier ≤ 65536 → are_modules earlier ms ≡ true → place_total earlier + place_total ms ≤ 65536
 modules_places earlier [] few h = omega arith
 modules_places earlier (m ∷ ms) few h =
     let one = both-left (is_module earlier m) (are_modules (earlier ++ m ∷ []) ms) h in
@@ -226,5 +226,5 @@ modules_places earlier (m ∷ ms) few h =
     let more = modules_places (earlier ++ m ∷ []) ms (omega arith) (both-right (is_module earlier m) _ h) in
     omega arith
 
-pub marks_places : (ms : List MarkedView) → are_marks ms ≡ true → place_count ms ≤ 65536
+pub marks_places : (ms : List MarkedView) → are_marks ms ≡ true → place_total ms ≤ 65536
 marks_places ms h = let e = modules_places [] ms (omega arith) (both-right (is_module_count (length ms)) _ h) in omega (arith, e)

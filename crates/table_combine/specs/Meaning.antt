@@ -53,8 +53,8 @@ pub record IsFile (f : File) : Type 0 where
   pub rules : keeps_rules f.marks ≡ true
   pub tells : Tells f.version f.marks
 
-abbrev pub text_of : File → List ℕ
-text_of f = file_bytes f.version f.marks
+abbrev pub file_text : File → List ℕ
+file_text f = file_bytes f.version f.marks
 
 -- its table and its sets
 abbrev pub modules_of : File → List MarkedView
@@ -62,7 +62,7 @@ modules_of f = f.marks.modules
 
 -- the bytes of these files, in succession
 abbrev pub spelling : List File → List ℕ
-spelling files = flat_map text_of files
+spelling files = flat_map file_text files
 
 -- files that keep the rules, all of the first one's table
 pub record AreOfOneTable (first : File) (others : List File) : Type 0 where
@@ -108,7 +108,7 @@ pub record IsOtherTable (bytes : List ℕ) (d : Difference) : Type 0 where
   pub rest : List ℕ
   pub table : AreOfOneTable first others
   pub next_is : IsFile next
-  pub spelled : bytes ≡ spelling (first ∷ others) ++ (text_of next ++ rest)
+  pub spelled : bytes ≡ spelling (first ∷ others) ++ (file_text next ++ rest)
   pub differs : first_difference 0 (rows (modules_of first)) (rows (modules_of next)) ≡ Some d
 
 -- no file begins the bytes that are left, and this is the offset of their first bad field

@@ -1,6 +1,6 @@
 //! The first row in which two tables differ.
 ghost use Rattle.std.specs.Prelude.{◌≡◌, ◌+◌, ◌<◌, ◌≤◌, ◌^◌, length, map, drop, option_map, IfSome, IsNone, All};
-ghost use Rattle.marks_file.specs.Meaning.{place_count, place_row, module_row, module_rows, rows};
+ghost use Rattle.marks_file.specs.Meaning.{place_total, place_row, module_row, module_rows, rows};
 ghost use Rattle.marks_file.specs.Marks.{HasRow};
 ghost use Rattle.table_combine.specs.Combine.{first_row, IsDifference, IsDifferenceWithin, SamePlaces, SameTables};
 
@@ -85,7 +85,7 @@ fn row_at(modules: &[MarkedModule], n: usize) -> Option<ArrayVec<u8, 20>>
 pub(crate) fn first_difference(a: &[MarkedModule], b: &[MarkedModule]) -> Option<OtherTable>
     requires left { All HasRow a.now }
     requires right { All HasRow b.now }
-    requires fits { length a.now + place_count a.now < 2 ^ 32 }
+    requires fits { length a.now + place_total a.now < 2 ^ 32 }
     ensures none { IsNone result → SameTables a.now b.now }
     ensures some { IfSome result (IsDifference 0 (rows a.now) (rows b.now)) }
 {

@@ -5,7 +5,7 @@ use Rattle.module_area.specs.Meaning.{ControlView, PlanView}
 use Rattle.module_area.specs.Notes.{Notes}
 use Rattle.module_area.specs.Rule.{IsPlan}
 use Rattle.observed_step.proofs.CourseLemmas.{course-returned, course-none, course-more, course-ended}
-use Rattle.observed_step.specs.Meaning.{After, Tour, Turn, calls_of, course_on, step_behind, turn_of, visits_of, with_cpu}
+use Rattle.observed_step.specs.Meaning.{DoneBehind, Tour, Turn, calls_of, course_on, step_behind, turn_of, visits_of, with_cpu}
 use Rattle.brk_table.specs.Meaning.{TablesView}
 use Rattle.observed_step.specs.Hooks.{Way}
 use Rattle.observed_step.specs.Runs.{EndsAs, Goes, Stand, Takes, course_of, stand}
@@ -31,7 +31,7 @@ abbrev pub AreTurns : Memory → ℕ → List Turn → Type 0
 AreTurns m done [] = Unit {0}
 AreTurns m done (t ∷ ts) = IsTurn m done t × AreTurns m (done + 1) ts
 
-turns_next : {K : Type 0} (after : After K) (m : Memory) (n : ℕ) (k : K) (s : State) (next : Next) → ((j : K) (t : State) → AreTurns m t.done (course_on after m n j t).turns) → has_returned s ≡ false →
+turns_next : {K : Type 0} (after : DoneBehind K) (m : Memory) (n : ℕ) (k : K) (s : State) (next : Next) → ((j : K) (t : State) → AreTurns m t.done (course_on after m n j t).turns) → has_returned s ≡ false →
     (step_behind after m k s).next ≡ next → AreTurns m s.done (course_on after m (suc n) k s).turns
 turns_next after m n k s On rest here is =
     let b = step_behind after m k s in
@@ -40,12 +40,12 @@ turns_next after m n k s On rest here is =
 turns_next after m n k s (Ended e) rest here is =
     subst (λ (tour : Tour). AreTurns m s.done tour.turns) (sym (course-ended after m n k s (step_behind after m k s) e here refl is)) (record { state = s; count = refl; is = refl }, tt)
 
-turns_from : {K : Type 0} (after : After K) (m : Memory) (n : ℕ) (k : K) (s : State) (b : Bool) → ((j : K) (t : State) → AreTurns m t.done (course_on after m n j t).turns) → has_returned s ≡ b →
+turns_from : {K : Type 0} (after : DoneBehind K) (m : Memory) (n : ℕ) (k : K) (s : State) (b : Bool) → ((j : K) (t : State) → AreTurns m t.done (course_on after m n j t).turns) → has_returned s ≡ b →
     AreTurns m s.done (course_on after m (suc n) k s).turns
 turns_from after m n k s true rest here = subst (λ (tour : Tour). AreTurns m s.done tour.turns) (sym (course-returned after m (suc n) k s here)) tt
 turns_from after m n k s false rest here = turns_next after m n k s (step_behind after m k s).next rest here refl
 
-pub course_turns : {K : Type 0} (after : After K) (m : Memory) (n : ℕ) (k : K) (s : State) → AreTurns m s.done (course_on after m n k s).turns
+pub course_turns : {K : Type 0} (after : DoneBehind K) (m : Memory) (n : ℕ) (k : K) (s : State) → AreTurns m s.done (course_on after m n k s).turns
 course_turns after m zero k s = subst (λ (tour : Tour). AreTurns m s.done tour.turns) (sym (course-none after m k s)) tt
 course_turns after m (suc n) k s = turns_from after m n k s (has_returned s) (course_turns after m n) refl
 

@@ -6,7 +6,7 @@ use Rattle.s370_state.specs.declared.endings.Ending.{Ending}
 use Rattle.s370_state.specs.declared.endings.Ending.TheVariants.{BadSvc}
 use Rattle.s370_state.specs.declared.endings.Next.{Next}
 use Rattle.s370_state.specs.declared.endings.Next.TheVariants.{On, Ended}
-use Rattle.observed_step.specs.Meaning.{After, Behind, behind_call, course_on}
+use Rattle.observed_step.specs.Meaning.{DoneBehind, Behind, behind_call, course_on}
 use Rattle.session_book.specs.declared.services.Service.{Service}
 use Rattle.task_run.specs.Meaning.{Course, solo}
 use Rattle.task_services.specs.declared.services.TheConstants.{SERVICE_RETURN}
@@ -52,7 +52,7 @@ abbrev pub by_ending : Served → Memory → Machine → Ending → Behind Serve
 by_ending k m s (BadSvc number) = called k.services m s number k.caller
 by_ending k m s e = left k.services k.caller s.cpu (Ended e)
 
-abbrev pub by_call : After Served
+abbrev pub by_call : DoneBehind Served
 by_call k m s On = left k.services k.caller s.cpu On
 by_call k m s (Ended e) = by_ending k m s e
 
@@ -74,7 +74,7 @@ by_return b (Ended e) = b
 
 -- Both behind a step that has left the task so. The step counts, and its visits, storage, input and output are those of a task
 -- without services.
-abbrev pub by_next : After Served
+abbrev pub by_next : DoneBehind Served
 by_next k m s next = let b = by_call k m s next in by_return b b.next
 
 -- from the task's start, where it has no caller

@@ -1,7 +1,7 @@
 use Rattle.std.proofs.Common.{◌≡◌, None, Some, drop, arith, length-drop}
 use Rattle.std.proofs.lemmas.Result.{err_from_is_err_and}
 use Rattle.byteorder.specs.Endian.{big_number}
-use Rattle.marks_file.specs.Meaning.{first_bad, header_fields, count_at}
+use Rattle.marks_file.specs.Meaning.{first_bad, header_fields, place_count_at}
 use Rattle.marks_file.proofs.FieldLemmas.{first_some, module_record}
 use Rattle.marks_file.proofs.LoopLemmas.{module_stops, module_goes, module_value}
 use Rattle.marks_file.proofs.reading.read_module.Goals as goal
@@ -23,7 +23,7 @@ pub returns-in_err-places-clause-bad : goal.returns-in_err-places-clause-bad
 returns-in_err-places-clause-bad c =
     let good : first_bad (header_fields c.args.at c.args.earlier.now (drop c.args.at c.args.input.now)) ≡ None = rw c.rest_of.ensures at c.in_ok-header.ensures.good in
     let size : c.in_ok-header.header.size ≡ big_number 4 (drop 12 (drop c.args.at c.args.input.now)) = rw c.rest_of.ensures at c.in_ok-header.ensures.size in
-    let count : c.in_ok-header.header.count ≡ count_at (drop c.args.at c.args.input.now) = rw c.rest_of.ensures at c.in_ok-header.ensures.count in
+    let count : c.in_ok-header.header.count ≡ place_count_at (drop c.args.at c.args.input.now) = rw c.rest_of.ensures at c.in_ok-header.ensures.count in
     let p = err_from_is_err_and c.from_residual-in_err-places.result c.from_residual-in_err-places.ensures.1 in
     rw (p.1, p.2) (module_stops c.args.input.now c.args.at c.args.earlier.now _ _ _ good size count c.in_err-places.ensures.bad)
 
@@ -39,5 +39,5 @@ pub returns-clause-good : goal.returns-clause-good
 returns-clause-good c =
     let good : first_bad (header_fields c.args.at c.args.earlier.now (drop c.args.at c.args.input.now)) ≡ None = rw c.rest_of.ensures at c.in_ok-header.ensures.good in
     let size : c.in_ok-header.header.size ≡ big_number 4 (drop 12 (drop c.args.at c.args.input.now)) = rw c.rest_of.ensures at c.in_ok-header.ensures.size in
-    let count : c.in_ok-header.header.count ≡ count_at (drop c.args.at c.args.input.now) = rw c.rest_of.ensures at c.in_ok-header.ensures.count in
+    let count : c.in_ok-header.header.count ≡ place_count_at (drop c.args.at c.args.input.now) = rw c.rest_of.ensures at c.in_ok-header.ensures.count in
     module_goes c.args.input.now c.args.at c.args.earlier.now _ _ good size count c.in_ok-places.ensures.good

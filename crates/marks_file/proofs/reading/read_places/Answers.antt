@@ -1,6 +1,6 @@
 use Rattle.std.proofs.Common.{◌≡◌, None, Some, drop, arith}
 use Rattle.std.proofs.lemmas.Result.{err_from_is_err_and}
-use Rattle.marks_file.specs.Meaning.{first_bad, place_fields, place_at}
+use Rattle.marks_file.specs.Meaning.{first_bad, place_fields, marked_place_at}
 use Rattle.marks_file.proofs.LoopLemmas.{places_start, places_step, places_stop, places_good, places_all, place_end}
 use Rattle.marks_file.proofs.reading.read_places.Goals as goal
 
@@ -22,7 +22,7 @@ returns-in_err-place-clause-bad c =
 pub overflow_add-end : goal.overflow_add-end
 overflow_add-end c =
     let good : first_bad (place_fields c.loop-i.at c.args.size c.loop-i.end (drop c.loop-i.at c.args.input.now)) ≡ None = rw c.rest_of.ensures at c.in_ok-place.ensures.good in
-    let is : c.in_ok-place.place ≡ place_at (drop c.loop-i.at c.args.input.now) = rw c.rest_of.ensures at c.in_ok-place.ensures.place in
+    let is : c.in_ok-place.place ≡ marked_place_at (drop c.loop-i.at c.args.input.now) = rw c.rest_of.ensures at c.in_ok-place.ensures.place in
     let end = place_end c.loop-i.at c.args.size c.loop-i.end (drop c.loop-i.at c.args.input.now) c.in_ok-place.place good is in
     omega (arith, end, c.from.ensures)
 
@@ -32,7 +32,7 @@ overflow_add-at c = let inside = c.loop-i.invariant.inside in omega arith
 pub loop-i-preserved : goal.loop-i-preserved
 loop-i-preserved c =
     let good : first_bad (place_fields c.loop-i.at c.args.size c.loop-i.end (drop c.loop-i.at c.args.input.now)) ≡ None = rw c.rest_of.ensures at c.in_ok-place.ensures.good in
-    let is : c.in_ok-place.place ≡ place_at (drop c.loop-i.at c.args.input.now) = rw c.rest_of.ensures at c.in_ok-place.ensures.place in
+    let is : c.in_ok-place.place ≡ marked_place_at (drop c.loop-i.at c.args.input.now) = rw c.rest_of.ensures at c.in_ok-place.ensures.place in
     let next = places_step c.args.input.now c.args.from c.args.size c.args.count c.loop-i.at c.loop-i.end c.loop-i._i _ c.in_ok-place.place c.loop-i.invariant c.loop-i-test.true good is in
     rw (c.in_ok-push.ensures.items, c.from.ensures) next
 

@@ -1,7 +1,7 @@
 use Rattle.std.proofs.Common.{◌≡◌, true, refl, length, All, ap, subst, sym, ◌∙◌, arith}
 use Rattle.std.specs.Vec.{with_items}
 use Rattle.std.proofs.lemmas.List.{with_items_is}
-use Rattle.marks_file.specs.Meaning.{MarksView, is_runs, are_marks, place_count, rows}
+use Rattle.marks_file.specs.Meaning.{MarksView, is_runs, are_marks, place_total, rows}
 use Rattle.marks_file.specs.Marks.{HasRow}
 use Rattle.marks_file.proofs.Parts.{is_session_name}
 use Rattle.marks_file.proofs.MarksLemmas.{both-left, both-right, both, marks_have_rows, marks_count, kept_modules}
@@ -29,7 +29,7 @@ first_difference-requires-clause-fits c =
     let kept : are_marks c.a.inside.modules.items ≡ true = kept_modules (record { name = c.a.inside.name; runs = c.a.inside.runs; modules = c.a.inside.modules.items }) c.a.invariant in
     let few = marks_count _ kept in
     let places = marks_places _ kept in
-    omega (arith, ap length c.deref.ensures.value, ap place_count c.deref.ensures.value, few, places)
+    omega (arith, ap length c.deref.ensures.value, ap place_total c.deref.ensures.value, few, places)
 
 pub invariant_of-a : goal.invariant_of-a
 invariant_of-a c =

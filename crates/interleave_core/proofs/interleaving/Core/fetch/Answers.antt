@@ -1,5 +1,5 @@
 use Rattle.std.proofs.Common.{◌≡◌, ◌<◌, false, length, set, Some, sym, refl, subst, arith, option_map}
-use Rattle.interleave_core.specs.Meaning.{World, Stepped, of_task, place_due, is_spent, TaskPart, fetched}
+use Rattle.interleave_core.specs.Meaning.{World, Stepped, of_existing, place_due, is_spent, TaskPart, cell_fetched}
 use Rattle.interleave_core.specs.Views.{RunningView, CoreView, parts_of}
 use Rattle.interleave_core.specs.declared.events.Event.TheVariants.{Fetch}
 use Rattle.interleave_core.specs.declared.events.Shown.TheVariants.{Fetched}
@@ -30,7 +30,7 @@ returns-clause-possible c =
     let at : place_due w c.args.t.0 c.index.result.now.part c.index.result.now.part.stage ≡ Some c.in-Some.place.0 = sym (c.in-Some.ensures.value w c.args.t.0 refl runs) in
     let p_in : c.in-Some.place.0 < length c.self.inside.cells.items = subst (λ n. c.in-Some.place.0 < n) (sym c.self.invariant.cell_count) c.in-Some.ensures.exists in
     let target : Stepped = record { parts = record { cells = c.self.inside.cells.items; sets = c.self.inside.sets.items; tasks = parts_of (set c.self.inside.tasks.items c.args.t.0 c.hold.new.self) }; shown = Fetched c.index-cell.result.now } in
-    subst (λ (v : CoreView). of_task v.parts c.args.t.0 (λ (u : TaskPart). option_map (fetched v.world v.parts c.args.t.0 u) (place_due v.world c.args.t.0 u u.stage)) ≡ Some target) c.self.view_is
+    subst (λ (v : CoreView). of_existing v.parts c.args.t.0 (λ (u : TaskPart). option_map (cell_fetched v.world v.parts c.args.t.0 u) (place_due v.world c.args.t.0 u u.stage)) ≡ Some target) c.self.view_is
     (fetch_possible w c.self.inside.cells.items c.self.inside.sets.items c.self.inside.tasks.items c.args.t.0 c.index.result.now c.index_mut.result.now c.index-2.result.now c.hold.new.self c.is_awaiting-subject.result c.in-Some.place
     c.index-cell.result.now c.due_after_fetch-due.result lt c.index.ensures c.index_mut.ensures.value c.index-2.ensures at c.is_awaiting-subject.ensures p_in c.index-cell.ensures
     (c.due_after_fetch-due.ensures w refl) c.hold.ensures)

@@ -1,6 +1,6 @@
 use Rattle.std.proofs.Common.{◌≡◌, ℕ, ◌+◌, ◌*◌, ◌/◌, ◌<◌, length, set, Some, ap, sym, ◌∙◌, subst, arith, option_map}
 use Rattle.cov_base.specs.Meaning.{with_fact}
-use Rattle.interleave_core.specs.Meaning.{World, Stepped, of_task, TaskPart, marked, in_hand}
+use Rattle.interleave_core.specs.Meaning.{World, Stepped, of_existing, TaskPart, fact_marked, in_hand}
 use Rattle.interleave_core.specs.Views.{CoreView, parts_of}
 use Rattle.interleave_core.specs.declared.events.Event.TheVariants.{Mark}
 use Rattle.interleave_core.specs.declared.events.Shown.TheVariants.{Marked}
@@ -49,7 +49,7 @@ returns-clause-possible c =
     let at = mark_index w c.self.inside.cells.items c.self.inside.sets.items c.self.inside.plan c.self.inside.tasks.items c.args.t.0 c.index.result.now.part c.in-Some.hand c.len-2.result c.self.invariant due (c.len-2.ensures ∙ c.self.inside.cells.ok.0) in
     let runs = read_running w c.self.inside.cells.items c.self.inside.sets.items c.self.inside.plan c.self.inside.tasks.items c.args.t.0 c.index-2.result.now c.self.invariant lt c.index-2.ensures in
     let target : Stepped = record { parts = record { cells = c.self.inside.cells.items; sets = set c.self.inside.sets.items (c.in-Some.hand.cell.tag / 2 * c.len-2.result + c.in-Some.hand.place.0) c.with-facts.result; tasks = parts_of (set c.self.inside.tasks.items c.args.t.0 c.hold.new.self) }; shown = Marked c.index-found.result.now } in
-    subst (λ (v : CoreView). of_task v.parts c.args.t.0 (λ (u : TaskPart). option_map (marked v.world v.parts c.args.t.0 u) (in_hand Marking u.stage)) ≡ Some target) c.self.view_is
+    subst (λ (v : CoreView). of_existing v.parts c.args.t.0 (λ (u : TaskPart). option_map (fact_marked v.world v.parts c.args.t.0 u) (in_hand Marking u.stage)) ≡ Some target) c.self.view_is
     (mark_possible w c.self.inside.cells.items c.self.inside.sets.items c.self.inside.plan c.self.inside.tasks.items c.args.t.0 c.index.result.now c.index_mut-2.result.now c.index-2.result.now c.hold.new.self c.in-Some.hand c.with_due.result c.due_after_mark.result (c.in-Some.hand.cell.tag / 2 * c.len-2.result + c.in-Some.hand.place.0)
     c.index-found.result.now c.with-facts.result c.place.result.now.kind c.went-went.result c.self.invariant lt c.index.ensures c.index_mut-2.ensures.value c.index-2.ensures (sym c.in-Some.ensures) due at c.index-found.ensures
     (ap (λ x. x.kind) c.place.ensures.value) (c.with-facts.ensures ∙ ap (with_fact c.index-found.result.now) c.fact.ensures) (c.went-went.ensures w c.args.t.0 runs) c.due_after_mark.ensures c.with_due.ensures c.hold.ensures)
