@@ -1,1 +1,1 @@
-pub mod DigitLemmas
+mod DigitLemmas

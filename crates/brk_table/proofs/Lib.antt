@@ -1,17 +1,18 @@
-pub mod PlaceLemmas
-pub mod TouchLemmas
-pub mod MapLemmas
-pub mod RangeLemmas
-pub mod CoverLemmas
-pub mod FaultLemmas
-pub mod Passes
-pub mod TabledLemmas
-pub mod AllPlaces
-pub mod OwnPlaces
-pub mod Together
-pub mod OneTable
-pub mod FarPlaces
-pub mod OneModule
-pub mod NumberLemmas
-pub mod CodeLemmas
-pub mod UnpackedLemmas
+mod PlaceLemmas
+mod TouchLemmas
+mod MapLemmas
+mod RangeLemmas
+mod CoverLemmas
+mod FaultLemmas
+mod Passes
+mod TabledLemmas
+mod AllPlaces
+mod OwnPlaces
+mod Together
+mod OneTable
+mod FarPlaces
+mod OneModule
+mod NumberLemmas
+mod CodeLemmas
+mod UnpackedLemmas
+pub mod Laws

@@ -1,1 +1,1 @@
-pub mod NumberLemmas
+mod NumberLemmas

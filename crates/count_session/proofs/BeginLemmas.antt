@@ -6,7 +6,7 @@ use Rattle.atomic_table.specs.Table.{opening}
 use Rattle.module_area.specs.Meaning.{PlanView}
 use Rattle.module_area.specs.Rule.{IsPlan}
 use Rattle.module_area.specs.Words.{starting, AllFit}
-use Rattle.module_area.proofs.WordLemmas.{first_cell, zero_behind, starting_count}
+use Rattle.module_area.proofs.Laws.{first_cell, zero_behind, starting_count}
 use Rattle.count_session.specs.declared.rule.CountView.{CountView}
 use Rattle.count_session.specs.Words.{word_count}
 use Rattle.count_session.specs.Rule.{first_view, IsView, IsCounting}

@@ -5,7 +5,7 @@ use lib.ListN.{get_elem?}
 use Rattle.atomic_table.specs.Table.{State, Final, Seen}
 use Rattle.module_area.specs.Rule.{total}
 use Rattle.module_area.specs.Meaning.{PlanView, kind_at}
-use Rattle.module_area.proofs.PartyLemmas.{total_only}
+use Rattle.module_area.proofs.Laws.{total_only}
 use Rattle.cov_base.specs.declared.facts.Fact.{Fact}
 use Rattle.cov_base.specs.declared.facts.Fact.TheVariants.{Ran, Went, Stayed}
 use Rattle.cov_base.specs.FactKind.{is_of_kind}

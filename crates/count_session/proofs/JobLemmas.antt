@@ -11,7 +11,7 @@ use Rattle.session_book.specs.JobView.{IsJob}
 use Rattle.session_book.specs.Sessions.{AreWhole}
 use Rattle.job_run.specs.Meaning.{trace_by}
 use Rattle.job_run.specs.declared.outcome.Done.{Done}
-use Rattle.job_run.proofs.SessionLemmas.{window_at-session, phase_in}
+use Rattle.job_run.proofs.Laws.{window_at-session, phase_in, all_ended}
 use Rattle.count_session.specs.Meaning.{count_of_all, session_count}
 use Rattle.count_session.specs.Job.{IsCountedJob, count_of}
 use Rattle.count_session.specs.Phases.{AreCounted}
@@ -20,7 +20,6 @@ use Rattle.job_run.specs.Slots.{dones}
 use Rattle.job_run.specs.Tasks.{AreRun}
 use Rattle.count_session.specs.Tallied.{count_in}
 use Rattle.count_session.specs.declared.counts.PlaceCount.{PlaceCount}
-use Rattle.job_run.proofs.TaskLemmas.{all_ended}
 
 is_count : (j : JobView) (places : List Place) (counts : List (List PlaceCount)) → IsJob j → AreWhole j → AreCounted j places (length j.phases) counts → (s p : ℕ) (f : Fact) → 0 < s → s ≤ length j.sessions → p < length places →
     count_of (record { job = j; places = places; phases = counts }) s p f ≡ session_count j places s p f

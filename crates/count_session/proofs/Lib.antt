@@ -1,10 +1,10 @@
-pub mod AddLemmas
-pub mod BeginLemmas
-pub mod EndLemmas
-pub mod JobLemmas
-pub mod NoteLemmas
-pub mod PassLemmas
-pub mod PlantLemmas
-pub mod StepLemmas
-pub mod ViewLemmas
-pub mod WordLemmas
+mod AddLemmas
+mod BeginLemmas
+mod EndLemmas
+mod JobLemmas
+mod NoteLemmas
+mod PassLemmas
+mod PlantLemmas
+mod StepLemmas
+mod ViewLemmas
+mod WordLemmas

@@ -18,9 +18,7 @@ use Rattle.job_run.specs.Crews.{all_tasks, phase_at}
 use Rattle.job_run.specs.Meaning.{result_of_run, trace_by}
 use Rattle.job_run.specs.Tasks.{HasNotRun, IsEnded, done_result, own_run}
 use Rattle.job_run.specs.declared.outcome.Done.{Done}
-use Rattle.job_run.proofs.EachLemmas.{same_or}
-use Rattle.job_run.proofs.SlotLemmas.{traces-map}
-use Rattle.job_run.proofs.TaskLemmas.{begun_run, private_of}
+use Rattle.job_run.proofs.Laws.{same_or, traces-map, begun_run, private_of}
 use Rattle.count_session.specs.Meaning.{count_at, count_of_all}
 use Rattle.count_session.specs.Counting.{Adds}
 use Rattle.count_session.specs.Notes.{CountNotes, root_notes}

@@ -9,7 +9,7 @@ use Rattle.atomic_table.specs.Table.{State, Me, keeps, Allows, Splits, Joins}
 use Rattle.cov_base.specs.Meaning.{breakpoint}
 use Rattle.module_area.specs.Rule.{total, has_number}
 use Rattle.module_area.specs.Meaning.{PlanView, original_at, window_at}
-use Rattle.module_area.proofs.PartyLemmas.{at_put, set_else, at_longer, all_set, all_snoc, all_two, total-set, total_two}
+use Rattle.module_area.proofs.Laws.{at_put, set_else, at_longer, all_set, all_snoc, all_two, total-set, total_two}
 use Rattle.count_session.specs.declared.rule.NoSlot.{NoSlot}
 use Rattle.count_session.specs.declared.rule.CountView.{CountView}
 use Rattle.module_area.specs.Words.{cell_of}

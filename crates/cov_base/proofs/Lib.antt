@@ -1,2 +1,3 @@
-pub mod FactNumbers
-pub mod NameLemmas
+mod FactNumbers
+mod NameLemmas
+pub mod Laws

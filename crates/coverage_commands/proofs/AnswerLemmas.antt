@@ -42,7 +42,7 @@ use Rattle.task_run.specs.Meaning.{Course}
 use Rattle.job_run.specs.Meaning.{Account}
 use Rattle.job_run.specs.Runs.{HasLeftBy}
 use Rattle.job_run.specs.Sets.{SetsView, set_in}
-use Rattle.job_run.proofs.SessionLemmas.{set_is_left}
+use Rattle.job_run.proofs.Laws.{set_is_left}
 use Rattle.job_run.specs.Tasks.{results_of}
 use Rattle.coverage_commands.proofs.ReadyLemmas.{refused_told}
 use Rattle.coverage_commands.specs.Words.{runs_threads, without_threads}

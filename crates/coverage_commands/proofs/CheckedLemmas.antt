@@ -10,7 +10,7 @@ use Rattle.marks_file.specs.Meaning.{MarkedView, MarksView, keeps_rules, HasFile
 use Rattle.session_book.specs.Meaning.{JobView}
 use Rattle.session_marks.specs.FromFile.{IsOwn}
 use Rattle.session_marks.specs.Meaning.{session_rows}
-use Rattle.session_marks.proofs.SessionLemmas.{own_same}
+use Rattle.session_marks.proofs.Laws.{own_same}
 use Rattle.table_combine.specs.Meaning.{Difference, first_difference}
 use Rattle.coverage_commands.specs.Meaning.{IsWritten, SinkChange, judged, judged_by, NoStart, OfFile, HasVerified}
 use Rattle.coverage_commands.specs.Calls.{IsChecked, IsTold, Told}

@@ -19,7 +19,7 @@ use Rattle.job_run.specs.Meaning.{solo_result, walk_by, no_finals}
 use Rattle.job_run.specs.Sets.{SetsView}
 use Rattle.job_run.specs.Tasks.{done_result, no_result}
 use Rattle.job_run.specs.declared.outcome.Done.{Done}
-use Rattle.job_run.proofs.TaskLemmas.{begun_walk}
+use Rattle.job_run.proofs.Laws.{begun_walk}
 use Rattle.early_report.specs.DrainView.{DrainView}
 use Rattle.early_report.specs.Meaning.{others, closing_count}
 use Rattle.early_report.specs.Drains.{controller_in, controller_of}

@@ -1,10 +1,11 @@
-pub mod AnswerLemmas
-pub mod CountLemmas
-pub mod DrainedLemmas
-pub mod CheckedLemmas
-pub mod FileLemmas
-pub mod OneAnswer
-pub mod ReadyLemmas
-pub mod ServedLemmas
-pub mod TrialLemmas
-pub mod NamedLemmas
+mod AnswerLemmas
+mod CountLemmas
+mod DrainedLemmas
+mod CheckedLemmas
+mod FileLemmas
+mod OneAnswer
+mod ReadyLemmas
+mod ServedLemmas
+mod TrialLemmas
+mod NamedLemmas
+pub mod Laws

@@ -8,14 +8,14 @@ use Rattle.evidence_check.specs.declared.firsts.First.{First}
 use Rattle.cov_base.specs.Meaning.{FactSet}
 use Rattle.job_text.specs.Meaning.{lines_of}
 use Rattle.marks_file.specs.Meaning.{MarkedView, MarksView, rows, first_bad, file_fields}
-use Rattle.marks_file.proofs.FileLemmas.{marks_found, one_end, file_found}
+use Rattle.marks_file.proofs.Laws.{marks_found, one_end, file_found}
 use Rattle.module_area.specs.declared.places.Place.{Place}
 use Rattle.schedule_play.specs.Meaning.{Play, Bad, Whole, play_of}
 use Rattle.session_book.specs.Meaning.{JobView, session_of}
 use Rattle.session_marks.specs.Meaning.{session_marks, session_rows}
-use Rattle.session_marks.proofs.SessionLemmas.{own_same}
+use Rattle.session_marks.proofs.Laws.{own_same}
 use Rattle.table_combine.specs.Meaning.{Difference, first_difference}
-use Rattle.table_combine.proofs.AnswerLemmas.{one_answer}
+use Rattle.table_combine.proofs.Laws.{one_answer}
 use Rattle.coverage_commands.specs.Meaning.{ReadyView, IsReady, BeginsWith, IsNoFile, BadField, Past, IsUnited, United, BadFile, OtherFile, IsShown, Shown, Fileless, OtherShown, judged, judged_by, IsVerdict, NoStart, OfFile, IsPlayed, IsAnswerOf, IsAnswer, Refused, OfFiles, OfJob, way_of}
 use Rattle.coverage_commands.specs.declared.asked.Wanted.{Wanted}
 use Rattle.refusals.specs.Meaning.{RefusalView, refusal, bad_marks_line}

@@ -9,15 +9,15 @@ use Rattle.listing_reader.specs.declared.lines.ListFault.TheVariants as list
 use Rattle.cov_outside.specs.declared.whole.ReadFault.{ReadFault}
 use Rattle.cov_outside.specs.declared.whole.ReadFault.TheVariants as read
 use Rattle.job_input.specs.Meaning.{HasJob, IsJobFault}
-use Rattle.job_input.proofs.OneInput.{one_bytes, one_job}
+use Rattle.job_input.proofs.Laws.{one_bytes, one_job}
 use Rattle.job_tables.specs.Meaning.{job_fault, Match}
 use Rattle.job_tables.specs.declared.faults.TablesFault.{TablesFault}
 use Rattle.job_tables.specs.declared.faults.TablesFault.TheVariants as first
-use Rattle.job_tables.proofs.OneTables.{one_places, one_tables}
+use Rattle.job_tables.proofs.Laws.{one_places, one_tables}
 use Rattle.job_text.specs.Meaning.{lines_of}
 use Rattle.job_text.specs.declared.jobs.JobFault.{JobFault}
 use Rattle.job_text.specs.declared.jobs.JobFault.TheVariants as fault
-use Rattle.job_text.proofs.Excluded as excluded
+use Rattle.job_text.proofs.Laws as excluded
 use Rattle.session_book.specs.Meaning.{JobView, session_of}
 use Rattle.session_marks.specs.Meaning.{session_marks}
 use Rattle.coverage_commands.specs.Meaning.{ReadyView, IsReady, IsRefused, Jobless, NoSession, Controlled, BadListing, HasAsked, HasNamed, controlled_asked, first_controlled, if_controlled, session_number, asks_session, way_of}

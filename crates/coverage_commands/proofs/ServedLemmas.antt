@@ -5,11 +5,11 @@ use Rattle.cov_outside.specs.declared.whole.ReadFault.{ReadFault}
 use Rattle.cov_outside.specs.declared.whole.ReadFault.TheVariants as read
 use Rattle.evidence_check.specs.Meaning.{facts_of_modules}
 use Rattle.evidence_check.specs.Verified.{Passes}
-use Rattle.evidence_check.proofs.VerifiedLemmas.{verified_passes}
+use Rattle.evidence_check.proofs.Laws.{verified_passes}
 use Rattle.job_input.specs.Meaning.{SourceChange, CameWhole, IsReadFault, input_limit}
-use Rattle.job_input.proofs.OneInput.{left_is, read_wanting, too_many}
+use Rattle.job_input.proofs.Laws.{left_is, read_wanting, too_many}
 use Rattle.job_text.specs.Meaning.{lines_of}
-use Rattle.job_text.proofs.WholeJob.{job_keeps}
+use Rattle.job_text.proofs.Laws.{job_keeps}
 use Rattle.session_book.specs.JobView.{IsJob}
 use Rattle.coverage_commands.specs.Meaning.{ReadyView, IsReady, IsAnswerOf, IsAnswer, Refused, OfFiles, OfJob, IsRunText, ComesReady, Read, Made, IsCause, Usage, Unread, Came, Finished, NoMemoryToRun, NoMemoryToMake, HoldsTrue, IsVerdict, OfFile, HasStatus, ToUsage, ToLarge, ToMatched, ToAnswer, IsComplete, IsUntouched, IsServed, Answers, SinkChange, AreasChange, way_of}
 use Rattle.refusals.specs.Meaning.{refusal, read_refusal, verified_line}

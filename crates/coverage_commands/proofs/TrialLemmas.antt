@@ -4,7 +4,7 @@ use Rattle.std.proofs.lemmas.List.Elements.{All-cons, All-nil}
 use Rattle.std.proofs.lemmas.List.FromFn.{length-map-range_with_len}
 use Rattle.brk_table.specs.Meaning.{TablesView}
 use Rattle.job_gen.specs.Meaning.{trial_code, trial_module, trial_task, trial_job, made_listing}
-use Rattle.job_gen.proofs.MatchLemmas.{trial_lines, trial_listing, trial_matches, trial_listing_size}
+use Rattle.job_gen.proofs.Laws.{trial_lines, trial_listing, trial_matches, trial_listing_size}
 use Rattle.job_run.specs.Outcomes.{IsOutcome}
 use Rattle.job_run.specs.Runs.{HasLeft}
 use Rattle.job_run.specs.Sets.{SetsView, set_in}
@@ -19,7 +19,7 @@ use Rattle.coverage_commands.specs.Changes.{no_change}
 use Rattle.job_run.specs.Meaning.{Account}
 use Rattle.job_input.specs.Meaning.{SourceChange}
 use Rattle.job_tables.specs.Meaning.{job_fault, Match}
-use Rattle.job_tables.proofs.TableLemmas.{no_listing_fault}
+use Rattle.job_tables.proofs.Laws.{no_listing_fault}
 use Rattle.command_words.specs.declared.words.Command.TheVariants.{Trial}
 use Rattle.coverage_commands.proofs.AnswerLemmas.{reports}
 use Rattle.task_run.specs.Meaning.{solo}

@@ -16,7 +16,7 @@ use std::sync::Wait;
 use std::thread::Threads;
 
 /// Counts a job whose sessions have no controller, and writes its counts.
-#[tactic(auto, using(brk_table::proofs::CodeLemmas::are_in))]
+#[tactic(auto, using(brk_table::proofs::Laws::are_in))]
 pub fn write_counts<T: Threads + Wait + Sync, K: Sink, G: Gate + Sync>(
     rt: &T,
     alloc: Global,

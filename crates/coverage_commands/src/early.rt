@@ -15,7 +15,7 @@ use std::sync::Wait;
 use std::thread::Threads;
 
 /// Runs a job, each controller with the drains of its sessions, and writes its report.
-#[tactic(auto, using(brk_table::proofs::CodeLemmas::are_in))]
+#[tactic(auto, using(brk_table::proofs::Laws::are_in))]
 pub fn write_drained<T: Threads + Wait + Sync, K: Sink, A: Areas, G: Gate + Sync>(
     rt: &T,
     alloc: Global,

@@ -18,7 +18,7 @@ use std::thread::Threads;
 use task_run::Runner;
 
 /// Runs a job, each task along the runner's course, and writes its report.
-#[tactic(auto, using(brk_table::proofs::CodeLemmas::are_in))]
+#[tactic(auto, using(brk_table::proofs::Laws::are_in))]
 pub fn write_report<
     T: Threads + Wait + Sync,
     K: Sink,
@@ -40,7 +40,7 @@ pub fn write_report<
 }
 
 /// Runs a job, each task along the runner's course, and writes the marks file of the session that is named.
-#[tactic(auto, using(brk_table::proofs::CodeLemmas::are_in))]
+#[tactic(auto, using(brk_table::proofs::Laws::are_in))]
 pub fn write_marks<
     T: Threads + Wait + Sync,
     K: Sink,

@@ -36,7 +36,7 @@ pub fn faultless_tables(alloc: Global, job: &Job) -> Result<Tables, NoMemory>
 }
 
 /// Runs a generated job, and writes its summary.
-#[tactic(auto, using(brk_table::proofs::CodeLemmas::are_in))]
+#[tactic(auto, using(brk_table::proofs::Laws::are_in))]
 fn answer_job<T: Threads + Wait + Sync, K: Sink, A: Areas, G: Gate + Sync>(
     rt: &T,
     alloc: Global,

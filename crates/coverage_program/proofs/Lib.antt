@@ -1,1 +1,1 @@
-pub mod FlushLemmas
+mod FlushLemmas

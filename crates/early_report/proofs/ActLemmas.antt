@@ -7,8 +7,7 @@ use Rattle.module_area.specs.declared.cells.Cell.{Cell}
 use Rattle.module_area.specs.Meaning.{PlanView, ControlledView, has_place, is_controlled, is_over, window_at, places_under}
 use Rattle.module_area.specs.Rule.{IsPlan}
 use Rattle.module_area.specs.Notes.{Notes, NotedView, IsAnswer, after_fetch, after_plant, after_close, after_note, is_at, is_closed}
-use Rattle.module_area.proofs.Indices.{and_left, and_right}
-use Rattle.module_area.proofs.PlanLemmas.{any_at, over_cases}
+use Rattle.module_area.proofs.Laws.{and_left, and_right, any_at, over_cases}
 use Rattle.early_report.specs.Acts.{Acts}
 use Rattle.early_report.specs.Acts.Acts.{Fetches, Marks, Lifts, Plants, Closes, Bounds, NotesTask, ReadsSet}
 use Rattle.early_report.specs.DrainView.{DrainView}

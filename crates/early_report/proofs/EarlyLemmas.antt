@@ -9,12 +9,11 @@ use Rattle.cov_base.specs.declared.numbers.SessNo.{SessNo}
 use Rattle.module_area.specs.Meaning.{PlanView, ControlledView, ControlView, number_of, sessions_of, control_after}
 use Rattle.module_area.specs.Rule.{IsPlan, AreApart}
 use Rattle.module_area.specs.Notes.{Notes, after_boundary, bearer, is_working, own_number}
-use Rattle.module_area.proofs.Indices.{and_left}
-use Rattle.module_area.proofs.PlanLemmas.{any_shown}
+use Rattle.module_area.proofs.Laws.{and_left, any_shown}
 use Rattle.svc_monitor.specs.Answered.{Turns}
 use Rattle.task_run.specs.Aside.{IsAside}
 use Rattle.task_run.specs.Meaning.{control_by, is_opened}
-use Rattle.task_run.proofs.AsideLemmas.{step_known, same_number, aside_more, aside_boundary, boundary_number}
+use Rattle.task_run.proofs.Laws.{step_known, same_number, aside_more, aside_boundary, boundary_number}
 use Rattle.early_report.specs.DrainView.{DrainView}
 use Rattle.early_report.specs.Drains.{unused, has_controlled, controller_in, controller_of, IsLooking}
 use Rattle.early_report.specs.Followed.{HaveGone, Stands, closed_since, first_drains, is_begun}

@@ -15,7 +15,7 @@ use Rattle.observed_step.specs.declared.bench.Bench.{Bench}
 use Rattle.observed_step.specs.declared.task.TaskEnd.{TaskEnd}
 use Rattle.svc_monitor.specs.Answered.{Turns}
 use Rattle.task_run.specs.Meaning.{control_by, is_opened}
-use Rattle.task_run.proofs.FollowsLemmas.{control_more}
+use Rattle.task_run.proofs.Laws.{control_more}
 use Rattle.early_report.specs.DrainView.{DrainView}
 use Rattle.early_report.specs.Followed.{IsReadyAt, IsReady, HaveGone, StandsBy, Stands, closed_since, first_drains, is_begun}
 use Rattle.early_report.specs.Following.{HasFollowed, FollowsOne}

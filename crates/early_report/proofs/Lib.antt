@@ -1,10 +1,11 @@
-pub mod ActLemmas
-pub mod EarlyLemmas
-pub mod FollowLemmas
-pub mod FollowingLemmas
-pub mod LookLemmas
-pub mod ReadLemmas
-pub mod StandLemmas
-pub mod StepLemmas
-pub mod TieLemmas
-pub mod ToldLemmas
+mod ActLemmas
+mod EarlyLemmas
+mod FollowLemmas
+mod FollowingLemmas
+mod LookLemmas
+mod ReadLemmas
+mod StandLemmas
+mod StepLemmas
+mod TieLemmas
+mod ToldLemmas
+pub mod Laws

@@ -8,9 +8,7 @@ use Rattle.std.proofs.lemmas.List.Elements.{All-tail, All-cons}
 use Rattle.cov_base.specs.declared.numbers.TaskNo.{TaskNo}
 use Rattle.module_area.specs.Meaning.{PlanView}
 use Rattle.module_area.specs.Notes.{Notes, NotedView, IsWord, after_note, is_closed, is_own, is_past, is_drained}
-use Rattle.module_area.proofs.Indices.{and_left, and_right, and_both}
-use Rattle.module_area.proofs.PlanLemmas.{any_at, any_shown}
-use Rattle.module_area.proofs.StepLemmas.{or_left, or_right}
+use Rattle.module_area.proofs.Laws.{and_left, and_right, and_both, any_at, any_shown, or_left, or_right}
 use Rattle.early_report.specs.Meaning.{others}
 use Rattle.early_report.specs.Drains.{is_noted, Begins, Polls, IsLooking, is_odd}
 

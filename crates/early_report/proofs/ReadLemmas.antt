@@ -8,9 +8,7 @@ use Rattle.cov_base.specs.declared.numbers.PlaceNo.{PlaceNo}
 use Rattle.module_area.specs.Meaning.{PlanView, ControlledView, has_place, is_controlled, places_in, places_under}
 use Rattle.module_area.specs.Rule.{IsPlan}
 use Rattle.module_area.specs.Notes.{Notes, IsFound, after_read, is_closed, is_final, same_bit, same_set}
-use Rattle.module_area.proofs.Indices.{and_left, and_right, and_both}
-use Rattle.module_area.proofs.PlanLemmas.{any_shown}
-use Rattle.module_area.proofs.StepLemmas.{or_left, or_right}
+use Rattle.module_area.proofs.Laws.{and_left, and_right, and_both, any_shown, or_left, or_right}
 use Rattle.early_report.specs.DrainView.{DrainView}
 use Rattle.early_report.specs.Drains.{has_controlled, IsDrainOf, is_over, Reads, IsLooking}
 

@@ -9,12 +9,11 @@ use Rattle.module_area.specs.Rule.{IsPlan, AreApart}
 use Rattle.module_area.specs.Control.{after_closes, after_call}
 use Rattle.module_area.specs.Notes.{Notes, after_boundary, is_closed}
 use Rattle.module_area.specs.Tied.{IsTied}
-use Rattle.module_area.proofs.Indices.{and_left, and_right, and_both}
-use Rattle.module_area.proofs.StepLemmas.{or_left, or_right}
-use Rattle.planter.proofs.TieLemmas.{has_here}
+use Rattle.module_area.proofs.Laws.{and_left, and_right, and_both, or_left, or_right}
+use Rattle.planter.proofs.Laws.{has_here}
 use Rattle.svc_monitor.specs.Answered.{Turns}
 use Rattle.task_run.specs.Meaning.{is_opened}
-use Rattle.task_run.proofs.AsideLemmas.{step_known, step_over}
+use Rattle.task_run.proofs.Laws.{step_known, step_over}
 use Rattle.early_report.specs.DrainView.{DrainView}
 use Rattle.early_report.specs.Drains.{HasClosed}
 use Rattle.early_report.specs.Followed.{IsOwn, IsReadyAt, IsReady, closed_since}

@@ -9,7 +9,7 @@ use Rattle.cov_base.specs.declared.numbers.TaskNo.{TaskNo}
 use Rattle.module_area.specs.Meaning.{PlanView, places_under}
 use Rattle.module_area.specs.Rule.{has_task}
 use Rattle.module_area.specs.Notes.{Notes, NotedView, bearer, is_past}
-use Rattle.module_area.proofs.PlanLemmas.{any_shown}
+use Rattle.module_area.proofs.Laws.{any_shown}
 use Rattle.early_report.specs.DrainView.{DrainView}
 use Rattle.early_report.specs.Meaning.{others}
 use Rattle.early_report.specs.Drains.{unused, controller_of, HasClosed, IsReached, IsDrainOf, IsLooking, is_noted, is_over, Begins, Polls, Reads, from_entry, polled}

@@ -12,14 +12,12 @@ use Rattle.module_area.specs.Rule.{IsPlan, has_task}
 use Rattle.module_area.specs.Ended.{AreSettled}
 use Rattle.module_area.specs.Notes.{Notes, bearer, root_notes}
 use Rattle.module_area.specs.Tied.{IsTied, keeps_session_as}
-use Rattle.module_area.proofs.PlanLemmas.{any_at, any_shown}
-use Rattle.module_area.proofs.StepLemmas.{or_cases, or_left}
-use Rattle.module_area.proofs.TiedLemmas.{first_tied}
+use Rattle.module_area.proofs.Laws.{any_at, any_shown, or_cases, or_left, first_tied}
 use Rattle.task_run.specs.Aside.{IsAside}
 use Rattle.task_run.specs.Meaning.{Course}
 use Rattle.task_run.specs.Ran.{RanAs, walk_from}
 use Rattle.task_run.specs.declared.tasks.Task.{Task}
-use Rattle.task_run.proofs.AsideLemmas.{Follows-aside, tied_aside, aside_calls}
+use Rattle.task_run.proofs.Laws.{Follows-aside, tied_aside, aside_calls}
 use Rattle.early_report.specs.DrainView.{DrainView}
 use Rattle.early_report.specs.Meaning.{others}
 use Rattle.early_report.specs.Drains.{unused, controller_of, AreKnown}

@@ -2,9 +2,9 @@
 #![tactic(auto)]
 
 mod drains;
-pub mod laws;
 mod runner;
 mod text;
+pub mod theorems;
 
 pub use drains::{Drain, Poll, Stage, drain_begin, drain_poll, drain_take, room};
 pub use runner::EarlyRunner;

@@ -6,7 +6,7 @@ use Rattle.marks_file.specs.Meaning.{MarkedView, first_bad}
 use Rattle.session_book.specs.Meaning.{JobView, session_of}
 use Rattle.session_marks.specs.Filled.{AreThere}
 use Rattle.session_marks.specs.FromFile.{IsOwn}
-use Rattle.session_marks.proofs.FillLemmas.{are_there}
+use Rattle.session_marks.proofs.Laws.{are_there}
 use Rattle.evidence_check.specs.Meaning.{modules_claims, evidence_claims, evidence_fields, phase_first, session_first}
 use Rattle.evidence_check.specs.Found.{found_at, AreFirsts}
 use Rattle.evidence_check.specs.declared.firsts.Found.{Found}

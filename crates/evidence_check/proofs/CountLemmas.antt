@@ -5,8 +5,7 @@ use Rattle.cov_base.specs.Meaning.{FactSet}
 use Rattle.module_area.specs.Meaning.{fact_count}
 use Rattle.marks_file.specs.Meaning.{MarkedView, MarksView, is_new_name, is_base, is_size, is_count, are_modules, is_module_count, keeps_rules, place_total}
 use Rattle.marks_file.specs.declared.marks.MarkedPlace.{MarkedPlace}
-use Rattle.marks_file.proofs.Parts.{is_module}
-use Rattle.marks_file.proofs.MarksLemmas.{both-left, both-right, le_of_test, kept_modules, marks_count}
+use Rattle.marks_file.proofs.Laws.{is_module, both-left, both-right, le_of_test, kept_modules, marks_count}
 use Rattle.evidence_check.specs.Meaning.{facts_of_places, facts_of_modules}
 
 place_count-push : (ms : List MarkedView) (m : MarkedView) → place_total (ms ++ m ∷ []) ≡ place_total ms + length m.places

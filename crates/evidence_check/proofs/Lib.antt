@@ -1,10 +1,11 @@
-pub mod CallLemmas
-pub mod CheckLemmas
-pub mod ClaimLemmas
-pub mod CountLemmas
-pub mod EntryLemmas
-pub mod FactLemmas
-pub mod FieldLemmas
-pub mod PhaseLemmas
-pub mod VerifiedLemmas
-pub mod VisitLemmas
+mod CallLemmas
+mod CheckLemmas
+mod ClaimLemmas
+mod CountLemmas
+mod EntryLemmas
+mod FactLemmas
+mod FieldLemmas
+mod PhaseLemmas
+mod VerifiedLemmas
+mod VisitLemmas
+pub mod Laws

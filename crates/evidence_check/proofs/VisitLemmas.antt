@@ -14,10 +14,10 @@ use Rattle.s370_decode.specs.Meaning.{ex, op_of}
 use Rattle.s370_decode.specs.declared.code.Code.{Code}
 use Rattle.s370_branch.specs.Meaning.{goes}
 use Rattle.s370_exec.specs.Meaning.{effect, updated, link_code, code_at, first_tests, rest_tests, subject_tests, is_execute, Step, Run, solo_step, from_first, fetched, begun_step, stepped, visit, behind, subject_step, subject_fetched, run_on, run_after, run_ended, has_returned}
-use Rattle.s370_exec.proofs.TraceLemmas.{solo_step-done}
+use Rattle.s370_exec.proofs.Laws.{solo_step-done}
 use Rattle.module_area.specs.Meaning.{shows, place_of}
 use Rattle.module_area.specs.declared.places.Place.{Place}
-use Rattle.observed_step.proofs.SoloLemmas.{course_solo}
+use Rattle.observed_step.proofs.Laws.{course_solo}
 use Rattle.session_book.specs.Meaning.{JobView, TaskView, task_memory, task_of, session_of, first_state, no_task}
 use Rattle.session_book.specs.JobView.{IsJob}
 use Rattle.evidence_check.specs.Meaning.{trace_of, first_in, first_from, session_first}

@@ -16,9 +16,9 @@ use Rattle.module_area.specs.Meaning.{place_of, no_place, original_at}
 use Rattle.module_area.specs.declared.places.Place.{Place}
 use Rattle.brk_table.specs.Meaning.{touches, memory_of}
 use Rattle.brk_table.specs.Places.{IsPlace, ArePlaces, AreApart, IsIn}
-use Rattle.space_map.proofs.Ranges.{reach_image}
-use Rattle.space_map.proofs.Seen.{is_image-of}
-use Rattle.s370_exec.proofs.StepLemmas.{solo_step-unread, solo_step-read, solo_step-ex, subject_step-refused, subject_step-unread, subject_step-begun}
+use Rattle.space_map.proofs.Laws.{reach_image, is_image-of}
+use Rattle.s370_exec.proofs.Laws.{solo_step-unread, solo_step-read, solo_step-ex, subject_step-refused, subject_step-unread}
+use Rattle.s370_exec.proofs.Laws.{subject_step-begun}
 use Rattle.interleave_core.specs.Meaning.{World, TaskPart, memory_in, plan_in, place_at, step_of, subject_place}
 use Rattle.interleave_core.specs.World.{IsWorld}
 use Rattle.interleave_core.proofs.Logs.{found_at, at_place}

@@ -8,8 +8,7 @@ use Rattle.std.proofs.lemmas.Option.{same_Some}
 use Rattle.module_area.specs.Meaning.{word_at, no_cell}
 use Rattle.module_area.specs.declared.cells.Cell.{Cell}
 use Rattle.module_area.specs.declared.parties.View.{View}
-use Rattle.module_area.proofs.Indices.{and_left, and_right}
-use Rattle.module_area.proofs.StepLemmas.{or_cases}
+use Rattle.module_area.proofs.Laws.{and_left, and_right, or_cases}
 use Rattle.interleave_core.specs.Meaning.{World, TaskPart, Parts, part_of, PlaceChange, ending_of, Stepped, parts_step, changed_cell, set_of}
 use Rattle.interleave_core.specs.World.{IsWorld}
 use Rattle.interleave_core.specs.CoreState.{CoreState, CoreStepped, core_start, core_step, core_from, core_run, planted_by}

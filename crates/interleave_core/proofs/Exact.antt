@@ -15,8 +15,7 @@ use Rattle.module_area.specs.Rule.{planted, IsForm, Has, window_tag, is_breakpoi
 use Rattle.module_area.specs.Meaning.{tag_session, word_at, PlanView, original_at, kind_at}
 use Rattle.module_area.specs.declared.cells.Cell.{Cell}
 use Rattle.module_area.specs.declared.parties.View.{View}
-use Rattle.module_area.proofs.FactLemmas.{is_full-true}
-use Rattle.module_area.proofs.PartyLemmas.{here-add_if, more-add_if}
+use Rattle.module_area.proofs.Laws.{is_full-true, here-add_if, more-add_if}
 use Rattle.interleave_core.specs.Meaning.{World, TaskPart, Parts, part_of, plan_in, Stepped, parts_step, cell_fetched, fact_marked, lifted, done_by, with_due, with_stage, original_under, same_cell, in_hand, hand_at, step_of, place_due, is_awaiting, task_done, set_of, fact_in, controller_of}
 use Rattle.interleave_core.specs.World.{IsWorld}
 use Rattle.s370_exec.specs.Meaning.{visit_of}

@@ -6,7 +6,7 @@ use Rattle.cov_base.specs.declared.numbers.PlaceNo.{PlaceNo as Number}
 use Rattle.module_area.specs.Meaning.{place_of, is_place}
 use Rattle.module_area.specs.declared.places.Place.{Place}
 use Rattle.brk_table.specs.Places.{ArePlaces}
-use Rattle.brk_table.proofs.PlaceLemmas.{one_begins}
+use Rattle.brk_table.proofs.Laws.{one_begins}
 
 abbrev pub begins_at : ℕ → Place → Bool
 begins_at a p = a == p.at

@@ -13,9 +13,7 @@ use Rattle.module_area.specs.declared.cells.Cell.{Cell}
 use Rattle.module_area.specs.declared.parties.Role.{Role}
 use Rattle.module_area.specs.declared.parties.Role.TheVariants.{Spent}
 use Rattle.module_area.specs.declared.parties.View.{View}
-use Rattle.module_area.proofs.Indices.{and_both}
-use Rattle.module_area.proofs.CellLemmas.{plants, closes as closes_step}
-use Rattle.module_area.proofs.StepLemmas.{or_left, or_right, spent_not_root, spent_not_task}
+use Rattle.module_area.proofs.Laws.{and_both, plants, closes as closes_step, or_left, or_right, spent_not_root, spent_not_task}
 use Rattle.interleave_core.specs.Meaning.{World, TaskPart, part_of, plan_in, PlaceChange, change_of, next_place, change_due, Stepped, may_plant, breakpoint_of, with_cell, same_due, subject_place, step_of, set_of}
 use Rattle.interleave_core.specs.CoreState.{CoreState, Item, Gave, task_view, task_views}
 use Rattle.interleave_core.specs.declared.stage.Due.{Due}

@@ -12,7 +12,7 @@ use Rattle.s370_state.specs.declared.endings.Ending.TheVariants.{Returned, Spent
 use Rattle.s370_state.specs.declared.endings.Next.{Next}
 use Rattle.s370_state.specs.declared.endings.Next.TheVariants.{On, Ended as NextEnded}
 use Rattle.s370_exec.specs.Meaning.{has_returned}
-use Rattle.s370_exec.proofs.TraceLemmas.{solo_step-done}
+use Rattle.s370_exec.proofs.Laws.{solo_step-done}
 use Rattle.session_book.specs.Meaning.{no_task}
 use Rattle.interleave_core.specs.Meaning.{World, TaskPart, Parts, part_of, first_part, plan_in, memory_in, budget_in, place_at, change_due, task_goes_on, Stepped, parts_step, events_on, of_existing, task_replaced, with_stage, with_due, with_cell, place_due, is_spent, is_awaiting, due_after_fetch, hand_at, cell_fetched, fact_marked, lifted, in_hand, same_due, same_cell, original_under, step_of, subject_place, executed, stage_after, instruction_executed, awaits_or, ready_done, task_done, done_by, set_of, fact_in, next_of, stage_event, PlaceChange, change_of, next_place, most_events}
 use Rattle.interleave_core.specs.Going.{after, go_events}

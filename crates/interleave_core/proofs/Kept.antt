@@ -13,10 +13,9 @@ use Rattle.s370_state.specs.declared.endings.Next.{Next}
 use Rattle.s370_state.specs.declared.endings.Next.TheVariants.{On, Ended as NextEnded}
 use Rattle.cov_base.specs.declared.facts.Kind.{Kind}
 use Rattle.cov_base.specs.declared.facts.Kind.TheVariants.{Straight, Conditional}
-use Rattle.module_area.proofs.Indices.{same_index, index_below}
+use Rattle.module_area.proofs.Laws.{same_index, index_below, over_small}
 use Rattle.module_area.specs.Meaning.{tag_session, word_at, no_cell, set_in, index_of, PlanView, kind_at, original_at, is_over}
 use Rattle.module_area.specs.Rule.{window_tag, IsForm, planted, lifted as lifted_cell, IsPlan}
-use Rattle.module_area.proofs.PlanLemmas.{over_small}
 use Rattle.module_area.specs.declared.cells.Cell.{Cell}
 use Rattle.session_book.specs.Meaning.{no_task}
 use Rattle.interleave_core.specs.Meaning.{World, TaskPart, Parts, plan_in, place_at, first_part, Stepped, of_existing, task_replaced, with_stage, with_due, with_cell, place_due, is_spent, is_awaiting, subject_place, step_of, due_after_fetch, in_hand, same_due, cell_fetched, fact_marked, lifted, done_by, task_done, task_goes_on, parts_step, set_of, fact_in, original_under, same_cell, hand_at, executed, stage_after, awaits_or, instruction_executed}

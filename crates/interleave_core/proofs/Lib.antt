@@ -1,25 +1,26 @@
-pub mod Alone
-pub mod ControlLemmas
-pub mod Finds
-pub mod Follows
-pub mod GoingLemmas
-pub mod GoneLemmas
-pub mod Kept
-pub mod Logs
-pub mod Begun
-pub mod Given
-pub mod Rule
-pub mod Ruled
-pub mod Exact
-pub mod Drained
-pub mod Whole
-pub mod Nexts
-pub mod Placing
-pub mod Quiet
-pub mod Runs
-pub mod SampleLemmas
-pub mod Starts
-pub mod Told
-pub mod Changes
-pub mod Tied
-pub mod Turns
+mod Alone
+mod ControlLemmas
+mod Finds
+mod Follows
+mod GoingLemmas
+mod GoneLemmas
+mod Kept
+mod Logs
+mod Begun
+mod Given
+mod Rule
+mod Ruled
+mod Exact
+mod Drained
+mod Whole
+mod Nexts
+mod Placing
+mod Quiet
+mod Runs
+mod SampleLemmas
+mod Starts
+mod Told
+mod Changes
+mod Tied
+mod Turns
+pub mod Laws

@@ -10,12 +10,11 @@ use Rattle.s370_decode.specs.Meaning.{first_half, op_of}
 use Rattle.s370_decode.specs.declared.code.Code.{Code}
 use Rattle.s370_exec.specs.Meaning.{effect, updated, link_code, is_execute, code_at, first_tests, rest_tests, Run, Step, solo_run, solo_step, visit, no_visit, has_returned}
 use Rattle.s370_exec.specs.Fetch.{whole_tests}
-use Rattle.s370_exec.proofs.TraceLemmas.{solo_step-visits}
+use Rattle.s370_exec.proofs.Laws.{solo_step-visits, solo_step-rest_refused, solo_step-unread, solo_step-read, solo_step-ex}
 use Rattle.module_area.specs.Meaning.{place_of, tag_session, word_at}
 use Rattle.module_area.specs.declared.places.Place.{Place}
 use Rattle.brk_table.specs.Places.{ArePlaces, IsPlace, AreSeen}
 use Rattle.module_area.specs.declared.cells.Cell.{Cell}
-use Rattle.s370_exec.proofs.StepLemmas.{solo_step-rest_refused, solo_step-unread, solo_step-read, solo_step-ex}
 use Rattle.interleave_core.specs.Meaning.{World, TaskPart, Parts, part_of, memory_in, budget_in, place_at, first_part, Stepped, parts_step, cell_fetched, fact_marked, lifted, done_by, with_due, original_under, same_cell, in_hand, subject_place, step_of, place_due, is_awaiting, is_spent, executed, stage_after, awaits_or, with_stage, instruction_executed, task_goes_on, task_done, same_due, hand_at, set_of}
 use Rattle.interleave_core.specs.World.{IsWorld}
 use Rattle.interleave_core.specs.CoreState.{Item, Met, Gave, CoreState, CoreStepped, core_start, core_step, core_after, core_from, core_run, log_after}

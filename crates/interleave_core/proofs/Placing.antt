@@ -11,7 +11,7 @@ use Rattle.cov_base.specs.declared.numbers.SessNo.{SessNo}
 use Rattle.module_area.specs.Meaning.{word_at, PlanView, window_at, is_over, is_controlled}
 use Rattle.module_area.specs.Rule.{IsForm, IsPlan, IsControlled}
 use Rattle.module_area.specs.declared.cells.Cell.{Cell}
-use Rattle.module_area.proofs.PlanLemmas.{over_small}
+use Rattle.module_area.proofs.Laws.{over_small}
 use Rattle.session_book.specs.Meaning.{no_task}
 use Rattle.interleave_core.specs.Meaning.{World, TaskPart, Parts, plan_in, part_of, first_part, PlaceChange, controller_of, Stepped, of_existing, task_replaced, breakpoint_of, changed_cell, may_change, changed, change_step, change_due, parts_step, by_controller, whole_step}
 use Rattle.interleave_core.specs.Views.{RunningView, IsRunning, IsStage, IsCore, IsTied, IsPlaced, parts_of, no_controlled, session_at, turn_number, turn_of}

@@ -17,8 +17,7 @@ use Rattle.module_area.specs.Meaning.{word_at, no_cell, index_of, tag_session, P
 use Rattle.module_area.specs.Notes.{is_closed}
 use Rattle.module_area.specs.Rule.{window_tag, IsPlan}
 use Rattle.module_area.specs.declared.cells.Cell.{Cell}
-use Rattle.module_area.proofs.Indices.{same_index, and_left, and_right, and_both}
-use Rattle.module_area.proofs.PlanLemmas.{any_at, any_shown, over_cases}
+use Rattle.module_area.proofs.Laws.{same_index, and_left, and_right, and_both, any_at, any_shown, over_cases}
 use Rattle.session_book.specs.Meaning.{no_task}
 use Rattle.interleave_core.specs.Meaning.{World, TaskPart, Parts, part_of, plan_in, place_at, first_part, PlaceChange, controller_of, Stepped, parts_step, cell_fetched, fact_marked, lifted, done_by, task_done, task_goes_on, breakpoint_of, changed_cell, changed, change_due, with_cell, with_due, with_stage, original_under, same_cell, same_due, in_hand, hand_at, step_of, subject_place, place_due, is_awaiting, is_spent, stage_after, executed, awaits_or, instruction_executed, set_of, fact_in}
 use Rattle.interleave_core.specs.Quiet.{has_unmarked, any_unmarked, is_quiet, SetsStay}

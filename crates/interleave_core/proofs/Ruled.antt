@@ -19,13 +19,8 @@ use Rattle.module_area.specs.Rule.{planted, lifted as lifted_cell, IsForm, Held,
 use Rattle.module_area.specs.declared.cells.Cell.{Cell}
 use Rattle.module_area.specs.declared.parties.Role.TheVariants.{Root, Task, Spent}
 use Rattle.module_area.specs.declared.parties.View.{View}
-use Rattle.module_area.proofs.BeginLemmas.{begins}
-use Rattle.module_area.proofs.ForkLemmas.{splits}
-use Rattle.module_area.proofs.Indices.{index_below, same_index}
-use Rattle.module_area.proofs.PlanLemmas.{over_small}
-use Rattle.module_area.proofs.PartyLemmas.{here-add_if}
-use Rattle.module_area.proofs.CellLemmas.{lifts}
-use Rattle.module_area.proofs.StepLemmas.{breakpoint_form, fetches, marks, spent_not_task}
+use Rattle.module_area.proofs.Laws.{begins, splits, index_below, same_index, over_small, here-add_if, lifts, breakpoint_form, fetches}
+use Rattle.module_area.proofs.Laws.{marks, spent_not_task}
 use Rattle.session_book.specs.Meaning.{no_task}
 use Rattle.interleave_core.specs.Meaning.{World, TaskPart, Parts, part_of, plan_in, place_at, first_parts, first_part, task_goes_on, Stepped, parts_step, cell_fetched, fact_marked, lifted, done_by, with_cell, with_due, with_stage, original_under, same_cell, same_due, in_hand, hand_at, subject_place, step_of, place_due, is_awaiting, is_spent, executed, stage_after, awaits_or, instruction_executed, task_done, set_of, fact_in}
 use Rattle.interleave_core.specs.World.{IsWorld}

@@ -12,7 +12,7 @@ use Rattle.module_area.specs.Rule.{IsPlan}
 use Rattle.module_area.specs.declared.cells.Cell.{Cell}
 use Rattle.session_book.specs.Meaning.{task_of, no_task}
 use Rattle.space_map.specs.Space.{row_of}
-use Rattle.space_map.proofs.SpaceLemmas.{private_filled-as}
+use Rattle.space_map.proofs.Laws.{private_filled-as}
 use Rattle.interleave_core.specs.Meaning.{World, TaskPart, Parts, first_part, first_parts, plan_in, results_of, in_hand}
 use Rattle.interleave_core.specs.World.{IsWorld}
 use Rattle.interleave_core.specs.Results.{Fits}

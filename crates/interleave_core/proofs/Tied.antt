@@ -8,9 +8,8 @@ use Rattle.cov_base.specs.declared.numbers.PlaceNo.{PlaceNo}
 use Rattle.module_area.specs.Meaning.{word_at, no_cell, ControlledView, window_at, fresh_word, tag_session, kind_at}
 use Rattle.module_area.specs.Rule.{IsPlan, is_controller}
 use Rattle.module_area.specs.declared.cells.Cell.{Cell}
-use Rattle.module_area.proofs.PlanLemmas.{one_controller}
+use Rattle.module_area.proofs.Laws.{one_controller, and_left}
 use Rattle.module_area.specs.declared.places.Place.{Place}
-use Rattle.module_area.proofs.Indices.{and_left}
 use Rattle.cov_base.specs.Meaning.{FactSet, with_fact, is_full, State}
 use Rattle.session_book.specs.Meaning.{task_of, no_task}
 use Rattle.interleave_core.specs.Meaning.{World, TaskPart, Parts, part_of, first_part, plan_in, first_parts, Change, PlaceChange, place_change, sessions_by, change_of, next_place, after_change, Stepped, parts_step, cell_fetched, fact_marked, lifted, done_by, task_done, may_plant, breakpoint_of, changed_cell, changed, change_due, with_cell, with_due, original_under, same_cell, in_hand, hand_at, step_of, place_due, is_awaiting, stage_after, set_of, fact_in}

@@ -10,7 +10,7 @@ use Rattle.cov_base.specs.declared.numbers.PlaceNo.{PlaceNo}
 use Rattle.module_area.specs.Meaning.{word_at, ControlledView, has_place, is_controlled, window_at}
 use Rattle.module_area.specs.Rule.{IsPlan, IsControlled, AreApart, is_controller}
 use Rattle.module_area.specs.declared.cells.Cell.{Cell}
-use Rattle.module_area.proofs.PlanLemmas.{any_shown}
+use Rattle.module_area.proofs.Laws.{any_shown}
 use Rattle.s370_exec.specs.Meaning.{call_of}
 use Rattle.interleave_core.proofs.ControlLemmas.{few_places}
 use Rattle.interleave_core.specs.Meaning.{World, TaskPart, plan_in, memory_in, controller_of, Change, change, PlaceChange, place_change, sessions_by, change_for, change_of, next_place, will_execute, change_due}

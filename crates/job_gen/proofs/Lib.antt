@@ -1,4 +1,5 @@
-pub mod CodeLemmas
-pub mod JobLemmas
-pub mod LineLemmas
-pub mod MatchLemmas
+mod CodeLemmas
+mod JobLemmas
+mod LineLemmas
+mod MatchLemmas
+pub mod Laws

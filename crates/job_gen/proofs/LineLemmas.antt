@@ -15,7 +15,7 @@ use Rattle.listing_lines.specs.declared.columns.Columns.{Columns}
 use Rattle.listing_lines.specs.declared.columns.Width.TheVariants.{Narrow}
 use Rattle.listing_lines.specs.Meaning.{columns_of, column}
 use Rattle.listing_reader.specs.Meaning.{all_below, fits_groups, are_blank, is_blank, is_blank_at, number_in, column_location, byte_in, code_in, are_groups, object_of, skip_blanks, word_run, has_mnemonic, is_instruction, line_of}
-use Rattle.listing_reader.proofs.Digits.{all_below_false, number_in_more, byte_in_two}
+use Rattle.listing_reader.proofs.Laws.{all_below_false, number_in_more, byte_in_two}
 use Rattle.listing_reader.specs.declared.lines.Line.TheVariants as says
 use Rattle.s370_decode.specs.Meaning.{mnemonics, is_mnemonic}
 use Rattle.s370_decode.specs.declared.code.Code.{Code}

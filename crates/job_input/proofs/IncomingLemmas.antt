@@ -2,7 +2,7 @@
 use Rattle.std.proofs.Common.{◌≡◌, ℕ, ◌+◌, ◌-◌, ◌<◌, ◌≤◌, Bool, true, false, Option, Some, Result, Ok, Err, IfErr, OnOk, List, [], ◌∷◌, ◌++◌, length, take, drop, refl, ap, subst, sym, ◌∙◌, arith, append_assoc, append-nil, length-append}
 use Rattle.std.proofs.Math.Seq.{drop-append_seam}
 use Rattle.std.specs.Io.KnownBytes.{Consumes}
-use Rattle.cov_outside.proofs.Pieces.{consumes-trans}
+use Rattle.cov_outside.proofs.Laws.{consumes-trans}
 use Rattle.session_book.specs.Meaning.{JobView}
 use Rattle.job_text.specs.Meaning.{lines_of, IsBadAt, IsRefusal}
 use Rattle.job_text.specs.Pieces.{IsEnded}
@@ -13,9 +13,7 @@ use Rattle.job_text.specs.declared.jobs.JobFault.{JobFault}
 use Rattle.job_text.specs.declared.jobs.ReadJob.{ReadJob}
 use Rattle.job_text.specs.declared.reader.Stage.{Stage}
 use Rattle.job_text.specs.declared.reader.Stage.TheVariants as stage
-use Rattle.job_text.proofs.EndedLines.{used_all}
-use Rattle.job_text.proofs.Joined.{read_longer, only_longer, fault_longer}
-use Rattle.job_text.proofs.Verdicts.{bad_behind}
+use Rattle.job_text.proofs.Laws.{used_all, read_longer, only_longer, fault_longer, bad_behind}
 use Rattle.job_input.specs.Incoming.{SpellJob, HasCome}
 use Rattle.job_input.specs.declared.form.Form.{Form}
 use Rattle.job_input.specs.declared.incoming.Incoming.{Incoming}

@@ -8,8 +8,7 @@ use Rattle.job_text.specs.Refusals.{IsRead, AnswersOnly}
 use Rattle.job_text.specs.declared.jobs.JobFault.{JobFault}
 use Rattle.job_text.specs.declared.jobs.JobFault.TheVariants as fault
 use Rattle.job_text.specs.declared.jobs.ReadJob.{ReadJob}
-use Rattle.job_text.proofs.Excluded.{IsFew, listings_few, never_bad}
-use Rattle.job_text.proofs.Spans.{lines_count}
+use Rattle.job_text.proofs.Laws.{IsFew, listings_few, never_bad, lines_count}
 use Rattle.report_text.specs.Conditions.{HasFewLines}
 use Rattle.job_input.specs.Meaning.{SourceChange, CameWhole, HasJob}
 use Rattle.job_input.specs.Inputs.{CameJobless, IsInput}

@@ -1,3 +1,4 @@
-pub mod IncomingLemmas
-pub mod InputLemmas
-pub mod OneInput
+mod IncomingLemmas
+mod InputLemmas
+mod OneInput
+pub mod Laws

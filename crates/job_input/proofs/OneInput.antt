@@ -7,7 +7,7 @@ use Rattle.cov_outside.specs.declared.whole.ReadFault.{ReadFault}
 use Rattle.cov_outside.specs.declared.whole.ReadFault.TheVariants as read
 use Rattle.session_book.specs.Meaning.{JobView}
 use Rattle.job_text.specs.Meaning.{LineView, lines_of, put_on, Present}
-use Rattle.job_text.proofs.Spelled.{one_first}
+use Rattle.job_text.proofs.Laws.{one_first}
 use Rattle.job_input.specs.Meaning.{SourceChange, HasJob, CameWhole, IsJobFault, IsReadFault, input_limit}
 use Rattle.job_input.specs.Inputs.{CameJob, CameJobless, CameWith}
 use Rattle.job_input.specs.declared.form.Form.{Form}

@@ -11,9 +11,9 @@ use Rattle.module_area.specs.Ended.{HasSets, HasTally}
 use Rattle.module_area.specs.Meaning.{FinalsView, PlanView, window_at}
 use Rattle.module_area.specs.Notes.{Notes}
 use Rattle.module_area.specs.Rule.{IsPlan, is_controller}
-use Rattle.module_area.proofs.PlanLemmas.{no_controller}
+use Rattle.module_area.proofs.Laws.{no_controller}
 use Rattle.module_area.specs.declared.tallies.Tally.{Tally}
-use Rattle.task_run.proofs.SetLemmas.{IsReady, exact_set, exact_lifts}
+use Rattle.task_run.proofs.Laws.{IsReady, exact_set, exact_lifts}
 use Rattle.task_run.specs.Meaning.{Walk, opened_places}
 use Rattle.job_run.specs.Meaning.{EndsArea}
 use Rattle.job_run.specs.Areas.{GrowsBy}

@@ -1,14 +1,15 @@
-pub mod AreaLemmas
-pub mod BackLemmas
-pub mod BeforeLemmas
-pub mod BoundLemmas
-pub mod CrewLemmas
-pub mod EachLemmas
-pub mod EquipLemmas
-pub mod ExactLemmas
-pub mod JoinLemmas
-pub mod PhaseLemmas
-pub mod RangeLemmas
-pub mod SessionLemmas
-pub mod SlotLemmas
-pub mod TaskLemmas
+mod AreaLemmas
+mod BackLemmas
+mod BeforeLemmas
+mod BoundLemmas
+mod CrewLemmas
+mod EachLemmas
+mod EquipLemmas
+mod ExactLemmas
+mod JoinLemmas
+mod PhaseLemmas
+mod RangeLemmas
+mod SessionLemmas
+mod SlotLemmas
+mod TaskLemmas
+pub mod Laws

@@ -13,7 +13,7 @@ use Rattle.cov_base.specs.declared.facts.Kind.TheVariants.{Straight, Conditional
 use Rattle.cov_base.specs.declared.numbers.PlaceNo.{PlaceNo}
 use Rattle.module_area.specs.Meaning.{facts_at, FinalsView, set_at, PlanView, ControlledView, place_of, no_place, window_at}
 use Rattle.module_area.specs.declared.places.Place.{Place}
-use Rattle.task_run.proofs.SetLemmas.{facts_of_all-one}
+use Rattle.task_run.proofs.Laws.{facts_of_all-one}
 use Rattle.task_run.specs.Meaning.{Course, IsBetween}
 use Rattle.session_book.specs.Meaning.{JobView, SessionView, session_of, no_session, is_whole, observes, window_from, window_of, plan_view, traces_from, places_from, with_controlled, controlled_from}
 use Rattle.session_book.specs.JobView.{IsJob, IsSession, AreParted, is_same_controller}

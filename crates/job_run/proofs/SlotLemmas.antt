@@ -12,15 +12,15 @@ use Rattle.module_area.specs.Notes.{Notes, bearer, calls, split_notes, after_spl
 use Rattle.module_area.specs.Rule.{IsPlan, has_task}
 use Rattle.module_area.specs.Tied.{IsTied}
 use Rattle.module_area.specs.declared.places.Place.{Place}
-use Rattle.module_area.proofs.TiedLemmas.{first_tied}
+use Rattle.module_area.proofs.Laws.{first_tied}
 use Rattle.brk_table.specs.Kept.{AreCodes, AreKept}
 use Rattle.brk_table.specs.Meaning.{TablesView}
 use Rattle.brk_table.specs.Places.{AreSeen}
-use Rattle.space_map.proofs.Kept.{are_kept}
+use Rattle.space_map.proofs.Laws.{are_kept}
 use Rattle.observed_step.specs.Steps.{memory_at}
 use Rattle.svc_monitor.specs.First.{IsOver}
 use Rattle.svc_monitor.specs.Observed.{Observes}
-use Rattle.svc_monitor.proofs.ObservedLemmas.{Observes-none}
+use Rattle.svc_monitor.proofs.Laws.{Observes-none}
 use Rattle.task_run.specs.Called.{Follows, HasWindows, HasPlanted}
 use Rattle.task_run.specs.Meaning.{Course, Walk}
 use Rattle.task_run.specs.Ran.{walk_from}

@@ -1,2 +1,3 @@
-pub mod OneTables
-pub mod TableLemmas
+mod OneTables
+mod TableLemmas
+pub mod Laws

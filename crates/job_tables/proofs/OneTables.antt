@@ -9,7 +9,7 @@ use Rattle.listing_reader.specs.declared.lines.Line.TheVariants as says
 use Rattle.module_area.specs.Meaning.{no_place, place_of}
 use Rattle.module_area.specs.declared.places.Place.{Place}
 use Rattle.brk_table.specs.Meaning.{IsEntry, IsTable, TableView, TablesView, all_places}
-use Rattle.brk_table.proofs.OneTable.{one_table}
+use Rattle.brk_table.proofs.Laws.{one_table}
 use Rattle.session_book.specs.Meaning.{JobView}
 use Rattle.job_tables.specs.Meaning.{IsTableOf, AreTablesFrom, Match}
 

@@ -15,7 +15,7 @@ use Rattle.brk_table.specs.Build.{HasOwnPlaces}
 use Rattle.module_area.specs.Images.{AreImages}
 use Rattle.brk_table.specs.Kept.{AreCodes}
 use Rattle.brk_table.specs.Together.{IsTableOf, AreTables}
-use Rattle.brk_table.proofs.Together.{all_met}
+use Rattle.brk_table.proofs.Laws.{all_met}
 use Rattle.report_text.specs.Conditions.{HasFewLines}
 use Rattle.brk_table.specs.declared.faults.BuildFault.{BuildFault}
 use Rattle.brk_table.specs.declared.faults.BuildFault.TheVariants as fault

@@ -5,7 +5,7 @@ use Rattle.std.proofs.lemmas.List.{length-append}
 use Rattle.std.specs.Str.{bytes_eq}
 use Rattle.std.proofs.lemmas.Option.{same_Some, cond_some}
 use Rattle.cov_base.specs.Meaning.{is_name, name_at, padded, unpadded}
-use Rattle.cov_base.proofs.NameLemmas.{unpadded-padded}
+use Rattle.cov_base.proofs.Laws.{unpadded-padded}
 use Rattle.hex.specs.Hex.{decode_sized}
 use Rattle.hex.specs.declared.error.FromHexError.{FromHexError}
 use Rattle.hex.proofs.HexLemmas.{decode_sized-ok, decode_sized-twice, decode_of-ok}

@@ -6,7 +6,7 @@ use Rattle.std.proofs.lemmas.List.{map_push}
 use Rattle.std.proofs.lemmas.Bool.{and_parts, not-true}
 use Rattle.cov_base.specs.Meaning.{ImageView}
 use Rattle.names.specs.Lists.{Differ, index_of, has, added}
-use Rattle.names.proofs.ListLemmas.{index_of-map, has-map, none_named, one_named}
+use Rattle.names.proofs.Laws.{index_of-map, has-map, none_named, one_named}
 use Rattle.session_book.specs.Meaning.{TaskView, no_task}
 use Rattle.session_book.specs.Names as naming
 use Rattle.session_book.specs.Names.{names_of, session_names, task_names}

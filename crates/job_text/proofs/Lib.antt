@@ -1,23 +1,24 @@
-pub mod Begun
-pub mod CardFacts
-pub mod DraftNames
-pub mod EndedLines
-pub mod Excluded
-pub mod Growth
-pub mod Guards
-pub mod Indices
-pub mod ItemLemmas
-pub mod Joined
-pub mod LineLemmas
-pub mod Named
-pub mod Numbers
-pub mod Opened
-pub mod Readings
-pub mod Rests
-pub mod Shortest
-pub mod Spans
-pub mod Spelled
-pub mod TaskCards
-pub mod Verdicts
-pub mod WholeJob
-pub mod WordLemmas
+mod Begun
+mod CardFacts
+mod DraftNames
+mod EndedLines
+mod Excluded
+mod Growth
+mod Guards
+mod Indices
+mod ItemLemmas
+mod Joined
+mod LineLemmas
+mod Named
+mod Numbers
+mod Opened
+mod Readings
+mod Rests
+mod Shortest
+mod Spans
+mod Spelled
+mod TaskCards
+mod Verdicts
+mod WholeJob
+mod WordLemmas
+pub mod Laws

@@ -1,3 +1,4 @@
-pub mod Digits
+mod Digits
+mod FaultLemmas
+mod PackedLemmas
 pub mod Laws
-pub mod PackedLemmas

@@ -1,9 +1,10 @@
-pub mod Parts
-pub mod MarksLemmas
-pub mod FieldLemmas
-pub mod SpellLemmas
-pub mod LoopLemmas
-pub mod ModuleLemmas
-pub mod ModuleLoop
-pub mod HeadingLemmas
-pub mod FileLemmas
+mod Parts
+mod MarksLemmas
+mod FieldLemmas
+mod SpellLemmas
+mod LoopLemmas
+mod ModuleLemmas
+mod ModuleLoop
+mod HeadingLemmas
+mod FileLemmas
+pub mod Laws

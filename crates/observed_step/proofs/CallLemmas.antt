@@ -8,8 +8,7 @@ use Rattle.s370_state.specs.declared.endings.Ending.{Ending}
 use Rattle.s370_decode.specs.Meaning.{part, first_half, ex, r1}
 use Rattle.s370_decode.specs.declared.code.Code.{Code}
 use Rattle.s370_exec.specs.Meaning.{call_in, call_of, subject_call, first_tests, rest_tests, subject_tests, code_at, is_execute, modifier, merged}
-use Rattle.s370_exec.proofs.CallLemmas.{call_of-unread, call_of-read, subject_call-read}
-use Rattle.s370_exec.proofs.Subjects.{first_half-code_at}
+use Rattle.s370_exec.proofs.Laws.{call_of-unread, call_of-read, subject_call-read, first_half-code_at}
 use Rattle.observed_step.specs.Called.{call_at}
 
 -- an instruction whose second byte is one

@@ -8,8 +8,7 @@ use Rattle.s370_decode.specs.declared.code.Code.{Code}
 use Rattle.s370_branch.specs.Meaning.{goes}
 use Rattle.s370_exec.specs.Effects.{executed}
 use Rattle.s370_exec.specs.Meaning.{Effect, call_of, subject_call, is_execute, solo_step, subject_step, stepped, behind}
-use Rattle.s370_exec.proofs.StepLemmas.{solo_step-begun, solo_step-execute}
-use Rattle.s370_exec.proofs.Subjects.{first_half-code_at}
+use Rattle.s370_exec.proofs.Laws.{solo_step-begun, solo_step-execute, first_half-code_at}
 use Rattle.observed_step.specs.Called.{call_at}
 use Rattle.observed_step.specs.Sights.{begun_visit}
 use Rattle.observed_step.specs.Steps.{IsFetched, memory_at, stands, code_there, own_visit}

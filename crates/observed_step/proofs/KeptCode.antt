@@ -9,7 +9,7 @@ use Rattle.brk_table.specs.Meaning.{TablesView}
 use Rattle.brk_table.specs.Unpacked.{AreAtPlaces}
 use Rattle.brk_table.specs.Places.{IsPlace, ArePlaces, IsSeen, AreSeen}
 use Rattle.s370_exec.specs.Meaning.{first_tests, rest_tests, code_at}
-use Rattle.s370_exec.proofs.Fetching.{rest_none, code_at-halves}
+use Rattle.s370_exec.proofs.Laws.{rest_none, code_at-halves}
 use Rattle.observed_step.specs.declared.bench.Bench.{Bench}
 use Rattle.observed_step.specs.Sights.{BeginsAt}
 use Rattle.observed_step.proofs.PlaceLemmas.{begins_at}

@@ -1,12 +1,13 @@
-pub mod CallLemmas
-pub mod CourseLemmas
-pub mod FetchedLemmas
-pub mod GoesLemmas
-pub mod HookLemmas
-pub mod InstanceLemmas
-pub mod KeptCode
-pub mod PlaceLemmas
-pub mod PlainLemmas
-pub mod RunLemmas
-pub mod SoloLemmas
-pub mod SvcLemmas
+mod CallLemmas
+mod CourseLemmas
+mod FetchedLemmas
+mod GoesLemmas
+mod HookLemmas
+mod InstanceLemmas
+mod KeptCode
+mod PlaceLemmas
+mod PlainLemmas
+mod RunLemmas
+mod SoloLemmas
+mod SvcLemmas
+pub mod Laws

@@ -5,7 +5,7 @@ use Rattle.cov_base.specs.declared.numbers.PlaceNo.{PlaceNo}
 use Rattle.module_area.specs.declared.places.Place.{Place}
 use Rattle.module_area.specs.Meaning.{is_place, place_of}
 use Rattle.brk_table.specs.Places.{ArePlaces}
-use Rattle.brk_table.proofs.PlaceLemmas.{one_begins}
+use Rattle.brk_table.proofs.Laws.{one_begins}
 use Rattle.observed_step.specs.Sights.{BeginsAt, IsPlaced}
 
 pub begins_at : (places : List Place) (a p : ℕ) → ArePlaces places → p < length places → (place_of places p).at ≡ a → BeginsAt places a p

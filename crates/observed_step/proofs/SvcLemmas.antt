@@ -11,7 +11,7 @@ use Rattle.s370_decode.specs.Meaning.{ex, first_half, i2, op_of}
 use Rattle.s370_decode.specs.declared.code.Code.{Code}
 use Rattle.s370_decode.specs.declared.op.Op.{Op}
 use Rattle.s370_exec.specs.Meaning.{Effect, at_address, call, call_address, effect, ended_by, get_call, get_size, get_tested, is_completed, link_code, onward, onward_by, operand, put_call, put_tested, unchanged, updated, code_at, first_tests, is_execute, merged, rest_tests, subject_tests, Step, begun_step, behind, fetched, from_first, solo_step, stepped, subject_fetched, subject_step, visit}
-use Rattle.s370_exec.proofs.Groups.{of_effect}
+use Rattle.s370_exec.proofs.Laws.{of_effect}
 use Rattle.brk_table.specs.Meaning.{TablesView}
 use Rattle.observed_step.specs.Hooks.{IsBehind, Way}
 use Rattle.observed_step.specs.Steps.{memory_at, stands}

@@ -7,7 +7,7 @@ use Rattle.cov_base.specs.declared.numbers.PlaceNo.{PlaceNo}
 use Rattle.module_area.specs.Meaning.{has_place}
 use Rattle.module_area.specs.Notes.{Notes, after_plant, after_close}
 use Rattle.module_area.specs.Control.{after_plants, after_closes}
-use Rattle.module_area.proofs.Indices.{same_tests}
+use Rattle.module_area.proofs.Laws.{same_tests}
 
 turned : (a b : ℕ) → nat_eq a b ≡ nat_eq b a
 turned a b = same_tests (nat_eq a b) (nat_eq b a) (λ h. eq-eqb b a (sym (eqb-true a b h))) (λ h. eq-eqb a b (sym (eqb-true b a h)))

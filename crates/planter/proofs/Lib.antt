@@ -1,3 +1,4 @@
-pub mod ControlLemmas
-pub mod PlantLemmas
-pub mod TieLemmas
+mod ControlLemmas
+mod PlantLemmas
+mod TieLemmas
+pub mod Laws

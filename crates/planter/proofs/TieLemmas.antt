@@ -13,9 +13,7 @@ use Rattle.std.proofs.lemmas.Option.{slice_get_within, get_or_from_slice_get, sa
 use Rattle.module_area.specs.Control.{after_plants, after_closes}
 use Rattle.module_area.specs.Tied.{keeps_session_as, keeps_session, IsTied}
 use Rattle.planter.specs.Allowed.{MayPlant, MayClose}
-use Rattle.module_area.proofs.Indices.{and_left, and_right, and_both}
-use Rattle.module_area.proofs.PlanLemmas.{any_at, any_shown}
-use Rattle.module_area.proofs.StepLemmas.{or_right}
+use Rattle.module_area.proofs.Laws.{and_left, and_right, and_both, any_at, any_shown, or_right}
 
 abbrev no_session : ControlledView
 no_session = record { session = 0; by = 0; places = [] }

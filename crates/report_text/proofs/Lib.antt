@@ -1,6 +1,7 @@
-pub mod WriteLemmas
-pub mod RowLemmas
-pub mod FirstRowLemmas
-pub mod JobLemmas
-pub mod PlaceFacts
-pub mod RunLemmas
+mod WriteLemmas
+mod RowLemmas
+mod FirstRowLemmas
+mod JobLemmas
+mod PlaceFacts
+mod RunLemmas
+pub mod Laws

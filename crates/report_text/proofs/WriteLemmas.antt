@@ -1,7 +1,7 @@
 -- Lines one after another.
 use Rattle.std.proofs.Common.{◌≡◌, ℕ, Option, Result, Ok, Err, IsErr, List, [], ◌∷◌, ◌++◌, refl, sym, ap, ◌∙◌, subst, append_assoc, append-nil}
 use Rattle.cov_outside.specs.Writes.{Writes}
-use Rattle.cov_outside.proofs.WriteLemmas as bytes
+use Rattle.cov_outside.proofs.Laws as bytes
 use Rattle.report_text.specs.Meaning.{text_of}
 use Rattle.report_text.specs.Writes.{WritesLines}
 

@@ -5,11 +5,11 @@ use Rattle.std.proofs.lemmas.List.{take-append-le}
 use Rattle.std.specs.Str.{bytes_eq}
 use Rattle.cov_base.specs.Meaning.{FactSet}
 use Rattle.job_input.specs.Meaning.{SourceChange, CameWhole, HasJob, to_end, to_go_on}
-use Rattle.job_input.proofs.OneInput.{came_is}
+use Rattle.job_input.proofs.Laws.{came_is}
 use Rattle.job_text.specs.Lines.{IsClosed}
 use Rattle.job_text.specs.Meaning.{LineView, lines_of, Spells, Present}
 use Rattle.job_text.specs.declared.grammar.Grammar.{Grammar}
-use Rattle.job_text.proofs.EndedLines.{closed_more}
+use Rattle.job_text.proofs.Laws.{closed_more}
 use Rattle.command_words.specs.declared.words.Command.{Command}
 use Rattle.command_words.specs.declared.words.Command.TheVariants.{Trial, Combine}
 use Rattle.brk_table.specs.Meaning.{TablesView}
@@ -17,7 +17,7 @@ use Rattle.session_book.specs.Meaning.{JobView, SessionView, ResultView}
 use Rattle.report_text.specs.Meaning.{text_of, lines_from, task_parts, session_part, report_of}
 use Rattle.refusals.specs.Meaning.{refusal, read_refusal}
 use Rattle.coverage_commands.specs.Meaning.{AreasChange, ReadyView, IsReady, IsCause, Usage, Unread, Came, Finished, NoMemoryToRun, NoMemoryToMake, Read, Made, Refused, OfFiles, OfJob, IsAnswerOf, IsRunText, way_of, number_from, session_number}
-use Rattle.coverage_commands.proofs.ReadyLemmas.{not_both, read_told, refused_told, status_is}
+use Rattle.coverage_commands.proofs.Laws.{not_both, read_told, refused_told, status_is}
 use Rattle.round_trip.specs.Laws.{HasText, IsPart}
 
 -- ---- where a text of status 0 is from

@@ -10,11 +10,10 @@ use Rattle.module_area.specs.Meaning.{place_of}
 use Rattle.session_book.specs.Meaning.{SessionView, ResultView, session_of, is_whole, observes}
 use Rattle.session_marks.specs.Meaning.{session_marks}
 use Rattle.session_marks.specs.FromFile.{AreSameAt}
-use Rattle.session_marks.proofs.FillLemmas.{range_most}
-use Rattle.session_marks.proofs.SessionLemmas.{sets_one}
+use Rattle.session_marks.proofs.Laws.{range_most, sets_one}
 use Rattle.marks_file.specs.Meaning.{MarkedView, MarksView, keeps_rules, file_bytes}
 use Rattle.marks_file.specs.declared.version.Version.TheVariants.{Second}
-use Rattle.marks_file.proofs.FileLemmas.{one_modules}
+use Rattle.marks_file.proofs.Laws.{one_modules}
 use Rattle.job_run.specs.Meaning.{set_by}
 use Rattle.job_tables.specs.Meaning.{Match}
 use Rattle.job_input.specs.Meaning.{CameWhole, input_limit}
@@ -27,7 +26,7 @@ use Rattle.task_services.specs.Meaning.{course_of}
 use Rattle.command_words.specs.declared.words.Command.TheVariants.{Run, Marks, Show, Prove, Verify}
 use Rattle.coverage_commands.specs.declared.asked.Wanted.{Wanted}
 use Rattle.coverage_commands.specs.Meaning.{AreasChange, ReadyView, IsReady, Finished, Read, OfJob, HasStatus, ToAnswer, BeginsWith, HoldsTrue, IsShown, Shown, Fileless, OtherShown, IsMarksText, Reports, named_file, session_number, show_text}
-use Rattle.coverage_commands.proofs.ReadyLemmas.{any_job, is_free, one_ready, one_rest, one_number, one_marks, IsSame}
+use Rattle.coverage_commands.proofs.Laws.{any_job, is_free, one_ready, one_rest, one_number, one_marks, IsSame}
 use Rattle.round_trip.specs.Laws.{HasText, HasWhole, IsMarked, IsPart, HasReport}
 use Rattle.round_trip.proofs.TableLemmas.{place_module}
 use Rattle.round_trip.proofs.SetLemmas.{same_marks, same_part}

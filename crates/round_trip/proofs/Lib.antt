@@ -1,5 +1,5 @@
-pub mod TableLemmas
-pub mod SetLemmas
-pub mod PlainLemmas
-pub mod CallLemmas
-pub mod LawLemmas
+mod TableLemmas
+mod SetLemmas
+mod PlainLemmas
+mod CallLemmas
+mod LawLemmas

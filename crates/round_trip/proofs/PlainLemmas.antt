@@ -5,8 +5,7 @@ use Rattle.std.specs.Str.{bytes_eq}
 use Rattle.session_book.specs.Meaning.{JobView}
 use Rattle.job_text.specs.Meaning.{DraftView, LineView, Lead, IsModule, IsServiceCard, IsSessionCard, IsTaskBlock, IsPhase, Present, Spells}
 use Rattle.job_text.specs.declared.grammar.Grammar.TheVariants.{Plain}
-use Rattle.job_text.proofs.Named.{session_added}
-use Rattle.job_text.proofs.Guards.{guard_none}
+use Rattle.job_text.proofs.Laws.{session_added, guard_none}
 use Rattle.task_run.specs.Meaning.{solo}
 use Rattle.task_services.specs.Meaning.{course_of}
 

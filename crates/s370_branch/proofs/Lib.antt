@@ -1,1 +1,1 @@
-pub mod Selected
+mod Selected

@@ -1,2 +1,2 @@
-pub mod Powers
-pub mod Shifting
+mod Powers
+mod Shifting

@@ -4,7 +4,7 @@ use Rattle.std.proofs.Math.Nat.{pow-le-pow_right, one-le-pow, mod-eq_of_lt}
 use Rattle.std.proofs.lemmas.Nat.{pow-add, mul-lt}
 use Rattle.std.proofs.lemmas.Bool.{and_from, and_parts}
 use Rattle.cov_base.specs.Meaning.{Memory, can_store, is_private, wrap}
-use Rattle.s370_state.proofs.Tested.{store_at}
+use Rattle.s370_state.proofs.Laws.{store_at}
 
 pub power_above : (k : ℕ) → 0 < 10 ^ k
 power_above k = one-le-pow k 10 (lit< tt)

@@ -1,5 +1,5 @@
 //! Sums, differences and comparisons.
-#![tactic(auto, using(s370_state::proofs::Performs::passes, s370_state::proofs::Performs::refuses, s370_state::proofs::Performs::good_data, s370_state::proofs::Performs::bad_data))]
+#![tactic(auto, using(s370_state::proofs::Laws::passes, s370_state::proofs::Laws::refuses, s370_state::proofs::Laws::good_data, s370_state::proofs::Laws::bad_data))]
 
 ghost use Rattle.std.specs.Prelude.{◌≡◌, ◌<◌, ◌≤◌, ◌+ℤ◌, ◌-ℤ◌};
 ghost use Rattle.std.specs.Ordering.{int_cmp};

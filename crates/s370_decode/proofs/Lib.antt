@@ -1,2 +1,3 @@
-pub mod OpTable
-pub mod Words
+mod OpTable
+mod Words
+pub mod Laws

@@ -1,3 +1,3 @@
-pub mod Sources
-pub mod Workings
-pub mod Refusals
+mod Sources
+mod Workings
+mod Refusals

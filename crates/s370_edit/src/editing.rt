@@ -47,7 +47,7 @@ fn form<P: Space>(
 }
 
 /// Stores the n bytes of the text from a on.
-#[tactic(auto, using(s370_state::proofs::Stores::none_stored, s370_state::proofs::Stores::one_stored, s370_state::proofs::Stores::all_stored))]
+#[tactic(auto, using(s370_state::proofs::Laws::none_stored, s370_state::proofs::Laws::one_stored, s370_state::proofs::Laws::all_stored))]
 fn store<P: Space>(space: &mut P, a: Addr, n: u32, text: &[u8])
     requires len { length text.now ≡ n }
     requires store { can_store (P.memory space.old) a n ≡ true }
@@ -115,7 +115,7 @@ fn complete<P: Space>(
 }
 
 /// Edits by the pattern, with or without a mark.
-#[tactic(auto, using(s370_state::proofs::Performs::passes, s370_state::proofs::Performs::refuses))]
+#[tactic(auto, using(s370_state::proofs::Laws::passes, s370_state::proofs::Laws::refuses))]
 fn edit_pattern<P: Space>(cpu: &mut Cpu, space: &mut P, code: &Code, marks: bool) -> Next
     ensures { Performs P.memory P.bytes (pattern_row marks code.now) cpu.old space.old cpu.new space.new result }
 {

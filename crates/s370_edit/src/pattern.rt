@@ -22,7 +22,7 @@ fn fill_byte<P: Space>(space: &P, a: Addr, n: u32) -> u8
 
 /// Works the n pattern bytes from a on, over the source from b on, and adds each result byte to the text; none where
 /// a source byte that is needed is inaccessible.
-#[tactic(auto, using(crate::proofs::Workings::worked_none, crate::proofs::Workings::worked_more, crate::proofs::Workings::formed_none, crate::proofs::Workings::formed_more, crate::proofs::Workings::stays_lost, s370_state::proofs::Ranges::reach_none))]
+#[tactic(auto, using(crate::proofs::Workings::worked_none, crate::proofs::Workings::worked_more, crate::proofs::Workings::formed_none, crate::proofs::Workings::formed_more, crate::proofs::Workings::stays_lost, s370_state::proofs::Laws::reach_none))]
 pub fn work<P: Space>(
     space: &P,
     a: Addr,

@@ -89,7 +89,7 @@ fn left_digit(w: &Working, v: u8) -> Digit
 }
 
 /// The next source digit; none where its byte is inaccessible.
-#[tactic(auto, unfolding(crate::specs::Meaning::next_digit), using(s370_state::proofs::Ranges::reach_more, s370_state::proofs::Ranges::reach_fails))]
+#[tactic(auto, unfolding(crate::specs::Meaning::next_digit), using(s370_state::proofs::Laws::reach_more, s370_state::proofs::Laws::reach_fails))]
 fn next_digit<P: Space>(space: &P, b: Addr, w: &Working) -> Option<Digit>
     requires taken { w.now.taken < 256 }
     requires right { IfSome w.now.right (λ d. d < 16) }

@@ -1,7 +1,8 @@
-pub mod Groups
-pub mod CallBytes
-pub mod CallLemmas
-pub mod Fetching
-pub mod StepLemmas
-pub mod Subjects
-pub mod TraceLemmas
+mod Groups
+mod CallBytes
+mod CallLemmas
+mod Fetching
+mod StepLemmas
+mod Subjects
+mod TraceLemmas
+pub mod Laws

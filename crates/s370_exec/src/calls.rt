@@ -39,7 +39,7 @@ fn put<P: Space>(cpu: &mut Cpu, space: &P, io: &mut TaskIo, next: Addr) -> Next
 }
 
 /// The next n bytes of input go to a tested operand.
-#[tactic(auto, using(s370_state::proofs::Stores::none_stored, s370_state::proofs::Stores::one_received))]
+#[tactic(auto, using(s370_state::proofs::Laws::none_stored, s370_state::proofs::Laws::one_received))]
 fn get_bytes<P: Space>(space: &mut P, io: &mut TaskIo, at: Addr, n: u32)
     requires store { can_store (P.memory space.old) at n ≡ true }
     requires left { n ≤ bytes_left io.old }

@@ -1,3 +1,3 @@
-pub mod Wide
-pub mod Powers
-pub mod Registers
+mod Wide
+mod Powers
+mod Registers

@@ -1,5 +1,5 @@
 //! Compare and swap.
-#![tactic(auto, using(s370_state::proofs::Performs::ill_formed, s370_state::proofs::Performs::well_passes, s370_state::proofs::Performs::well_refuses))]
+#![tactic(auto, using(s370_state::proofs::Laws::ill_formed, s370_state::proofs::Laws::well_passes, s370_state::proofs::Laws::well_refuses))]
 
 ghost use Rattle.std.specs.Prelude.{◌≡◌, ◌+◌, ◌*◌, ◌/◌, ◌%◌, ◌<◌, ◌≤◌, true, ◌==◌, if◌then◌else◌};
 ghost use Rattle.cov_base.specs.Meaning.{can_reach, can_store};

@@ -2,7 +2,7 @@
 use Rattle.std.proofs.Common.{◌≡◌, ℕ, zero, suc, ◌+◌, ◌-◌, ◌<◌, ◌≤◌, true, List, slice_set, refl, add-one, arith}
 use Rattle.cov_base.specs.Meaning.{Memory, byte_at, wrap, can_reach, is_accessible}
 use Rattle.s370_state.specs.Fields.{copied}
-use Rattle.s370_state.proofs.Tested.{reach_at}
+use Rattle.s370_state.proofs.Laws.{reach_at}
 use Rattle.s370_storage.specs.Meaning.{moved, with_part, inverted, left_of}
 use Rattle.s370_storage.specs.declared.moves.Part.{Part}
 use Rattle.s370_storage.specs.declared.moves.Part.TheVariants.{Byte}

@@ -5,7 +5,7 @@ use Rattle.std.proofs.lemmas.Bool.Decides.{nat_tests}
 use Rattle.std.proofs.lemmas.Bool.{and_from, and_left}
 use Rattle.cov_base.specs.Meaning.{Memory, byte_at, wrap, can_reach, first_touch, is_accessible}
 use Rattle.s370_state.specs.Meaning.{Use, reads, all_reached, all_stored, touched, touch_ending}
-use Rattle.s370_state.proofs.Tested.{reach_at}
+use Rattle.s370_state.proofs.Laws.{reach_at}
 use Rattle.s370_storage.proofs.Firsts.{first_none, first_more, first_here, first_past}
 use Rattle.s370_storage.specs.Meaning.{function_at, functions, translated, function, selected, looked_up}
 

@@ -1,5 +1,5 @@
 //! Moves and comparisons of long operands, whose addresses and lengths are in registers.
-#![tactic(auto, using(s370_state::proofs::Performs::ill_formed, s370_state::proofs::Performs::well_at_once, s370_state::proofs::Performs::well_passes, s370_state::proofs::Performs::well_refuses))]
+#![tactic(auto, using(s370_state::proofs::Laws::ill_formed, s370_state::proofs::Laws::well_at_once, s370_state::proofs::Laws::well_passes, s370_state::proofs::Laws::well_refuses))]
 
 ghost use Rattle.std.specs.Prelude.{◌≡◌, ◌+◌, ◌-◌, ◌*◌, ◌/◌, ◌%◌, ◌<◌, ◌≤◌, ◌^◌, Some, None, true, false, min, max, ◌&&◌, if◌then◌else◌};
 ghost use Rattle.cov_base.specs.Meaning.{can_reach, can_store};

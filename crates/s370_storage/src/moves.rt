@@ -1,5 +1,5 @@
 //! Moves of bytes and half bytes.
-#![tactic(auto, using(s370_state::proofs::Performs::passes, s370_state::proofs::Performs::refuses))]
+#![tactic(auto, using(s370_state::proofs::Laws::passes, s370_state::proofs::Laws::refuses))]
 
 ghost use Rattle.std.specs.Prelude.{◌≡◌, ◌+◌, ◌-◌, ◌*◌, ◌/◌, ◌%◌, ◌<◌, ◌≤◌, true};
 ghost use Rattle.cov_base.specs.Meaning.{byte_at, can_reach, can_store, wrap};
@@ -48,7 +48,7 @@ fn move_halves<P: Space>(part: Part, space: &mut P, a: Addr, b: Addr, n: u32)
 
 /// Moves that part of L+1 bytes.
 #[inline(always)]
-#[tactic(auto, using(s370_state::proofs::Performs::passes, s370_state::proofs::Performs::refuses, crate::proofs::Steps::moved_copied))]
+#[tactic(auto, using(s370_state::proofs::Laws::passes, s370_state::proofs::Laws::refuses, crate::proofs::Steps::moved_copied))]
 fn move_parts<P: Space>(part: Part, cpu: &Cpu, space: &mut P, code: &Code) -> Next
     ensures { Performs P.memory P.bytes (moves part code.now) cpu.now space.old cpu.now space.new result }
 {

@@ -1,5 +1,5 @@
 //! Translation and search by a table of function bytes.
-#![tactic(auto, using(s370_state::proofs::Performs::passes, s370_state::proofs::Performs::refuses))]
+#![tactic(auto, using(s370_state::proofs::Laws::passes, s370_state::proofs::Laws::refuses))]
 
 ghost use Rattle.std.specs.Prelude.{◌≡◌, ◌+◌, ◌*◌, ◌/◌, ◌<◌, ◌≤◌, ◌∷◌, Some, None, true, false, IfOk, IfErr, IfSome, if◌then◌else◌, ◌==◌};
 ghost use Rattle.cov_base.specs.Meaning.{can_reach, can_store, wrap, first_touch};

@@ -1,4 +1,4 @@
-pub mod PlayLemmas
-pub mod PlantLemmas
-pub mod RunLemmas
-pub mod TextLemmas
+mod PlayLemmas
+mod PlantLemmas
+mod RunLemmas
+mod TextLemmas

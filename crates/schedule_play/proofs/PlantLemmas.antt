@@ -14,8 +14,7 @@ use Rattle.interleave_core.specs.declared.events.Event.{Event}
 use Rattle.interleave_core.specs.declared.events.Event.TheVariants as event
 use Rattle.interleave_core.specs.declared.events.Shown.{Shown}
 use Rattle.interleave_core.specs.declared.events.Shown.TheVariants.{Planted}
-use Rattle.interleave_core.proofs.Runs.{run_on-append}
-use Rattle.interleave_core.proofs.Turns.{controller_in}
+use Rattle.interleave_core.proofs.Laws.{run_on-append, controller_in}
 use Rattle.schedule_play.specs.Meaning.{plant_at}
 
 -- no task controls a session that observes a place whole

@@ -12,9 +12,7 @@ use Rattle.interleave_core.specs.MeaningOfEvents.{Stands}
 use Rattle.interleave_core.specs.World.{IsWorld}
 use Rattle.interleave_core.specs.declared.events.Event.{Event}
 use Rattle.interleave_core.specs.declared.events.Shown.TheVariants as shown
-use Rattle.interleave_core.proofs.Follows.{run_stands}
-use Rattle.interleave_core.proofs.GoneLemmas.{gone_to}
-use Rattle.interleave_core.proofs.Runs.{run_on-append}
+use Rattle.interleave_core.proofs.Laws.{run_stands, gone_to, run_on-append}
 use Rattle.job_text.specs.Meaning.{LineView, item_at}
 use Rattle.job_text.specs.declared.schedule.Item.{Item}
 use Rattle.job_text.specs.declared.schedule.Item.TheVariants.{Fetch, Mark, Lift, Do, Go, Plant, Close, End}

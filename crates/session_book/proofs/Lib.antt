@@ -1,3 +1,3 @@
-pub mod ControlledLemmas
-pub mod PlanLemmas
-pub mod NameLemmas
+mod ControlledLemmas
+mod PlanLemmas
+mod NameLemmas

@@ -1,7 +1,7 @@
 -- What the names of a job find is what a search of its lists finds.
 use Rattle.std.proofs.Common.{◌≡◌, ℕ, List, option_map, ap, ◌∙◌}
 use Rattle.names.specs.Lists.{index_of}
-use Rattle.names.proofs.ListLemmas.{index_of-map}
+use Rattle.names.proofs.Laws.{index_of-map}
 use Rattle.session_book.specs.Meaning.{JobView, SessionView, TaskView, numbered, task_named}
 use Rattle.session_book.specs.Names.{names_of, session_at, session_named}
 use Rattle.session_book.specs.declared.job_names.JobNames.{JobNames}

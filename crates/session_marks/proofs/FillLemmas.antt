@@ -4,7 +4,7 @@ use Rattle.std.proofs.lemmas.List.{take-append-drop}
 use Rattle.cov_base.specs.Meaning.{FactSet, is_filled}
 use Rattle.brk_table.specs.Meaning.{TableView, TablesView, first_place, place_count, all_places}
 use Rattle.marks_file.specs.Meaning.{MarkedView, is_location, is_length, is_original, are_places, end_location, is_new_name, is_base, is_size, is_count, are_modules, is_module_count, are_marks}
-use Rattle.marks_file.proofs.MarksLemmas.{both-left, both-right}
+use Rattle.marks_file.proofs.Laws.{both-left, both-right, is_place, is_module}
 use Rattle.std.proofs.lemmas.List.Elements.{All-cons, All-nil}
 use Rattle.std.proofs.lemmas.Bool.{ltb-true}
 use Rattle.cov_base.specs.declared.facts.Kind.{Kind}
@@ -14,7 +14,6 @@ use Rattle.session_marks.specs.Fields.{HasGoodFields, AreHalfwords}
 use Rattle.session_marks.proofs.TableLemmas.{Differ}
 use Rattle.session_marks.proofs.ModuleLemmas.{AreTabled, own_places_kept, marks_kept}
 use Rattle.marks_file.specs.declared.marks.MarkedPlace.{MarkedPlace}
-use Rattle.marks_file.proofs.Parts.{is_place, is_module}
 use Rattle.module_area.specs.declared.places.Place.{Place}
 use Rattle.session_marks.specs.Filled.{with_sets, filled_module, filled, AreThere}
 use Rattle.session_marks.specs.Meaning.{marked_places, marked_place, marked_module}

@@ -1,9 +1,10 @@
-pub mod PlaceLemmas
-pub mod TableLemmas
-pub mod RuleLemmas
-pub mod ModuleLemmas
-pub mod SetsLemmas
-pub mod SessionLemmas
-pub mod OwnLemmas
-pub mod SampleLemmas
-pub mod FillLemmas
+mod PlaceLemmas
+mod TableLemmas
+mod RuleLemmas
+mod ModuleLemmas
+mod SetsLemmas
+mod SessionLemmas
+mod OwnLemmas
+mod SampleLemmas
+mod FillLemmas
+pub mod Laws

@@ -19,8 +19,7 @@ use Rattle.brk_table.specs.Places.{IsPlace, AreApart}
 use Rattle.brk_table.specs.Together.{AreTables}
 use Rattle.marks_file.specs.Meaning.{MarkedView, is_new_name, is_base, is_clear, is_size, is_count, place_total, are_modules, is_module_count, are_marks, are_places}
 use Rattle.marks_file.specs.declared.marks.MarkedPlace.{MarkedPlace}
-use Rattle.marks_file.proofs.Parts.{is_module}
-use Rattle.marks_file.proofs.MarksLemmas.{both}
+use Rattle.marks_file.proofs.Laws.{is_module, both}
 use Rattle.session_book.specs.Meaning.{JobView, module_of, no_module}
 use Rattle.session_book.specs.JobView.{IsJob}
 use Rattle.session_book.specs.Sets.{AreWithin}

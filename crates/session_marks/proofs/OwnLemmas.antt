@@ -8,13 +8,10 @@ use Rattle.cov_base.specs.Meaning.{FactSet}
 use Rattle.marks_file.specs.Meaning.{modules_bytes, MarkedView, are_marks, place_row, module_row, rows}
 use Rattle.marks_file.specs.Marks.{HasRow}
 use Rattle.marks_file.specs.declared.marks.MarkedPlace.{MarkedPlace}
-use Rattle.marks_file.proofs.MarksLemmas.{same_bytes, marks_have_rows}
+use Rattle.marks_file.proofs.Laws.{same_bytes, marks_have_rows, one_table}
 use Rattle.table_combine.specs.Meaning.{Difference, first_difference, unite}
 use Rattle.table_combine.specs.Combine.{SamePlaces, SameTables}
-use Rattle.table_combine.proofs.DifferenceLemmas.{row_count}
-use Rattle.table_combine.proofs.UnionLemmas.{union_is_marks, length-unite}
-use Rattle.marks_file.proofs.FileLemmas.{one_table}
-use Rattle.table_combine.proofs.LawLemmas.{files_turned}
+use Rattle.table_combine.proofs.Laws.{row_count, union_is_marks, length-unite, files_turned}
 use Rattle.brk_table.specs.Meaning.{TableView, TablesView, first_place, place_count}
 use Rattle.session_book.specs.Meaning.{JobView, session_of}
 use Rattle.session_marks.specs.Meaning.{marked_module, session_marks, session_rows}

@@ -8,7 +8,7 @@ use Rattle.marks_file.specs.declared.marks.MarkedPlace.{MarkedPlace}
 use Rattle.module_area.specs.declared.places.Place.{Place}
 use Rattle.table_combine.specs.Meaning.{unite_place, unite_places, unite_module, unite}
 use Rattle.brk_table.specs.Meaning.{TableView, TablesView, first_place, place_count}
-use Rattle.brk_table.proofs.RangeLemmas.{first-here, count-here, first-past, count-past}
+use Rattle.brk_table.proofs.Laws.{first-here, count-here, first-past, count-past}
 use Rattle.session_book.specs.Meaning.{JobView, module_of}
 use Rattle.session_marks.specs.Meaning.{marked_places, marked_place, marked_module}
 use Rattle.session_marks.specs.FromFile.{HasSetsAt, HaveSetsAt, IsOutside}

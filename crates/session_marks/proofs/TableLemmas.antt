@@ -7,7 +7,7 @@ use Rattle.cov_base.specs.Meaning.{ImageView}
 use Rattle.module_area.specs.Meaning.{place_of, no_place}
 use Rattle.brk_table.specs.Meaning.{TableView, all_places, first_place, place_count}
 use Rattle.brk_table.specs.Together.{IsTableOf}
-use Rattle.brk_table.proofs.RangeLemmas.{first-here, count-here, first-past, count-past}
+use Rattle.brk_table.proofs.Laws.{first-here, count-here, first-past, count-past}
 
 -- the table of module m
 pub record OwnTable (images : List ImageView) (tables : List TableView) (m : ℕ) : Type 0 where

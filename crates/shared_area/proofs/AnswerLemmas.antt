@@ -11,9 +11,8 @@ use Rattle.module_area.specs.Meaning.{PlanView, original_at, kind_at, window_at,
 use Rattle.module_area.specs.Rule.{IsPlan, Has, last_tag, window_tag, planted, IsForm, KeepsAs, Keeps, Held, has_number}
 use Rattle.module_area.specs.declared.tallies.Tally.{Tally}
 use Rattle.module_area.specs.Notes.{IsAnswer, IsFound, no_tally, keeps_as, keeps}
-use Rattle.module_area.proofs.FactLemmas.{is_full-true, within_kind}
-use Rattle.module_area.proofs.PlanLemmas.{no_controlled, over_window, over_small, tested_controller}
-use Rattle.module_area.proofs.StepLemmas.{breakpoint_form, or_cases}
+use Rattle.module_area.proofs.Laws.{is_full-true, within_kind, no_controlled, over_window, over_small, tested_controller, breakpoint_form}
+use Rattle.module_area.proofs.Laws.{or_cases}
 use Rattle.shared_area.specs.Told.{bears_as, seen_at, notes_in}
 use Rattle.shared_area.proofs.NoteLemmas.{pair_there, mark_there, number_there, not_there, seen_most}
 use Rattle.shared_area.proofs.WordLemmas.{same_cell}

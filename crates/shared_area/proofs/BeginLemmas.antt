@@ -17,8 +17,7 @@ use Rattle.cov_base.specs.Meaning.{FactSet, has_fact, no_facts}
 use Rattle.module_area.specs.declared.parties.Role.TheVariants.{Root}
 use Rattle.module_area.specs.Meaning.{PlanView, original_at, kind_at}
 use Rattle.module_area.specs.Rule.{IsPlan, has_task, blank, untouched}
-use Rattle.module_area.proofs.BeginLemmas.{begins, begins_drained}
-use Rattle.module_area.proofs.WordLemmas.{first_cell, zero_behind, starting_count}
+use Rattle.module_area.proofs.Laws.{begins, begins_drained, first_cell, zero_behind, starting_count}
 use Rattle.module_area.specs.Words.{cell_of, starting, AllFit}
 use Rattle.shared_area.specs.Words.{bit_of, has_bit, facts_of, set_word, base_of, word_count, front, task_word, cells_in, sets_in, numbers_in}
 use Rattle.shared_area.specs.Sets.{AreSets}

@@ -17,8 +17,7 @@ use Rattle.module_area.specs.Meaning.{PlanView, kind_at, window_at, FinalsView, 
 use Rattle.module_area.specs.Rule.{Has, last_tag, Held, has_number}
 use Rattle.module_area.specs.Drained.{Drained}
 use Rattle.module_area.specs.Ended.{AreSettled, HasSets, HasTally}
-use Rattle.module_area.proofs.Indices.{index_below, same_tests}
-use Rattle.module_area.proofs.CountLemmas.{count_same}
+use Rattle.module_area.proofs.Laws.{index_below, same_tests, count_same}
 use Rattle.shared_area.specs.declared.rule.NoSlot.{NoSlot}
 use Rattle.shared_area.specs.Words.{facts_of, set_word, base_of, front, cells_in, sets_in, numbers_in}
 use Rattle.shared_area.specs.Sets.{AreSets}

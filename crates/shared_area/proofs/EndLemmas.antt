@@ -12,10 +12,8 @@ use Rattle.module_area.specs.declared.parties.Role.{Role}
 use Rattle.module_area.specs.declared.parties.Role.TheVariants.{Root, Task, Spent}
 use Rattle.module_area.specs.Meaning.{PlanView, original_at, kind_at, window_at, is_over, count_below, count_pairs}
 use Rattle.module_area.specs.Rule.{IsPlan, Has, times, last_tag, blank, untouched, planted, lifted, IsForm, Once, KeepsAs, IsRole, Owes, Held, has_number}
-use Rattle.module_area.proofs.PlanLemmas.{no_controlled, over_window, over_cases, over_small, controller_of}
-use Rattle.module_area.proofs.Indices.{and_left, and_right}
-use Rattle.module_area.proofs.PartyLemmas.{total_only}
-use Rattle.module_area.proofs.StepLemmas.{first_only, full_some}
+use Rattle.module_area.proofs.Laws.{no_controlled, over_window, over_cases, over_small, controller_of, and_left, and_right, total_only}
+use Rattle.module_area.proofs.Laws.{first_only, full_some}
 use Rattle.shared_area.specs.Told.{has_pair}
 use Rattle.shared_area.proofs.NoteLemmas.{pair_there, pair_shown, number_there, not_there, last_has}
 use Rattle.shared_area.proofs.SumLemmas.{some_sum, all_sum, count_least, pairs_most, times_none}

@@ -20,8 +20,7 @@ use Rattle.module_area.specs.Meaning.{PlanView, original_at, kind_at, is_over, i
 use Rattle.module_area.specs.Rule.{has_task, Has, last_tag, window_tag, blank, is_breakpoint, fetching, marking, lifting, planting, Keeps, Held}
 use Rattle.module_area.specs.Parties.{closing, giving, newcomer, joining}
 use Rattle.module_area.specs.Drained.{Drained}
-use Rattle.module_area.proofs.ForkLemmas.{splits, joins}
-use Rattle.module_area.proofs.DrainLemmas.{mark_drained, cell_drained, fetch_drained, split_drained, join_drained}
+use Rattle.module_area.proofs.Laws.{splits, joins, mark_drained, cell_drained, fetch_drained, split_drained, join_drained}
 use Rattle.shared_area.specs.declared.rule.NoSlot.{NoSlot}
 use Rattle.module_area.specs.Words.{cell_of}
 use Rattle.shared_area.specs.Words.{word_of, closed_word_of, bit_of, facts_of, set_word, cells_in, sets_in, base_of, front, task_word, numbers_in}

@@ -1,15 +1,15 @@
-pub mod AnswerLemmas
-pub mod BeginLemmas
-pub mod CallLemmas
-pub mod CloseLemmas
-pub mod EndLemmas
-pub mod FrontLemmas
-pub mod NoteLemmas
-pub mod PastLemmas
-pub mod Picked
-pub mod RootLemmas
-pub mod StayLemmas
-pub mod SumLemmas
-pub mod TableLemmas
-pub mod TaskLemmas
-pub mod WordLemmas
+mod AnswerLemmas
+mod BeginLemmas
+mod CallLemmas
+mod CloseLemmas
+mod EndLemmas
+mod FrontLemmas
+mod NoteLemmas
+mod PastLemmas
+mod Picked
+mod RootLemmas
+mod StayLemmas
+mod SumLemmas
+mod TableLemmas
+mod TaskLemmas
+mod WordLemmas

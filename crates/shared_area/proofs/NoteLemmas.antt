@@ -12,10 +12,8 @@ use Rattle.module_area.specs.Meaning.{PlanView, original_at, kind_at, tag_sessio
 use Rattle.module_area.specs.Rule.{is_controller, Has, add_if, is_lifted, window_tag, last_tag, fetching, marking, planting, has_number}
 use Rattle.module_area.specs.Parties.{chosen, closing, giving, newcomer, joining, bounding, role_task}
 use Rattle.module_area.specs.Notes.{no_tally, is_free_under, after_fetch, after_mark, after_plant, after_close, after_split, split_notes, after_boundary, after_join, bearer, same_bit, same_set}
-use Rattle.module_area.proofs.Indices.{and_left, and_right, and_both, same_tests}
-use Rattle.module_area.proofs.FactLemmas.{same_fact-true}
-use Rattle.module_area.proofs.PartyLemmas.{kept_tag, dropped_tag, no_tag, first_tag}
-use Rattle.module_area.proofs.StepLemmas.{or_cases, or_left, or_right, same_fact-same}
+use Rattle.module_area.proofs.Laws.{and_left, and_right, and_both, same_tests, same_fact-true, kept_tag, dropped_tag, no_tag, first_tag}
+use Rattle.module_area.proofs.Laws.{or_cases, or_left, or_right, same_fact-same}
 use Rattle.shared_area.specs.Told.{has_mark, has_pair, has_settled, seen_at, told_note, bears_as, notes_in, is_given}
 
 same_bit-true : (a b : Bool) → same_bit a b ≡ true → a ≡ b

@@ -18,10 +18,7 @@ use Rattle.module_area.specs.Meaning.{PlanView, ControlledView, is_controlled}
 use Rattle.module_area.specs.Rule.{has_task, Has, window_tag, Held}
 use Rattle.module_area.specs.Drained.{Noted, IsOverAt, IsClosed, IsPast, Drained}
 use Rattle.module_area.specs.Notes.{NotedView, is_own, is_at, is_closed, is_past, is_drained, is_final, no_tally}
-use Rattle.module_area.proofs.Indices.{and_left, and_right, and_both}
-use Rattle.module_area.proofs.PlanLemmas.{any_at, no_session, number, controlled_at}
-use Rattle.module_area.proofs.StepLemmas.{or_cases}
-use Rattle.module_area.proofs.DrainLemmas.{all_past}
+use Rattle.module_area.proofs.Laws.{and_left, and_right, and_both, any_at, no_session, number, controlled_at, or_cases, all_past}
 use Rattle.shared_area.specs.Words.{position}
 use Rattle.shared_area.specs.Told.{seen_at, told_note, bears_as, notes_in}
 use Rattle.shared_area.proofs.Picked.{no_task}

@@ -7,7 +7,7 @@ use Rattle.cov_base.specs.declared.facts.Fact.{Fact}
 use Rattle.cov_base.specs.declared.facts.Fact.TheVariants.{Ran, Went, Stayed}
 use Rattle.cov_base.specs.Meaning.{FactSet, has_fact, no_facts}
 use Rattle.module_area.specs.Meaning.{count_below, count_pairs, fact_count}
-use Rattle.module_area.proofs.CountLemmas.{count_same}
+use Rattle.module_area.proofs.Laws.{count_same}
 use Rattle.module_area.specs.Rule.{Has, times}
 
 abbrev one_if : Bool → ℕ

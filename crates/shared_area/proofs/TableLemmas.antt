@@ -15,8 +15,7 @@ use Rattle.module_area.specs.declared.parties.Role.TheVariants.{Spent}
 use Rattle.module_area.specs.Meaning.{PlanView, original_at, kind_at, is_over, is_controlled}
 use Rattle.module_area.specs.Rule.{Has, last_tag, window_tag, fetching, marking, lifting, planting, planted, lifted, Keeps}
 use Rattle.module_area.specs.Parties.{closing}
-use Rattle.module_area.proofs.CellLemmas.{lifts, plants, closes}
-use Rattle.module_area.proofs.StepLemmas.{fetches, marks}
+use Rattle.module_area.proofs.Laws.{lifts, plants, closes, fetches, marks}
 use Rattle.shared_area.specs.declared.rule.NoSlot.{NoSlot}
 use Rattle.module_area.specs.Words.{cell_of}
 use Rattle.shared_area.specs.Words.{word_of, closed_word_of, bit_of, facts_of, set_word, base_of, cells_in, sets_in}

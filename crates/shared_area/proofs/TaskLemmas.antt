@@ -12,8 +12,7 @@ use Rattle.module_area.specs.Rule.{has_task, last_tag, Held}
 use Rattle.module_area.specs.Parties.{role_task, bounding, noting, reading}
 use Rattle.module_area.specs.Drained.{Noted, IsNumber, Drained}
 use Rattle.module_area.specs.Notes.{NotedView, IsFound, is_final, no_tally}
-use Rattle.module_area.proofs.StepLemmas.{quiet}
-use Rattle.module_area.proofs.DrainLemmas.{bound_drained, note_drained, read_drained}
+use Rattle.module_area.proofs.Laws.{quiet, bound_drained, note_drained, read_drained}
 use Rattle.shared_area.specs.declared.rule.NoSlot.{NoSlot}
 use Rattle.shared_area.specs.Words.{facts_of, set_word, cells_in, sets_in, base_of, front, position, task_word, numbers_in}
 use Rattle.shared_area.specs.Told.{told_note, bears_as, notes_in}

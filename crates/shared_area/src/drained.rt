@@ -69,7 +69,7 @@ fn behind_the_close<C: Drains>(
 }
 
 /// The same by passes split for tasks 0, 1 and 2, and the runs of the session in the end.
-#[tactic(auto, using(module_area::proofs::EndedLemmas::session_has_sets))]
+#[tactic(auto, using(module_area::proofs::Laws::session_has_sets))]
 fn closed_in_area<A: Areas>(
     alloc: Global,
     areas: &mut A,

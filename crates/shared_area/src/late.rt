@@ -241,7 +241,7 @@ fn in_order<C: Cells>(
 }
 
 /// The order in an area of its own: what the trap finds, and whether sessions 1 and 2 have the run in the end.
-#[tactic(auto, using(module_area::proofs::EndedLemmas::session_has_sets))]
+#[tactic(auto, using(module_area::proofs::Laws::session_has_sets))]
 fn one_late<A: Areas>(
     alloc: Global,
     areas: &mut A,
@@ -268,7 +268,7 @@ where
 }
 
 /// Two late traps in an area of its own, and whether sessions 1 and 2 have the run in the end.
-#[tactic(auto, using(module_area::proofs::EndedLemmas::session_has_sets))]
+#[tactic(auto, using(module_area::proofs::Laws::session_has_sets))]
 fn two_in_area<A: Areas>(
     alloc: Global,
     areas: &mut A,

@@ -64,7 +64,7 @@ fn visited<C: Cells>(cells: &C, pass: C::Pass, plan: &Plan, place: PlaceNo, fact
 }
 
 /// The two facts of the branch by two passes in turn, then the return, and whether both sets are full in the end.
-#[tactic(auto, using(module_area::proofs::EndedLemmas::session_has_sets))]
+#[tactic(auto, using(module_area::proofs::Laws::session_has_sets))]
 fn in_turn<A: Areas>(
     alloc: Global,
     areas: &mut A,
@@ -103,7 +103,7 @@ where
 }
 
 /// The branch goes both ways in two threads at once; whether its set is full in the end.
-#[tactic(auto, using(module_area::proofs::EndedLemmas::session_has_sets))]
+#[tactic(auto, using(module_area::proofs::Laws::session_has_sets))]
 fn at_once<A: Areas, R: Threads + Sync>(
     rt: &R,
     alloc: Global,

@@ -139,7 +139,7 @@ pub(crate) fn runs(finals: &Finals, s: SessNo) -> [bool; 3]
 }
 
 /// The same by passes split for tasks 0 and 1, and the runs of sessions 1 and 2 in the end.
-#[tactic(auto, using(module_area::proofs::EndedLemmas::session_has_sets))]
+#[tactic(auto, using(module_area::proofs::Laws::session_has_sets))]
 fn two_sessions_in_area<A: Areas>(
     alloc: Global,
     areas: &mut A,

@@ -10,8 +10,7 @@ use Rattle.module_area.specs.Images.{AreImages}
 use Rattle.brk_table.specs.Meaning.{TablesView, touches, memory_of, module_byte, module_code}
 use Rattle.brk_table.specs.Places.{IsPlace, ArePlaces, IsIn}
 use Rattle.brk_table.specs.Kept.{code_in, code_by, later_half, IsCodeOf, AreCodes, IsKept, AreKept}
-use Rattle.brk_table.proofs.PlaceLemmas.{length_of-least}
-use Rattle.brk_table.proofs.TouchLemmas.{not_touched}
+use Rattle.brk_table.proofs.Laws.{length_of-least, not_touched}
 use Rattle.space_map.proofs.Ranges.{reach_image}
 use Rattle.space_map.proofs.Seen.{byte_at-image, image_byte-of, is_image-of}
 use Rattle.space_map.proofs.Touches.{base_from}

@@ -1,6 +1,7 @@
-pub mod ImageLemmas
-pub mod Ranges
-pub mod Touches
-pub mod Seen
-pub mod Kept
-pub mod SpaceLemmas
+mod ImageLemmas
+mod Ranges
+mod Touches
+mod Seen
+mod Kept
+mod SpaceLemmas
+pub mod Laws

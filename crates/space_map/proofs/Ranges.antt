@@ -2,7 +2,7 @@
 use Rattle.std.proofs.Common.{◌≡◌, ℕ, ◌+◌, ◌-◌, ◌<◌, ◌≤◌, zero, suc, Bool, true, false, ◌||◌, None, refl, arith, ◌⊎◌, inl, inr}
 use Rattle.std.proofs.lemmas.Bool.{lt-ltb, le-ltb}
 use Rattle.cov_base.specs.Meaning.{Memory, wrap, can_reach, can_store, first_touch, is_accessible, is_private}
-use Rattle.s370_state.proofs.Ranges.{store_fails}
+use Rattle.s370_state.proofs.Laws.{store_fails}
 
 or_true : (a : Bool) → (a || true) ≡ true
 or_true true = refl

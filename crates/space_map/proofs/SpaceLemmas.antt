@@ -9,8 +9,7 @@ use Rattle.cov_base.specs.Meaning.{Memory, ImageView, wrap, byte_at, can_reach, 
 use Rattle.s370_state.specs.Answers.{first_answer}
 use Rattle.s370_state.specs.Fields.{AreBytes, copied}
 use Rattle.s370_state.specs.Meaning.{number_at, store_number, store_bytes}
-use Rattle.s370_state.proofs.Copies.{copied_list}
-use Rattle.s370_state.proofs.Tested.{word_of_bytes, word_stored}
+use Rattle.s370_state.proofs.Laws.{copied_list, word_of_bytes, word_stored}
 use Rattle.module_area.specs.declared.places.Place.{Place}
 use Rattle.brk_table.specs.Meaning.{memory_of, in_image, image_byte}
 use Rattle.space_map.specs.Space.{SpaceView, memory_of_space}

@@ -49,7 +49,7 @@ pub fn put_bytes(bytes: &mut [u8], a: usize, value: u32)
 
 /// Stores the bytes of a list.
 #[inline(always)]
-#[tactic(auto, using(s370_state::proofs::Stores::none_stored, s370_state::proofs::Stores::all_stored))]
+#[tactic(auto, using(s370_state::proofs::Laws::none_stored, s370_state::proofs::Laws::all_stored))]
 pub fn put_list(bytes: &mut [u8], a: usize, list: &[u8])
     requires inside { 0 < length list.now → a + length list.now ≤ length bytes.old }
     requires most { length bytes.old ≤ PRIVATE_LIMIT }
@@ -63,7 +63,7 @@ pub fn put_list(bytes: &mut [u8], a: usize, list: &[u8])
 
 /// Copies n bytes, one at a time and left to right.
 #[inline(always)]
-#[tactic(auto, using(s370_state::proofs::Copies::copied_none))]
+#[tactic(auto, using(s370_state::proofs::Laws::copied_none))]
 pub fn copy_bytes(bytes: &mut [u8], a: usize, b: usize, n: usize)
     requires to { 0 < n → a + n ≤ length bytes.old }
     requires from { b + n ≤ length bytes.old }

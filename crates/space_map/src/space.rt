@@ -136,7 +136,7 @@ impl<'a> TaskSpace<'a> {
 
     // A word that doesn't lie in private storage, byte by byte.
     #[inline(never)]
-    #[tactic(auto, using(s370_state::proofs::Tested::word_of_bytes, s370_state::proofs::Tested::reach_at))]
+    #[tactic(auto, using(s370_state::proofs::Laws::word_of_bytes, s370_state::proofs::Laws::reach_at))]
     fn word_by_bytes(&self, at: Addr) -> u32
         requires { can_reach (memory_of_space self.now) at 4 ≡ true }
         ensures { result ≡ number_at (memory_of_space self.now) self.now.bytes at 4 }
@@ -152,7 +152,7 @@ impl<'a> TaskSpace<'a> {
     // A copy whose source stands neither in private storage nor in one module.
     #[cold]
     #[inline(never)]
-    #[tactic(auto, using(s370_state::proofs::Copies::copied_none, s370_state::proofs::Copies::copied_more, s370_state::proofs::Tested::reach_at, s370_state::proofs::Tested::store_at))]
+    #[tactic(auto, using(s370_state::proofs::Laws::copied_none, s370_state::proofs::Laws::copied_more, s370_state::proofs::Laws::reach_at, s370_state::proofs::Laws::store_at))]
     fn copy_by_bytes(&mut self, to: Addr, from: Addr, len: u32)
         requires store { can_store (memory_of_space self.old) to len ≡ true }
         requires reach { can_reach (memory_of_space self.old) from len ≡ true }
@@ -168,7 +168,7 @@ impl<'a> TaskSpace<'a> {
     // A halfword byte by byte. It is rare, and kept out of the task's loop.
     #[cold]
     #[inline(never)]
-    #[tactic(auto, using(s370_state::proofs::Ranges::reach_two, s370_state::proofs::Ranges::answer_ok))]
+    #[tactic(auto, using(s370_state::proofs::Laws::reach_two, s370_state::proofs::Laws::answer_ok))]
     fn half_by_bytes(&self, at: Addr) -> Option<u16>
         ensures { result ≡ (if can_reach (memory_of_space self.now) at 2 then Some (half_in_space self.now at) else None) }
     {
@@ -180,7 +180,7 @@ impl<'a> TaskSpace<'a> {
         }
     }
 
-    #[tactic(auto, using(s370_state::proofs::Ranges::reach_none, s370_state::proofs::Ranges::reach_more, s370_state::proofs::Ranges::reach_fails))]
+    #[tactic(auto, using(s370_state::proofs::Laws::reach_none, s370_state::proofs::Laws::reach_more, s370_state::proofs::Laws::reach_fails))]
     fn reach_bytes(&self, at: Addr, len: u32) -> Result<(), Refused>
         ensures { result ≡ reach_answer (memory_of_space self.now) at len }
     {
@@ -193,7 +193,7 @@ impl<'a> TaskSpace<'a> {
     }
 
     #[inline(never)]
-    #[tactic(auto, using(s370_state::proofs::Ranges::touch_none, s370_state::proofs::Ranges::touch_more, s370_state::proofs::Ranges::touch_found))]
+    #[tactic(auto, using(s370_state::proofs::Laws::touch_none, s370_state::proofs::Laws::touch_more, s370_state::proofs::Laws::touch_found))]
     fn read_bytes(&self, at: Addr, len: u32) -> Option<Addr>
         ensures { result ≡ first_touch (memory_of_space self.now) at len }
     {
@@ -229,7 +229,7 @@ impl<'a> TaskSpace<'a> {
     }
 }
 
-#[tactic(auto, using(s370_state::proofs::Ranges::reach_two, s370_state::proofs::Ranges::answer_ok))]
+#[tactic(auto, using(s370_state::proofs::Laws::reach_two, s370_state::proofs::Laws::answer_ok))]
 impl<'a> Space for TaskSpace<'a> {
     ghost memory = { λ s. memory_of_space s };
 

@@ -9,8 +9,8 @@ use Rattle.module_area.specs.declared.places.Place.{Place}
 use Rattle.module_area.specs.Meaning.{PlanView, kind_at, original_at, is_place}
 use Rattle.module_area.specs.Notes.{Notes, after_fetch, is_free_under, keeps_as, IsAnswer}
 use Rattle.module_area.specs.Rule.{Has}
-use Rattle.module_area.proofs.FactLemmas.{same_fact-true}
-use Rattle.brk_table.proofs.PlaceLemmas.{is_place-there}
+use Rattle.module_area.proofs.Laws.{same_fact-true}
+use Rattle.brk_table.proofs.Laws.{is_place-there}
 use Rattle.observed_step.specs.Sights.{BeginsAt}
 use Rattle.svc_monitor.specs.Settled.{Settles}
 use Rattle.svc_monitor.specs.Observed.{Grows}

@@ -1,8 +1,9 @@
-pub mod AnsweredLemmas
-pub mod NotesLemmas
-pub mod ObservedLemmas
-pub mod PlaceLemmas
-pub mod RiseLemmas
-pub mod TieLemmas
-pub mod TurnLemmas
-pub mod VisitLemmas
+mod AnsweredLemmas
+mod NotesLemmas
+mod ObservedLemmas
+mod PlaceLemmas
+mod RiseLemmas
+mod TieLemmas
+mod TurnLemmas
+mod VisitLemmas
+pub mod Laws

@@ -8,8 +8,8 @@ use Rattle.module_area.specs.declared.cells.Cell.{Cell}
 use Rattle.module_area.specs.declared.places.Place.{Place}
 use Rattle.module_area.specs.Meaning.{PlanView, place_of, kind_at, original_at, executes, facts_at, is_place, visits_at_places}
 use Rattle.module_area.specs.Notes.{Notes, after_fetch, is_free_under, IsAnswer}
-use Rattle.module_area.proofs.FactLemmas.{has_fact-with_fact, same_fact-true}
-use Rattle.brk_table.proofs.PlaceLemmas.{is_place-there}
+use Rattle.module_area.proofs.Laws.{has_fact-with_fact, same_fact-true}
+use Rattle.brk_table.proofs.Laws.{is_place-there}
 use Rattle.observed_step.specs.Sights.{BeginsAt}
 use Rattle.svc_monitor.specs.Settled.{Settles}
 use Rattle.svc_monitor.specs.Observed.{Grows, Observes, Stays, ShowsAt, IsShown}

@@ -3,7 +3,7 @@ use Rattle.std.proofs.Common.{◌≡◌, ◌≢◌, ℕ, ◌<◌, false, List, l
 use Rattle.std.proofs.lemmas.Bool.{both_ways}
 use Rattle.module_area.specs.declared.places.Place.{Place}
 use Rattle.module_area.specs.Meaning.{place_of, is_place}
-use Rattle.brk_table.proofs.PlaceLemmas.{is_place-there}
+use Rattle.brk_table.proofs.Laws.{is_place-there}
 
 -- no place begins at an address where none does
 pub none_begins : (places : List Place) (a p : ℕ) → is_place places a ≡ false → p < length places → (place_of places p).at ≢ a

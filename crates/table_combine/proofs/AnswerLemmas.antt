@@ -5,8 +5,7 @@ use Rattle.std.proofs.lemmas.List.Elements.{All-tail, All-head}
 use Rattle.marks_file.specs.Meaning.{MarkedView, MarksView, rows, first_bad, file_fields, version_of}
 use Rattle.marks_file.specs.Reading.{marks_at}
 use Rattle.marks_file.specs.declared.version.Version.{Version}
-use Rattle.marks_file.proofs.FileLemmas.{file_read, file_long}
-use Rattle.marks_file.proofs.HeadingLemmas.{told_all}
+use Rattle.marks_file.proofs.Laws.{file_read, file_long, told_all}
 use Rattle.table_combine.specs.Meaning.{Difference, first_difference, File, IsFile, file_text, modules_of, united, AreOfOneTable, IsCombined, IsBad, IsOtherTable, spelling}
 use Rattle.table_combine.specs.Files.{HasOneAnswer}
 use Rattle.table_combine.proofs.DifferenceLemmas.{row_same}

@@ -11,9 +11,7 @@ use Rattle.byteorder.specs.Endian.{big_bytes}
 use Rattle.marks_file.specs.Meaning.{MarkedView, MarksView, most_runs, is_runs, keeps_rules, place_row, module_row, module_rows, rows, HasFile}
 use Rattle.marks_file.specs.declared.marks.MarkedPlace.{MarkedPlace}
 use Rattle.marks_file.specs.declared.version.Version.{Version}
-use Rattle.marks_file.proofs.Parts.{is_session_name}
-use Rattle.marks_file.proofs.MarksLemmas.{both-left, both-right, both, le_of_test}
-use Rattle.marks_file.proofs.FileLemmas.{same_marks}
+use Rattle.marks_file.proofs.Laws.{is_session_name, both-left, both-right, both, le_of_test, same_marks}
 use Rattle.table_combine.specs.Meaning.{Difference, first_difference, unite, unite_places, unite_module, File, IsFile, file_text, modules_of, held, united, AreOfOneTable, IsOtherTable, spelling}
 use Rattle.table_combine.proofs.UnionLemmas.{length-unite_places, same_rows, joined_rows}
 

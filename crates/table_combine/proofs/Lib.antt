@@ -1,6 +1,7 @@
-pub mod AnswerLemmas
-pub mod DifferenceLemmas
-pub mod FilesLemmas
-pub mod LawLemmas
-pub mod SameFiles
-pub mod UnionLemmas
+mod AnswerLemmas
+mod DifferenceLemmas
+mod FilesLemmas
+mod LawLemmas
+mod SameFiles
+mod UnionLemmas
+pub mod Laws

@@ -8,8 +8,7 @@ use Rattle.cov_base.specs.Meaning.{union, FactSet}
 use Rattle.marks_file.specs.Meaning.{MarkedView, MarksView, are_marks, place_row, module_row, rows}
 use Rattle.marks_file.specs.Marks.{HasRow}
 use Rattle.marks_file.specs.declared.marks.MarkedPlace.{MarkedPlace}
-use Rattle.marks_file.proofs.MarksLemmas.{marks_have_rows, kept_modules}
-use Rattle.marks_file.proofs.FileLemmas.{one_table}
+use Rattle.marks_file.proofs.Laws.{marks_have_rows, kept_modules, one_table}
 use Rattle.table_combine.specs.Meaning.{unite_place, unite_places, unite_module, unite, File, IsFile, modules_of, spelling, AreOfOneTable, held, united, IsCombined}
 use Rattle.table_combine.specs.Combine.{SamePlaces, SameTables}
 use Rattle.table_combine.proofs.UnionLemmas.{union_is_marks}

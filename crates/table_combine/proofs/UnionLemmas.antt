@@ -9,9 +9,7 @@ use Rattle.cov_base.specs.declared.facts.Kind.{Kind}
 use Rattle.cov_base.specs.declared.facts.Kind.TheVariants.{Straight, Conditional}
 use Rattle.marks_file.specs.Meaning.{MarkedView, kind_number, is_location, is_length, is_original, is_set, are_places, end_location, is_new_name, is_base, is_clear, is_size, is_count, place_total, are_modules, is_module_count, are_marks, place_row, module_row, module_rows, rows}
 use Rattle.marks_file.specs.declared.marks.MarkedPlace.{MarkedPlace}
-use Rattle.marks_file.proofs.Parts.{is_place, is_module}
-use Rattle.marks_file.proofs.MarksLemmas.{both-left, both-right, both, le_of_test}
-use Rattle.marks_file.proofs.SpellLemmas.{set_read}
+use Rattle.marks_file.proofs.Laws.{is_place, is_module, both-left, both-right, both, le_of_test, set_read}
 use Rattle.table_combine.specs.Meaning.{unite_place, unite_places, unite_module, unite}
 use Rattle.table_combine.specs.Combine.{SamePlaces, SameTables}
 

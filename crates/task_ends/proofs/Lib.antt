@@ -1,2 +1,2 @@
-pub mod Parts
-pub mod RunLemmas
+mod Parts
+mod RunLemmas

@@ -12,13 +12,11 @@ use Rattle.module_area.specs.Meaning.{PlanView, ControlledView, has_place, windo
 use Rattle.module_area.specs.Notes.{Notes}
 use Rattle.module_area.specs.Control.{after_open, after_end, after_call}
 use Rattle.module_area.specs.Tied.{IsTied}
-use Rattle.module_area.proofs.TiedLemmas.{tied_same}
+use Rattle.module_area.proofs.Laws.{tied_same}
 use Rattle.svc_monitor.specs.Observed.{Observes, IsShown}
 use Rattle.svc_monitor.specs.Answered.{known_tag, Answered, Turns}
-use Rattle.svc_monitor.proofs.ObservedLemmas.{Observes-none, Observes-append}
-use Rattle.svc_monitor.proofs.AnsweredLemmas.{Answered-none, Answered-append, Answered-tags}
+use Rattle.svc_monitor.proofs.Laws.{Observes-none, Observes-append, Answered-none, Answered-append, Answered-tags, rises_append, rises_high}
 use Rattle.task_run.specs.Meaning.{control_by}
-use Rattle.svc_monitor.proofs.RiseLemmas.{rises_append, rises_high}
 use Rattle.task_run.specs.Called.{notes_by, last_by, Follows}
 use Rattle.task_run.proofs.RiseLemmas.{call_rises}
 use Rattle.task_run.proofs.WindowLemmas.{tied_by}

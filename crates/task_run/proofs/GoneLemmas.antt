@@ -4,7 +4,7 @@ use Rattle.cov_base.specs.Meaning.{Memory, State, Visit}
 use Rattle.module_area.specs.Meaning.{ControlView, PlanView}
 use Rattle.module_area.specs.Notes.{Notes}
 use Rattle.module_area.specs.Rule.{IsPlan}
-use Rattle.observed_step.proofs.CourseLemmas.{course-returned, course-none, course-more, course-ended}
+use Rattle.observed_step.proofs.Laws.{course-returned, course-none, course-more, course-ended}
 use Rattle.observed_step.specs.Meaning.{DoneBehind, Tour, Turn, calls_of, course_on, step_behind, turn_of, visits_of, with_cpu}
 use Rattle.brk_table.specs.Meaning.{TablesView}
 use Rattle.observed_step.specs.Hooks.{Way}
@@ -12,7 +12,7 @@ use Rattle.observed_step.specs.Runs.{EndsAs, Goes, Stand, Takes, course_of, stan
 use Rattle.observed_step.specs.Steps.{memory_at, stands}
 use Rattle.observed_step.specs.declared.bench.Bench.{Bench}
 use Rattle.observed_step.specs.declared.task.TaskEnd.{TaskEnd}
-use Rattle.s370_exec.proofs.TraceLemmas.{solo_step-done}
+use Rattle.s370_exec.proofs.Laws.{solo_step-done}
 use Rattle.s370_exec.specs.Meaning.{solo_step, has_returned}
 use Rattle.s370_state.specs.declared.endings.Next.{Next}
 use Rattle.s370_state.specs.declared.endings.Next.TheVariants.{On, Ended}

@@ -1,12 +1,13 @@
-pub mod AsideLemmas
-pub mod CloseLemmas
-pub mod FollowsLemmas
-pub mod GoneLemmas
-pub mod RanLemmas
-pub mod RiseLemmas
-pub mod RunLemmas
-pub mod SetLemmas
-pub mod TagLemmas
-pub mod TallyLemmas
-pub mod VisitLemmas
-pub mod WindowLemmas
+mod AsideLemmas
+mod CloseLemmas
+mod FollowsLemmas
+mod GoneLemmas
+mod RanLemmas
+mod RiseLemmas
+mod RunLemmas
+mod SetLemmas
+mod TagLemmas
+mod TallyLemmas
+mod VisitLemmas
+mod WindowLemmas
+pub mod Laws

@@ -6,10 +6,10 @@ use Rattle.s370_exec.specs.Meaning.{call_of, solo_step}
 use Rattle.module_area.specs.Meaning.{PlanView, ControlView, control_after}
 use Rattle.module_area.specs.Rule.{IsPlan, Has}
 use Rattle.module_area.specs.Notes.{Notes, calls}
-use Rattle.s370_exec.proofs.TraceLemmas.{solo_step-visits}
+use Rattle.s370_exec.proofs.Laws.{solo_step-visits}
 use Rattle.svc_monitor.specs.Answered.{Turns}
 use Rattle.svc_monitor.specs.Noting.{MakesEach, HasAnswered}
-use Rattle.svc_monitor.proofs.TurnLemmas.{turned, few_calls}
+use Rattle.svc_monitor.proofs.Laws.{turned, few_calls}
 use Rattle.task_run.specs.Called.{Follows}
 use Rattle.task_run.proofs.VisitLemmas.{step_visits}
 use Rattle.task_run.proofs.FollowsLemmas.{Follows-none, Follows-more}

@@ -13,11 +13,9 @@ use Rattle.module_area.specs.Meaning.{PlanView, place_of, kind_at, window_at, ex
 use Rattle.module_area.specs.Rule.{IsPlan}
 use Rattle.module_area.specs.Notes.{Notes}
 use Rattle.module_area.specs.Ended.{HasSets, HasTally}
-use Rattle.module_area.proofs.FactLemmas.{same_fact-true}
-use Rattle.module_area.proofs.EndedLemmas.{pairs_are_places}
-use Rattle.module_area.proofs.Indices.{same_tests}
+use Rattle.module_area.proofs.Laws.{same_fact-true, pairs_are_places, same_tests}
 use Rattle.svc_monitor.specs.Observed.{Observes, Stays, IsShown}
-use Rattle.svc_monitor.proofs.ObservedLemmas.{has_fact-none, facts_at-more, facts_at-append}
+use Rattle.svc_monitor.proofs.Laws.{has_fact-none, facts_at-more, facts_at-append}
 
 -- sets with the same facts
 

@@ -113,7 +113,7 @@ fn ask_in_area<A: Areas>(
 }
 
 /// Runs a task of the job by its pass, to its end.
-#[tactic(auto, using(brk_table::proofs::CodeLemmas::are_in))]
+#[tactic(auto, using(brk_table::proofs::Laws::are_in))]
 fn run_one<C: Drains, R: Runner<C>>(
     alloc: Global,
     cells: &C,

@@ -24,7 +24,7 @@ fn is_same(a: &Code, b: &Code) -> bool {
 
 /// Whether the two are the same at each place, as each task of the job sees it; and which of the lengths 2, 4 and 6
 /// were seen.
-#[tactic(auto, using(brk_table::proofs::CodeLemmas::are_in))]
+#[tactic(auto, using(brk_table::proofs::Laws::are_in))]
 fn compare(alloc: Global, job: &Job, tables: &Tables, seen: &mut [bool; 3]) -> Result<bool, Fail>
     requires { AreCodes job.now.images tables.now }
 {

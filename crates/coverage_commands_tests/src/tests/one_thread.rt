@@ -44,7 +44,7 @@ fn may_run(plan: &Plan) -> bool
 }
 
 /// Runs the first task with the pass.
-#[tactic(auto, using(brk_table::proofs::CodeLemmas::are_in))]
+#[tactic(auto, using(brk_table::proofs::Laws::are_in))]
 fn run_first<C: Cells>(
     alloc: Global,
     cells: &C,

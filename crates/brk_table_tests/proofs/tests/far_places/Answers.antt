@@ -1,6 +1,6 @@
 use Rattle.std.proofs.Common.{◌≡◌, subst, arith}
 use Rattle.brk_table.specs.Places.{HasRisingPlaces}
-use Rattle.brk_table.proofs.FarPlaces.{AreFar, far_more, far_all, far_rising, just_one}
+use Rattle.brk_table.proofs.Laws.{AreFar, far_more, far_all, far_rising, just_one}
 use Rattle.brk_table_tests.proofs.tests.far_places.Goals as goal
 
 pub loop-k-preserved : goal.loop-k-preserved

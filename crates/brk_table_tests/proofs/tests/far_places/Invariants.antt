@@ -1,4 +1,4 @@
-use Rattle.brk_table.proofs.FarPlaces.{AreFar}
+use Rattle.brk_table.proofs.Laws.{AreFar}
 use Rattle.brk_table_tests.proofs.tests.far_places.Given as goal
 
 abbrev pub invariant-loop-k : goal.invariant-loop-k

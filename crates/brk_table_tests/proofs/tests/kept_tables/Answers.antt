@@ -1,7 +1,6 @@
 use Rattle.std.proofs.Common.{[], ◌∷◌, arith}
 use Rattle.cov_base.specs.Meaning.{ImageView}
-use Rattle.brk_table.proofs.OneModule.{one_met}
-use Rattle.brk_table.proofs.Together.{AllMet}
+use Rattle.brk_table.proofs.Laws.{one_met, AllMet}
 use Rattle.brk_table_tests.proofs.tests.kept_tables.Goals as goal
 
 abbrev image : goal.After-images-in-Ok-1 → ImageView

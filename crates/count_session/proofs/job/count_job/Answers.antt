@@ -1,9 +1,8 @@
 use Rattle.std.proofs.Common.{◌≡◌, ◌++◌, List, length, take, drop, sym, ◌∙◌, ap}
-use Rattle.brk_table.proofs.CodeLemmas.{are_in}
-use Rattle.job_run.proofs.PhaseLemmas.{written}
+use Rattle.brk_table.proofs.Laws.{are_in}
+use Rattle.job_run.proofs.Laws.{written, AreRun-start}
 use Rattle.task_services.specs.Meaning.{course_of}
 use Rattle.job_run.specs.Slots.{dones}
-use Rattle.job_run.proofs.TaskLemmas.{AreRun-start}
 use Rattle.count_session.specs.Slots.{CountSlot}
 use Rattle.count_session.proofs.JobLemmas.{counted_job}
 use Rattle.count_session.proofs.job.count_job.Goals as goal

@@ -1,7 +1,6 @@
 use Rattle.std.proofs.Common.{◌≡◌, ℕ, ◌<◌, [], refl, ap, subst, sym, ◌∙◌}
 use Rattle.module_area.specs.Meaning.{PlanView}
-use Rattle.job_run.proofs.BackLemmas.{are_empty, have_run, whatever}
-use Rattle.job_run.proofs.EquipLemmas.{begun_in}
+use Rattle.job_run.proofs.Laws.{are_empty, have_run, whatever, begun_in}
 use Rattle.task_services.specs.Meaning.{course_of}
 use Rattle.count_session.specs.Notes.{CountNotes}
 use Rattle.count_session.specs.Passes.{notes_of, plan_in}

@@ -1,5 +1,5 @@
 use Rattle.std.proofs.Common.{Some}
-use Rattle.job_run.proofs.TaskLemmas.{still_filled}
+use Rattle.job_run.proofs.Laws.{still_filled}
 use Rattle.count_session.proofs.phase.run_one.Goals as goal
 
 pub returns-clause-ran : goal.returns-clause-ran

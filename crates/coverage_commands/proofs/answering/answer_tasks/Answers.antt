@@ -3,7 +3,7 @@ use Rattle.report_text.specs.Meaning.{report_of}
 use Rattle.task_services.specs.Meaning.{course_of}
 use Rattle.coverage_commands.specs.Meaning.{IsMarksText, Reports}
 use Rattle.coverage_commands.specs.Ready.{view_of}
-use Rattle.job_text.proofs.WholeJob.{job_keeps}
+use Rattle.job_text.proofs.Laws.{job_keeps}
 use Rattle.coverage_commands.proofs.AnswerLemmas.{answered, ran, with_own}
 use Rattle.command_words.specs.declared.words.Command.TheVariants.{Run, Exits, Early, Count, Marks}
 use Rattle.coverage_commands.proofs.answering.answer_tasks.Goals as goal

@@ -1,5 +1,5 @@
 use Rattle.std.proofs.lemmas.Result.{err_from_is_err_and}
-use Rattle.job_input.proofs.OneInput.{came_job}
+use Rattle.job_input.proofs.Laws.{came_job}
 use Rattle.coverage_commands.proofs.ready.make_ready.Goals as goal
 
 pub returns-in_err-input-clause-stopped : goal.returns-in_err-input-clause-stopped

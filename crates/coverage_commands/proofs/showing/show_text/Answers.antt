@@ -1,7 +1,7 @@
 use Rattle.std.proofs.Common.{◌≡◌, ℕ, List, [], ◌∷◌, ◌++◌, codes, rules}
 use Rattle.report_text.specs.Meaning.{session_part}
 use Rattle.report_text.specs.Writes.{WritesLines}
-use Rattle.report_text.proofs.WriteLemmas.{progress_start, progress_more, progress_exit, progress_last}
+use Rattle.report_text.proofs.Laws.{progress_start, progress_more, progress_exit, progress_last}
 use Rattle.coverage_commands.proofs.showing.show_text.Goals as goal
 
 pub returns-in_err-put : goal.returns-in_err-put

@@ -1,10 +1,9 @@
 use Rattle.std.proofs.Common.{◌≡◌, map, refl, ◌∙◌, ap}
 use Rattle.module_area.specs.Notes.{bearer}
-use Rattle.svc_monitor.proofs.TurnLemmas.{turned}
+use Rattle.svc_monitor.proofs.Laws.{turned}
 use Rattle.task_run.specs.Meaning.{solo}
 use Rattle.task_run.specs.Ran.{walk_from}
-use Rattle.task_run.proofs.GoneLemmas.{made_all}
-use Rattle.task_run.proofs.RanLemmas.{ran_tour}
+use Rattle.task_run.proofs.Laws.{made_all, ran_tour}
 use Rattle.early_report.specs.DrainView.{DrainView}
 use Rattle.early_report.specs.Followed.{first_drains}
 use Rattle.early_report.proofs.EarlyLemmas.{aside_behind}

@@ -1,7 +1,7 @@
 use Rattle.std.proofs.Common.{◌≡◌, [], ◌∷◌, ◌++◌, map, codes, rules}
 use Rattle.report_text.specs.Meaning.{job_lines}
 use Rattle.report_text.specs.Writes.{WritesLines}
-use Rattle.report_text.proofs.WriteLemmas.{progress_start, progress_more, progress_exit, progress_last}
+use Rattle.report_text.proofs.Laws.{progress_start, progress_more, progress_exit, progress_last}
 use Rattle.early_report.specs.Meaning.{early_part}
 use Rattle.early_report.specs.Text.{drained_of}
 use Rattle.early_report.proofs.text.early.Goals as goal

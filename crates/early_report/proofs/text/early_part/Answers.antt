@@ -1,7 +1,7 @@
 use Rattle.std.proofs.Common.{◌≡◌, ap, ◌∙◌}
 use Rattle.session_book.specs.Meaning.{SessionView, session_of}
 use Rattle.report_text.specs.Meaning.{session_part}
-use Rattle.report_text.proofs.WriteLemmas.{progress_start, progress_more, progress_exit, progress_last}
+use Rattle.report_text.proofs.Laws.{progress_start, progress_more, progress_exit, progress_last}
 use Rattle.early_report.proofs.text.early_part.Goals as goal
 
 pub returns-in_err-session_part : goal.returns-in_err-session_part

@@ -1,7 +1,6 @@
 use Rattle.std.proofs.Common.{◌≡◌, ◌+◌, ◌-◌, ◌<◌, length, map, ap, arith}
 use Rattle.session_book.specs.Meaning.{JobView}
-use Rattle.report_text.proofs.RowLemmas.{lines_from-next}
-use Rattle.report_text.proofs.WriteLemmas.{progress_start, progress_at, progress_more, progress_exit}
+use Rattle.report_text.proofs.Laws.{lines_from-next, progress_start, progress_at, progress_more, progress_exit}
 use Rattle.early_report.specs.Meaning.{early_part}
 use Rattle.early_report.specs.Text.{drained_of}
 use Rattle.early_report.proofs.text.early_parts.Goals as goal

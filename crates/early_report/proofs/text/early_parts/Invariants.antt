@@ -1,6 +1,6 @@
 use Rattle.std.proofs.Common.{◌+◌, ◌-◌, length, map}
 use Rattle.report_text.specs.Meaning.{lines_from}
-use Rattle.report_text.proofs.WriteLemmas.{Progress}
+use Rattle.report_text.proofs.Laws.{Progress}
 use Rattle.early_report.specs.Meaning.{early_part}
 use Rattle.early_report.specs.Text.{drained_of}
 use Rattle.early_report.proofs.text.early_parts.Given as goal

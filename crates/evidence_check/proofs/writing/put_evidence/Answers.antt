@@ -1,5 +1,4 @@
-use Rattle.cov_outside.proofs.WriteLemmas.{progress_start}
-use Rattle.cov_outside.proofs.BufferLemmas.{puts_more, puts_last, puts_exit}
+use Rattle.cov_outside.proofs.Laws.{progress_start, puts_more, puts_last, puts_exit}
 use Rattle.evidence_check.proofs.writing.put_evidence.Goals as goal
 
 pub returns-in_err-put : goal.returns-in_err-put

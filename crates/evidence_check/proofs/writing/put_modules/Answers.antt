@@ -1,8 +1,7 @@
 use Rattle.std.proofs.Common.{◌++◌, get_or, ap}
 use Rattle.std.specs.List.{flat_map}
 use Rattle.std.proofs.lemmas.List.{at_drop_more}
-use Rattle.cov_outside.proofs.WriteLemmas.{progress_at}
-use Rattle.cov_outside.proofs.BufferLemmas.{puts_more, puts_exit}
+use Rattle.cov_outside.proofs.Laws.{progress_at, puts_more, puts_exit}
 use Rattle.evidence_check.specs.Meaning.{module_entries}
 use Rattle.evidence_check.specs.Found.{found_at}
 use Rattle.evidence_check.proofs.EntryLemmas.{module_read}

@@ -1,6 +1,6 @@
 use Rattle.std.proofs.Common.{drop, ◌++◌}
 use Rattle.std.specs.List.{flat_map}
-use Rattle.cov_outside.proofs.WriteLemmas.{Progress}
+use Rattle.cov_outside.proofs.Laws.{Progress}
 use Rattle.evidence_check.specs.Meaning.{module_entries}
 use Rattle.evidence_check.specs.Found.{found_at}
 use Rattle.evidence_check.proofs.writing.put_modules.Given as goal

@@ -1,6 +1,5 @@
 use Rattle.std.proofs.Common.{◌++◌, ap}
-use Rattle.cov_outside.proofs.WriteLemmas.{progress_at}
-use Rattle.cov_outside.proofs.BufferLemmas.{puts_more, puts_exit}
+use Rattle.cov_outside.proofs.Laws.{progress_at, puts_more, puts_exit}
 use Rattle.evidence_check.specs.Found.{found_at}
 use Rattle.evidence_check.proofs.EntryLemmas.{places_next}
 use Rattle.evidence_check.proofs.writing.put_places.Goals as goal

@@ -1,5 +1,5 @@
 use Rattle.std.proofs.Common.{◌-◌, ◌++◌}
-use Rattle.cov_outside.proofs.WriteLemmas.{Progress}
+use Rattle.cov_outside.proofs.Laws.{Progress}
 use Rattle.evidence_check.specs.Meaning.{places_entries}
 use Rattle.evidence_check.specs.Found.{found_at}
 use Rattle.evidence_check.proofs.writing.put_places.Given as goal

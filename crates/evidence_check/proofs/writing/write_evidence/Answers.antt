@@ -1,4 +1,4 @@
-use Rattle.cov_outside.proofs.BufferLemmas.{puts_flushed}
+use Rattle.cov_outside.proofs.Laws.{puts_flushed}
 use Rattle.evidence_check.proofs.writing.write_evidence.Goals as goal
 
 pub returns : goal.returns

@@ -1,6 +1,6 @@
 use Rattle.session_marks.specs.FromFile.{set_at}
 use Rattle.session_marks.specs.Sample.{sample_images, sample_tables}
-use Rattle.session_marks.proofs.SampleLemmas.{sample_are_tables}
+use Rattle.session_marks.proofs.Laws.{sample_are_tables}
 use Rattle.evidence_check_tests.proofs.tests.checked.Goals as goal
 
 pub file_sets-requires-clause-tables : goal.file_sets-requires-clause-tables

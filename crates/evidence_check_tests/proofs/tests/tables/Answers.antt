@@ -1,9 +1,9 @@
 use Rattle.std.proofs.Common.{◌≡◌, All, List, sym, subst, rules}
 use Rattle.brk_table.specs.Meaning.{TableView, all_places}
 use Rattle.brk_table.specs.Places.{ArePlaces, IsIn}
-use Rattle.brk_table.proofs.Together.{all_in}
+use Rattle.brk_table.proofs.Laws.{all_in}
 use Rattle.session_marks.specs.Sample.{sample_images, sample_tables}
-use Rattle.session_marks.proofs.SampleLemmas.{sample_are_tables, sample_are_places}
+use Rattle.session_marks.proofs.Laws.{sample_are_tables, sample_are_places}
 use Rattle.evidence_check_tests.proofs.tests.tables.Goals as goal
 
 pub over-requires-clause-places : goal.over-requires-clause-places

@@ -1,4 +1,4 @@
-use Rattle.interleave_core.proofs.SampleLemmas.{sample_in}
+use Rattle.interleave_core.proofs.Laws.{sample_in}
 use Rattle.interleave_core_tests.proofs.tests.a_session_that_none_holds_is_quiet_once_closed.Goals as goal
 
 pub start-requires-clause-tables : goal.start-requires-clause-tables

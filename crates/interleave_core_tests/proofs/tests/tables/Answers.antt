@@ -2,7 +2,7 @@ use Rattle.std.proofs.Common.{◌≡◌, sym, subst, rules}
 use Rattle.brk_table.specs.Meaning.{all_places}
 use Rattle.brk_table.specs.Places.{ArePlaces}
 use Rattle.interleave_core.specs.Sample.{sample_places}
-use Rattle.interleave_core.proofs.SampleLemmas.{sample_are_places}
+use Rattle.interleave_core.proofs.Laws.{sample_are_places}
 use Rattle.interleave_core_tests.proofs.tests.tables.Goals as goal
 
 pub of-requires-clause-places : goal.of-requires-clause-places

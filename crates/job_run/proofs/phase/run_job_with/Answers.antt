@@ -1,5 +1,5 @@
 use Rattle.std.proofs.Common.{◌≡◌, ◌++◌, All, IsSome, List, length, take, drop, sym, ◌∙◌, ap, subst}
-use Rattle.brk_table.proofs.CodeLemmas.{are_in}
+use Rattle.brk_table.proofs.Laws.{are_in}
 use Rattle.job_run.specs.Slots.{dones, extras_of}
 use Rattle.job_run.specs.Tasks.{AreNew}
 use Rattle.job_run.specs.declared.slots.Slot.{Slot}

@@ -3,7 +3,7 @@ use Rattle.cov_base.specs.Meaning.{ImageView}
 use Rattle.brk_table.specs.Meaning.{all_places}
 use Rattle.brk_table.specs.Places.{IsIn}
 use Rattle.brk_table.specs.Kept.{AreCodes}
-use Rattle.brk_table.proofs.Together.{AllMet, all_met}
+use Rattle.brk_table.proofs.Laws.{AllMet, all_met}
 use Rattle.session_book.specs.Meaning.{JobView}
 use Rattle.job_tables.proofs.TableLemmas.{is_ready}
 use Rattle.job_tables.proofs.tables.tables_of.Goals as goal

@@ -1,6 +1,6 @@
 use Rattle.std.proofs.Common.{◌≡◌, ◌∙◌, ap, sym, is_some}
 use Rattle.std.specs.List.{list_any}
-use Rattle.names.proofs.ListLemmas.{any_found}
+use Rattle.names.proofs.Laws.{any_found}
 use Rattle.job_text.specs.Meaning.{is_controller}
 use Rattle.job_text.proofs.binding.is_met.Goals as goal
 

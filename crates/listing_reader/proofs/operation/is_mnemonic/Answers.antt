@@ -2,7 +2,7 @@ use Rattle.std.proofs.Common.{map, sym}
 use Rattle.std.proofs.lemmas.List.{length-map}
 use Rattle.std.specs.Char.{to_ascii_uppercase}
 use Rattle.s370_decode.specs.Meaning.{mnemonics, is_mnemonic}
-use Rattle.s370_decode.proofs.Words.{too_long, short_mnemonics}
+use Rattle.s370_decode.proofs.Laws.{too_long, short_mnemonics}
 use Rattle.listing_reader.proofs.operation.is_mnemonic.Goals as goal
 
 pub returns-then-n-gt5 : goal.returns-then-n-gt5

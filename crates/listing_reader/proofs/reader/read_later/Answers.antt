@@ -4,7 +4,7 @@ use Rattle.std.proofs.lemmas.List.Elements.{All-push}
 use Rattle.std.specs.declared.option.Option.TheVariants.{None}
 use Rattle.listing_reader.specs.Meaning.{line_of}
 use Rattle.listing_reader.specs.Listing.{is_sound}
-use Rattle.listing_reader.proofs.Laws.{bad_here, read_here, none_here}
+use Rattle.listing_reader.proofs.FaultLemmas.{bad_here, read_here, none_here}
 use Rattle.listing_reader.proofs.reader.read_later.Goals as goal
 
 pub returns-in-None-clause-fault : goal.returns-in-None-clause-fault

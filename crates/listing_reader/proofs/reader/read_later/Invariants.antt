@@ -2,7 +2,7 @@ use Rattle.std.proofs.Common.{◌≡◌, ◌+◌, drop, length}
 use Rattle.std.specs.List.{AllPass}
 use Rattle.listing_reader.specs.Meaning.{lines_behind}
 use Rattle.listing_reader.specs.Listing.{is_sound}
-use Rattle.listing_reader.proofs.Laws.{bad_number}
+use Rattle.listing_reader.proofs.FaultLemmas.{bad_number}
 use Rattle.listing_reader.proofs.reader.read_later.Given as goal
 
 abbrev pub invariant-loop-i : goal.invariant-loop-i

@@ -1,6 +1,5 @@
 use Rattle.std.proofs.Common.{◌++◌, ap}
-use Rattle.cov_outside.proofs.WriteLemmas.{progress_start, progress_at}
-use Rattle.cov_outside.proofs.BufferLemmas.{puts_more, puts_last, puts_exit}
+use Rattle.cov_outside.proofs.Laws.{progress_start, progress_at, puts_more, puts_last, puts_exit}
 use Rattle.marks_file.proofs.FileLemmas.{written_head}
 use Rattle.marks_file.proofs.writing.put_file.Goals as goal
 

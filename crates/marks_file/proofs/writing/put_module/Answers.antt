@@ -1,7 +1,6 @@
 use Rattle.std.proofs.Common.{◌≡◌, ◌++◌, ap, ◌∙◌}
 use Rattle.marks_file.specs.Meaning.{MarkedView, module_bytes}
-use Rattle.cov_outside.proofs.WriteLemmas.{progress_start}
-use Rattle.cov_outside.proofs.BufferLemmas.{puts_more, puts_last, puts_exit}
+use Rattle.cov_outside.proofs.Laws.{progress_start, puts_more, puts_last, puts_exit}
 use Rattle.marks_file.proofs.writing.put_module.Goals as goal
 
 pub returns : goal.returns

@@ -2,8 +2,7 @@ use Rattle.std.proofs.Common.{◌≡◌, ◌++◌, ap, get_or}
 use Rattle.std.specs.List.{flat_map}
 use Rattle.std.proofs.lemmas.List.{at_drop_more}
 use Rattle.marks_file.specs.Meaning.{module_bytes}
-use Rattle.cov_outside.proofs.WriteLemmas.{progress_at}
-use Rattle.cov_outside.proofs.BufferLemmas.{puts_more, puts_exit}
+use Rattle.cov_outside.proofs.Laws.{progress_at, puts_more, puts_exit}
 use Rattle.marks_file.proofs.writing.put_modules.Goals as goal
 
 pub returns-in_err-put_module : goal.returns-in_err-put_module

@@ -1,7 +1,7 @@
 use Rattle.std.proofs.Common.{drop, ◌++◌}
 use Rattle.std.specs.List.{flat_map}
 use Rattle.marks_file.specs.Meaning.{module_bytes}
-use Rattle.cov_outside.proofs.WriteLemmas.{Progress}
+use Rattle.cov_outside.proofs.Laws.{Progress}
 use Rattle.marks_file.proofs.writing.put_modules.Given as goal
 
 abbrev pub invariant-loop-i : goal.invariant-loop-i

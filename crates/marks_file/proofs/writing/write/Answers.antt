@@ -3,7 +3,7 @@ use Rattle.marks_file.specs.Meaning.{MarkedView, MarksView, file_bytes}
 use Rattle.marks_file.specs.Marks.{HasRow}
 use Rattle.marks_file.specs.declared.version.Version.TheVariants.{Second}
 use Rattle.cov_outside.specs.Puts.{Puts}
-use Rattle.cov_outside.proofs.BufferLemmas.{puts_flushed}
+use Rattle.cov_outside.proofs.Laws.{puts_flushed}
 use Rattle.marks_file.proofs.MarksLemmas.{marks_have_rows, marks_count, kept_modules}
 use Rattle.marks_file.proofs.writing.write.Goals as goal
 

@@ -1,6 +1,6 @@
 use Rattle.std.proofs.Common.{◌≡◌, false, None, [], ◌∷◌, refl, subst, rules}
 use Rattle.s370_exec.specs.Meaning.{call_of, solo_step, ended, visit}
-use Rattle.s370_exec.proofs.StepLemmas.{solo_step-refused, solo_step-rest_refused}
+use Rattle.s370_exec.proofs.Laws.{solo_step-refused, solo_step-rest_refused}
 use Rattle.observed_step.specs.Steps.{IsFetched, memory_at, stands}
 use Rattle.cov_base.specs.Meaning.{Visit}
 use Rattle.observed_step.proofs.FetchedLemmas.{own_begun}

@@ -3,8 +3,7 @@ use Rattle.s370_decode.specs.Meaning.{first_half, op_of}
 use Rattle.s370_branch.specs.Meaning.{goes}
 use Rattle.s370_exec.specs.Meaning.{subject_call, subject_step, ended, stepped, visit}
 use Rattle.s370_exec.specs.Effects.{effect_of}
-use Rattle.s370_exec.proofs.CallLemmas.{subject_call-refused, subject_call-unread}
-use Rattle.s370_exec.proofs.StepLemmas.{subject_step-refused, subject_step-unread, subject_step-begun}
+use Rattle.s370_exec.proofs.Laws.{subject_call-refused, subject_call-unread, subject_step-refused, subject_step-unread, subject_step-begun}
 use Rattle.observed_step.specs.Called.{call_at}
 use Rattle.observed_step.specs.Steps.{memory_at, stands}
 use Rattle.observed_step.proofs.CallLemmas.{subject_call-begun}

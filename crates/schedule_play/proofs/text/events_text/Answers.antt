@@ -1,6 +1,5 @@
 use Rattle.std.proofs.Common.{◌+◌, ◌<◌, length, rules}
-use Rattle.report_text.proofs.RowLemmas.{lines_from-next}
-use Rattle.report_text.proofs.WriteLemmas.{progress_at, progress_more, progress_exit}
+use Rattle.report_text.proofs.Laws.{lines_from-next, progress_at, progress_more, progress_exit}
 use Rattle.schedule_play.proofs.TextLemmas.{line_of, told_line}
 use Rattle.schedule_play.proofs.text.events_text.Goals as goal
 

@@ -1,6 +1,6 @@
 use Rattle.std.proofs.Common.{◌+◌, ◌-◌, length}
 use Rattle.report_text.specs.Meaning.{lines_from}
-use Rattle.report_text.proofs.WriteLemmas.{Progress}
+use Rattle.report_text.proofs.Laws.{Progress}
 use Rattle.schedule_play.proofs.TextLemmas.{line_of}
 use Rattle.schedule_play.proofs.text.events_text.Given as goal
 

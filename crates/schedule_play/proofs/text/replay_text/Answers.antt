@@ -1,5 +1,5 @@
 use Rattle.std.proofs.Common.{◌≡◌, [], ◌∷◌, ◌++◌, codes, rules}
-use Rattle.report_text.proofs.WriteLemmas.{progress_start, progress_more, progress_exit, progress_last}
+use Rattle.report_text.proofs.Laws.{progress_start, progress_more, progress_exit, progress_last}
 use Rattle.schedule_play.proofs.TextLemmas.{core_results, core_sets, told_core}
 use Rattle.schedule_play.proofs.text.replay_text.Goals as goal
 

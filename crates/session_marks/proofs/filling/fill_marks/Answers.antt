@@ -4,9 +4,7 @@ use Rattle.std.proofs.lemmas.List.{with_items_is, length-map}
 use Rattle.cov_base.specs.Meaning.{FactSet, no_facts}
 use Rattle.brk_table.specs.Meaning.{TablesView}
 use Rattle.marks_file.specs.Meaning.{MarkedView, MarksView, is_runs, are_marks}
-use Rattle.marks_file.proofs.Parts.{is_session_name}
-use Rattle.marks_file.proofs.MarksLemmas.{both-left, both-right, both, kept_modules}
-use Rattle.marks_file.proofs.FileLemmas.{same_marks}
+use Rattle.marks_file.proofs.Laws.{is_session_name, both-left, both-right, both, kept_modules, same_marks}
 use Rattle.session_book.specs.Meaning.{JobView, session_of}
 use Rattle.session_marks.specs.Filled.{filled}
 use Rattle.session_marks.specs.Meaning.{marked_module, session_file}

@@ -2,9 +2,9 @@ use Rattle.brk_table.specs.Meaning.{place_count}
 use Rattle.std.proofs.Common.{◌≡◌, true, List, length, get_or, ap, sym, ◌∙◌, arith}
 use Rattle.std.proofs.lemmas.List.{length-map}
 use Rattle.marks_file.specs.Meaning.{MarkedView, MarksView, are_marks}
-use Rattle.marks_file.proofs.MarksLemmas.{kept_modules}
+use Rattle.marks_file.proofs.Laws.{kept_modules}
 use Rattle.table_combine.specs.Meaning.{unite}
-use Rattle.table_combine.proofs.UnionLemmas.{length-unite}
+use Rattle.table_combine.proofs.Laws.{length-unite}
 use Rattle.session_book.specs.Meaning.{session_of}
 use Rattle.session_marks.specs.Meaning.{marked_module, session_marks}
 use Rattle.session_marks.specs.FromFile.{set_at, HaveSetsAt}

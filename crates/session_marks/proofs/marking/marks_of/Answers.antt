@@ -1,7 +1,7 @@
 use Rattle.std.proofs.Common.{rules, ◌≡◌, true}
 use Rattle.cov_base.specs.Meaning.{is_filled}
 use Rattle.marks_file.specs.Meaning.{are_marks}
-use Rattle.marks_file.proofs.MarksLemmas.{both}
+use Rattle.marks_file.proofs.Laws.{both}
 use Rattle.session_book.specs.Meaning.{session_of}
 use Rattle.session_marks.proofs.ModuleLemmas.{marks_kept}
 use Rattle.session_marks.proofs.RuleLemmas.{one_run}

@@ -1,4 +1,4 @@
-use Rattle.session_marks.proofs.SampleLemmas.{sample_are_tables}
+use Rattle.session_marks.proofs.Laws.{sample_are_tables}
 use Rattle.session_marks_tests.proofs.file_tests.shown.Goals as goal
 
 pub file_sets-requires-clause-tables : goal.file_sets-requires-clause-tables

@@ -1,4 +1,4 @@
-use Rattle.session_marks.proofs.SampleLemmas.{sample_are_tables}
+use Rattle.session_marks.proofs.Laws.{sample_are_tables}
 use Rattle.session_marks_tests.proofs.tests.a_table_has_empty_sets.Goals as goal
 
 pub marks_of-requires-clause-tables : goal.marks_of-requires-clause-tables

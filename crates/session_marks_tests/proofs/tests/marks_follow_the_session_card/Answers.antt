@@ -1,4 +1,4 @@
-use Rattle.session_marks.proofs.SampleLemmas.{sample_are_tables}
+use Rattle.session_marks.proofs.Laws.{sample_are_tables}
 use Rattle.session_marks_tests.proofs.tests.marks_follow_the_session_card.Goals as goal
 
 pub marks_of-requires-clause-tables : goal.marks_of-requires-clause-tables

@@ -1,5 +1,5 @@
 use Rattle.std.proofs.Common.{◌≡◌, ◌∙◌, sym, arith}
-use Rattle.s370_state.proofs.Copies.{copied_inside}
+use Rattle.s370_state.proofs.Laws.{copied_inside}
 use Rattle.space_map.proofs.SpaceLemmas.{set_length}
 use Rattle.space_map.proofs.bytes.copy_bytes.Goals as goal
 

@@ -1,6 +1,6 @@
 use Rattle.std.proofs.Common.{◌≡◌, ◌+◌, ◌∙◌, refl, sym, arith}
 use Rattle.cov_base.specs.Meaning.{wrap}
-use Rattle.s370_state.proofs.Stores.{one_stored}
+use Rattle.s370_state.proofs.Laws.{one_stored}
 use Rattle.space_map.proofs.SpaceLemmas.{set_length}
 use Rattle.space_map.proofs.bytes.put_list.Goals as goal
 

@@ -3,8 +3,7 @@ use Rattle.std.specs.Vec.{with_items}
 use Rattle.std.proofs.lemmas.List.{with_items_is}
 use Rattle.marks_file.specs.Meaning.{MarksView, is_runs, are_marks, place_total, rows}
 use Rattle.marks_file.specs.Marks.{HasRow}
-use Rattle.marks_file.proofs.Parts.{is_session_name}
-use Rattle.marks_file.proofs.MarksLemmas.{both-left, both-right, both, marks_have_rows, marks_count, kept_modules}
+use Rattle.marks_file.proofs.Laws.{is_session_name, both-left, both-right, both, marks_have_rows, marks_count, kept_modules}
 use Rattle.table_combine.specs.Meaning.{unite}
 use Rattle.table_combine.specs.Combine.{SameTables}
 use Rattle.table_combine.proofs.UnionLemmas.{union_is_marks, length-unite, tables_rows, marks_places}

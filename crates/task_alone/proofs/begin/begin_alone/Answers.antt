@@ -1,9 +1,9 @@
 use Rattle.brk_table.specs.Kept.{AreKept}
 use Rattle.brk_table.specs.Places.{AreSeen}
-use Rattle.brk_table.proofs.CodeLemmas.{are_in}
+use Rattle.brk_table.proofs.Laws.{are_in}
 use Rattle.cov_base.specs.Meaning.{Memory}
 use Rattle.session_book.specs.Meaning.{task_of, no_task}
-use Rattle.space_map.proofs.Kept.{are_kept}
+use Rattle.space_map.proofs.Laws.{are_kept}
 use Rattle.std.proofs.Common.{sym, subst}
 use Rattle.task_alone.proofs.begin.begin_alone.Goals as goal
 

@@ -1,7 +1,6 @@
 use Rattle.std.proofs.Common.{◌≡◌, ◌<◌, length, ◌∙◌, arith}
 use Rattle.std.proofs.lemmas.List.{get_or_read}
-use Rattle.report_text.proofs.RowLemmas.{lines_from-next, lines_from-end}
-use Rattle.report_text.proofs.WriteLemmas.{progress_at, progress_more, progress_exit, progress_end}
+use Rattle.report_text.proofs.Laws.{lines_from-next, lines_from-end, progress_at, progress_more, progress_exit, progress_end}
 use Rattle.task_ends.proofs.Parts.{unlisted_part}
 use Rattle.task_ends.proofs.text.modules_text.Goals as goal
 

@@ -1,6 +1,5 @@
 use Rattle.std.proofs.Common.{◌≡◌, ◌<◌, length, ◌∙◌, arith}
-use Rattle.report_text.proofs.RowLemmas.{lines_from-next, lines_from-end}
-use Rattle.report_text.proofs.WriteLemmas.{progress_at, progress_more, progress_exit, progress_end}
+use Rattle.report_text.proofs.Laws.{lines_from-next, lines_from-end, progress_at, progress_more, progress_exit, progress_end}
 use Rattle.task_ends.proofs.Parts.{end_part}
 use Rattle.task_ends.proofs.text.tasks_text.Goals as goal
 

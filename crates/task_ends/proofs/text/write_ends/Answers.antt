@@ -1,7 +1,7 @@
 use Rattle.std.proofs.Common.{◌≡◌, [], ◌∷◌, ◌++◌, length, codes, rules}
 use Rattle.report_text.specs.Meaning.{lines_from}
 use Rattle.report_text.specs.Writes.{WritesLines}
-use Rattle.report_text.proofs.WriteLemmas.{progress_start, progress_more, progress_exit, progress_last}
+use Rattle.report_text.proofs.Laws.{progress_start, progress_more, progress_exit, progress_last}
 use Rattle.task_ends.proofs.Parts.{end_part, unlisted_part}
 use Rattle.task_ends.proofs.text.write_ends.Goals as goal
 

@@ -1,8 +1,6 @@
 use Rattle.std.proofs.Common.{refl, sym, subst}
 use Rattle.task_run.specs.Aside.{IsAside}
-use Rattle.task_run.proofs.AsideLemmas.{aside_none}
-use Rattle.task_run.proofs.GoneLemmas.{made_all}
-use Rattle.task_run.proofs.RanLemmas.{ran_tour}
+use Rattle.task_run.proofs.Laws.{aside_none, made_all, ran_tour}
 use Rattle.task_services.specs.Meaning.{with_services}
 use Rattle.task_services.proofs.run.run_under.Goals as goal
 

@@ -2,7 +2,7 @@ use Rattle.std.proofs.Common.{◌≡◌, ℕ, ◌+◌, ◌∷◌, [], ◌++◌, 
 use Rattle.cov_base.specs.declared.numbers.TaskNo.{TaskNo}
 use Rattle.module_area.specs.Meaning.{place_of}
 use Rattle.job_run.specs.Crews.{PhaseView, all_tasks, phase_at, tasks_before}
-use Rattle.job_run.proofs.BeforeLemmas.{before_one}
+use Rattle.job_run.proofs.Laws.{before_one}
 use Rattle.count_session.specs.Notes.{CountNotes}
 use Rattle.count_session.specs.Passes.{plan_in}
 use Rattle.count_session.specs.Phases.{HasJoined}

@@ -3,8 +3,7 @@ use Rattle.observed_step.specs.Meaning.{Tour, visits_of}
 use Rattle.module_area.specs.Meaning.{PlanView, place_of}
 use Rattle.task_services.specs.Meaning.{course_of}
 use Rattle.job_run.specs.Tasks.{own_run}
-use Rattle.job_run.proofs.SlotLemmas.{is_over_begun, plan_here}
-use Rattle.job_run.proofs.TaskLemmas.{begun_run}
+use Rattle.job_run.proofs.Laws.{is_over_begun, plan_here, begun_run}
 use Rattle.count_session.specs.Meaning.{count_at}
 use Rattle.count_session.specs.Counting.{Adds, planted_count}
 use Rattle.count_session.specs.Notes.{CountNotes}

@@ -1,6 +1,6 @@
 use Rattle.std.proofs.Common.{refl}
 use Rattle.module_area.specs.Notes.{root_notes}
-use Rattle.module_area.proofs.TiedLemmas.{first_tied}
+use Rattle.module_area.proofs.Laws.{first_tied}
 use Rattle.coverage_commands_tests.proofs.tests.controls.course_in_area.Goals as goal
 
 pub course-stands-requires-clause-tied : goal.course-stands-requires-clause-tied

@@ -3,7 +3,7 @@ use Rattle.module_area.specs.Meaning.{ControlView, first_control, PlanView}
 use Rattle.module_area.specs.Notes.{Notes, after_split, split_notes}
 use Rattle.module_area.specs.Rule.{IsPlan}
 use Rattle.module_area.specs.Tied.{IsTied}
-use Rattle.module_area.proofs.TiedLemmas.{first_tied}
+use Rattle.module_area.proofs.Laws.{first_tied}
 use Rattle.coverage_commands_tests.proofs.tests.drains.ask_in_area.Goals as goal
 
 tied_of : (plan : PlanView) (n m : Notes) (c : ControlView) (t : ℕ) → IsPlan plan → ((p : ℕ) → n.last p ≡ 0) → m ≡ split_notes plan n t → c ≡ first_control plan t → IsTied plan m c

@@ -5,10 +5,7 @@ use Rattle.module_area.specs.Notes.{Notes, after_boundary}
 use Rattle.early_report.specs.DrainView.{DrainView}
 use Rattle.early_report.specs.Drains.{HasClosed}
 use Rattle.early_report.specs.Followed.{IsOwn}
-use Rattle.early_report.proofs.EarlyLemmas.{bears_of}
-use Rattle.early_report.proofs.FollowLemmas.{own_later}
-use Rattle.early_report.proofs.StepLemmas.{closed_after}
-use Rattle.early_report.proofs.ToldLemmas.{its_open}
+use Rattle.early_report.proofs.Laws.{bears_of, own_later, closed_after, its_open}
 use Rattle.coverage_commands_tests.proofs.tests.drains.begin_drain.Goals as goal
 
 pub room-requires : goal.room-requires

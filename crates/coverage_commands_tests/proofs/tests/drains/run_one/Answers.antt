@@ -1,9 +1,9 @@
 use Rattle.std.proofs.Common.{None, refl}
 use Rattle.module_area.specs.Notes.{root_notes}
-use Rattle.module_area.proofs.TiedLemmas.{first_tied}
+use Rattle.module_area.proofs.Laws.{first_tied}
 use Rattle.session_book.specs.Meaning.{JobView, task_of}
 use Rattle.job_run.specs.declared.outcome.Done.{Done}
-use Rattle.job_run.proofs.SlotLemmas.{is_over_begun}
+use Rattle.job_run.proofs.Laws.{is_over_begun}
 use Rattle.coverage_commands_tests.proofs.tests.drains.run_one.Goals as goal
 
 pub run-requires-clause-tied : goal.run-requires-clause-tied

@@ -3,7 +3,7 @@ use Rattle.module_area.specs.Meaning.{ControlView, first_control, PlanView}
 use Rattle.module_area.specs.Notes.{Notes, split_notes}
 use Rattle.module_area.specs.Rule.{IsPlan, is_controller}
 use Rattle.module_area.specs.Tied.{IsTied}
-use Rattle.module_area.proofs.TiedLemmas.{first_tied}
+use Rattle.module_area.proofs.Laws.{first_tied}
 use Rattle.coverage_commands_tests.proofs.tests.one_thread.alone.Goals as goal
 
 none_controls : (plan : PlanView) (t p : ℕ) → plan.controlled ≡ [] → is_controller plan t p ≡ true → ⊥

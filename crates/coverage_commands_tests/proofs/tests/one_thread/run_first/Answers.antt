@@ -1,7 +1,7 @@
 use Rattle.std.proofs.Common.{None, refl}
 use Rattle.session_book.specs.Meaning.{JobView, task_of}
 use Rattle.job_run.specs.declared.outcome.Done.{Done}
-use Rattle.job_run.proofs.SlotLemmas.{is_over_begun}
+use Rattle.job_run.proofs.Laws.{is_over_begun}
 use Rattle.coverage_commands_tests.proofs.tests.one_thread.run_first.Goals as goal
 
 pub run_task-requires-clause-over : goal.run_task-requires-clause-over

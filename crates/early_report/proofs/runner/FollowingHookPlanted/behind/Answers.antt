@@ -2,8 +2,8 @@ use Rattle.std.proofs.Common.{◌≡◌, refl, ◌∙◌, ap, arith}
 use Rattle.s370_exec.specs.Meaning.{call_of, solo_step}
 use Rattle.observed_step.specs.Steps.{memory_at, stands}
 use Rattle.svc_monitor.specs.Answered.{Turns}
-use Rattle.svc_monitor.proofs.TurnLemmas.{turned}
-use Rattle.task_run.proofs.AsideLemmas.{step_known, same_number}
+use Rattle.svc_monitor.proofs.Laws.{turned}
+use Rattle.task_run.proofs.Laws.{step_known, same_number}
 use Rattle.early_report.specs.Followed.{closed_since}
 use Rattle.early_report.specs.Following.{FollowsOne}
 use Rattle.early_report.specs.declared.runner.Following.{Following}

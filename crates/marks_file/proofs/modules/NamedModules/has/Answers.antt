@@ -2,7 +2,7 @@ use Rattle.std.proofs.Common.{◌≡◌, List, ℕ, ap, ◌∙◌}
 use Rattle.std.specs.List.{list_any}
 use Rattle.std.specs.Str.{bytes_eq}
 use Rattle.names.specs.Lists.{has}
-use Rattle.names.proofs.ListLemmas.{has-map}
+use Rattle.names.proofs.Laws.{has-map}
 use Rattle.marks_file.specs.Meaning.{MarkedView}
 use Rattle.marks_file.specs.Named.{items_of}
 use Rattle.marks_file.proofs.modules.NamedModules.has.Goals as goal

@@ -5,7 +5,7 @@ use Rattle.std.proofs.lemmas.Bool.{not-true}
 use Rattle.std.proofs.lemmas.List.{map_push}
 use Rattle.cov_base.specs.Meaning.{is_filled}
 use Rattle.names.specs.Lists.{added}
-use Rattle.names.proofs.ListLemmas.{has-map}
+use Rattle.names.proofs.Laws.{has-map}
 use Rattle.marks_file.specs.Meaning.{MarkedView, is_new_name}
 use Rattle.marks_file.specs.Named.{names_of, items_of}
 use Rattle.marks_file.proofs.MarksLemmas.{both-right}

@@ -1,6 +1,6 @@
 use Rattle.std.proofs.Common.{◌≡◌, ◌+◌, ◌-◌, refl, arith}
 use Rattle.brk_table.specs.Meaning.{memory_of}
-use Rattle.s370_state.proofs.Copies.{bytes_inside}
+use Rattle.s370_state.proofs.Laws.{bytes_inside}
 use Rattle.space_map.proofs.SpaceLemmas.{list_bytes}
 use Rattle.space_map.proofs.space.TaskSpaceSpace.slice.Goals as goal
 

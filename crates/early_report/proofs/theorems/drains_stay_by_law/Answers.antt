@@ -1,11 +1,11 @@
 use Rattle.module_area.specs.Meaning.{places_under}
 use Rattle.module_area.specs.Notes.{after_join, after_split}
-use Rattle.module_area.proofs.StepLemmas.{or_left, or_right}
+use Rattle.module_area.proofs.Laws.{or_left, or_right}
 use Rattle.early_report.proofs.ActLemmas.{closed_stays, tied_stays, known_stays}
 use Rattle.early_report.proofs.FollowLemmas.{known_later}
 use Rattle.early_report.proofs.ReadLemmas.{from_one, of_plan, places_of_plan}
 use Rattle.early_report.proofs.ToldLemmas.{known_sets}
-use Rattle.early_report.proofs.laws.drains_stay_by_law.Goals as goal
+use Rattle.early_report.proofs.theorems.drains_stay_by_law.Goals as goal
 
 pub returns-clause-closed : goal.returns-clause-closed
 returns-clause-closed c = closed_stays

@@ -1,0 +1,2 @@
+-- What crates above may cite of this crate's lemmas: the others are its own.
+pub use Rattle.job_input.proofs.OneInput.{came_is, left_is, one_job, came_job, too_many, read_wanting, one_bytes}

@@ -1,0 +1,8 @@
+-- What crates above may cite of this crate's lemmas: the others are its own.
+pub use Rattle.marks_file.proofs.Parts.{is_place, is_module, is_session_name}
+pub use Rattle.marks_file.proofs.MarksLemmas.{both-left, both-right, both, le_of_test, same_bytes, marks_have_rows, marks_count}
+pub use Rattle.marks_file.proofs.MarksLemmas.{kept_modules}
+pub use Rattle.marks_file.proofs.FieldLemmas.{first_none, first_some, none_left, none_right, all_good}
+pub use Rattle.marks_file.proofs.SpellLemmas.{set_read}
+pub use Rattle.marks_file.proofs.HeadingLemmas.{told_all}
+pub use Rattle.marks_file.proofs.FileLemmas.{one_table, same_marks, file_read, file_found, file_long, one_modules, marks_found, one_end}

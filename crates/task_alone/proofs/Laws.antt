@@ -1,0 +1,2 @@
+-- What crates above may cite of this crate's lemmas: the others are its own.
+pub use Rattle.task_alone.proofs.RunLemmas.{ran_of}
