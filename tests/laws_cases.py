@@ -1,0 +1,48 @@
+"""Crates cite the lemmas of crates below them through proofs/Laws.antt alone, and tests/laws tells where that isn't so."""
+from __future__ import annotations
+
+import os
+import shutil
+import subprocess
+
+from harness import TOP, equal, folder
+
+
+def laws(top: str) -> subprocess.CompletedProcess[str]:
+    return subprocess.run([f"{top}/tests/laws"], capture_output=True, text=True, check=False)
+
+
+def in_place() -> None:
+    """tests/laws: crates cite what Laws passes on, and nothing else"""
+    ran = laws(TOP)
+    count = ran.stdout.split(" ", maxsplit=1)[0]
+    assert not ran.returncode and count.isdecimal() and 100 < int(count) < 600, ran.stdout[-300:] + ran.stderr
+
+
+def otherwise() -> None:
+    """tests/laws: another module's lemma, a public module, a lemma in Laws and a name that no one cites are told"""
+    with folder() as at:
+        os.mkdir(f"{at}/tests")
+        shutil.copy2(f"{TOP}/tests/laws", f"{at}/tests/laws")
+        for name, text in {
+            "low/proofs/Lib.antt": "pub mod Sums\npub mod Laws\n",
+            "low/proofs/Laws.antt": "-- Laws.\npub use Rattle.low.proofs.Sums.{one, two, three, four}\npub five : one\n",
+            "low/proofs/Sums.antt": "use Rattle.low.proofs.Sums.{one}\n",
+            "high/proofs/add/Answers.antt": "use Rattle.low.proofs.Laws.{one, two as second}\nuse Rattle.low.proofs.Sums.{six}\n",
+            "high/src/lib.rt": "#![tactic(auto, using(low::proofs::Laws::three, low::proofs::Sums::seven, crate::proofs::Own::eight))]\n",
+        }.items():
+            os.makedirs(os.path.dirname(f"{at}/crates/{name}"), exist_ok=True)
+            with open(f"{at}/crates/{name}", "w", encoding="utf-8") as file:
+                file.write(text)
+        ran = laws(at)
+    equal((ran.returncode, ran.stdout.splitlines()), (1, [
+        "crates/high/proofs/add/Answers.antt cites low.proofs.Sums",
+        "crates/high/src/lib.rt cites low.proofs.Sums",
+        "low: proofs.Sums is public",
+        "low: no crate cites four of proofs.Laws",
+        "low: proofs.Laws has 'pub five : one'",
+        "4 lemmas are cited by crates above theirs",
+    ]))
+
+
+CHECKS = [in_place, otherwise]
