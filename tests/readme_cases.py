@@ -117,11 +117,11 @@ def length_of_readme() -> None:
     assert words < 1200, f"{words} words"
 
 
-def crates_of_readme() -> None:
-    """README.md: it names the crates of crates.txt, in their order"""
+def crates_described() -> None:
+    """docs/ARCHITECTURE.md: its table has each crate of crates.txt once, and no other"""
     listed = [it.partition(":")[0] for it in text_of("crates.txt").splitlines() if ":" in it and not it.startswith("#")]
-    named = " ".join(text_of("README.md").split()).partition("Its crates, lowest first")[2].partition("): ")[2]
-    equal(named, ", ".join(listed) + ".")
+    table = text_of("docs/ARCHITECTURE.md").partition("| Crate |")[2].partition("\n\n")[0]
+    equal(sorted(", ".join(re.findall(r"(?m)^\| (\w[\w, ]*) \|", table)).split(", ")), sorted(listed))
 
 
-CHECKS = [commands_in_help, trouble, length_of_readme, crates_of_readme]
+CHECKS = [commands_in_help, trouble, length_of_readme, crates_described]
