@@ -172,11 +172,11 @@ blank = 32
 abbrev pub is_letter : ℕ → Bool
 is_letter b = (nat_le 65 b && nat_le b 90) || (nat_eq b 64 || (nat_eq b 35 || nat_eq b 36))
 
-abbrev pub is_digit : ℕ → Bool
-is_digit b = nat_le 48 b && nat_le b 57
+abbrev pub is_digit_byte : ℕ → Bool
+is_digit_byte b = nat_le 48 b && nat_le b 57
 
 abbrev pub is_name_byte : ℕ → Bool
-is_name_byte b = is_letter b || is_digit b
+is_name_byte b = is_letter b || is_digit_byte b
 
 abbrev pub is_name : List ℕ → Bool
 is_name w = nat_le 1 (length w) && nat_le (length w) 8 && is_letter (slice_index w 0) && list_all is_name_byte w

@@ -1,7 +1,7 @@
 //! Names of modules, phases, sessions and tasks.
 ghost use Rattle.std.specs.Prelude.{⊤, ◌≡◌, ◌≤◌, ◌<◌, length, true, false, take, IfSome, IsNone};
 ghost use Rattle.std.specs.List.{list_all};
-ghost use Rattle.cov_base.specs.Meaning.{is_letter, is_digit, is_name_byte, is_name, is_filled, name_at, padded, unpadded};
+ghost use Rattle.cov_base.specs.Meaning.{is_letter, is_digit_byte, is_name_byte, is_name, is_filled, name_at, padded, unpadded};
 
 use std::alloc::AllocError;
 use std::marker::Model;

@@ -13,7 +13,7 @@ use Rattle.s370_state.specs.declared.endings.Next.TheVariants.{On, Ended}
 use Rattle.s370_decode.specs.Meaning.{ex, op_of}
 use Rattle.s370_decode.specs.declared.code.Code.{Code}
 use Rattle.s370_branch.specs.Meaning.{goes}
-use Rattle.s370_exec.specs.Meaning.{effect, updated, link_code, code_at, first_tests, rest_tests, subject_tests, is_execute, Step, Run, solo_step, from_first, fetched, begun_step, stepped, visit, behind, subject_step, subject_fetched, run_on, run_after, run_ended, has_returned}
+use Rattle.s370_exec.specs.Meaning.{effect, updated, link_code, code_at, first_tests, rest_tests, subject_tests, is_execute, Step, Run, solo_step, from_first, fetched, begun_step, stepped, visit, behind, subject_step, subject_fetched, run_from, run_after, run_ended, has_returned}
 use Rattle.s370_exec.proofs.Laws.{solo_step-done}
 use Rattle.module_area.specs.Meaning.{shows, place_of}
 use Rattle.module_area.specs.declared.places.Place.{Place}
@@ -74,14 +74,14 @@ after_below : (more : State → List Visit → Run) (u : State) (trace visits : 
 after_below more u trace visits On top a b rest = rest (trace ++ visits) (below_append top trace visits a b)
 after_below more u trace visits (Ended e) top a b rest = below_append top trace visits a b
 
-run_below : (m : Memory) (n : ℕ) (s : State) (trace : List Visit) (top : ℕ) → s.done + n ≤ top → AreBelow top trace → AreBelow top (run_on m n s trace).trace
-unfolding run_on
+run_below : (m : Memory) (n : ℕ) (s : State) (trace : List Visit) (top : ℕ) → s.done + n ≤ top → AreBelow top trace → AreBelow top (run_from m n s trace).trace
+unfolding run_from
 run_below m zero s trace top le is = is
 run_below m (suc n) s trace top le is =
-    cond_both (has_returned s) (run_ended Returned s trace) (run_after (λ t more. run_on m n t more) trace (solo_step m s).state (solo_step m s).visits (solo_step m s).next)
+    cond_both (has_returned s) (run_ended Returned s trace) (run_after (λ t more. run_from m n t more) trace (solo_step m s).state (solo_step m s).visits (solo_step m s).next)
     (λ (r : Run). AreBelow top r.trace)
     (λ e. is)
-    (λ e. after_below (λ t more. run_on m n t more) (solo_step m s).state trace (solo_step m s).visits (solo_step m s).next top is (step_below m s top (omega arith))
+    (λ e. after_below (λ t more. run_from m n t more) (solo_step m s).state trace (solo_step m s).visits (solo_step m s).next top is (step_below m s top (omega arith))
     (λ longer so_far. run_below m n (solo_step m s).state longer top (omega (arith, solo_step-done m s)) so_far))
 
 budget_most : (j : JobView) (t : ℕ) → IsJob j → (task_of j t).budget ≤ BUDGET_LIMIT

@@ -9,7 +9,7 @@ use Rattle.s370_state.specs.declared.endings.Ending.{Ending}
 use Rattle.s370_state.specs.declared.endings.Ending.TheVariants.{Returned, Spent}
 use Rattle.s370_state.specs.declared.endings.Next.{Next}
 use Rattle.s370_state.specs.declared.endings.Next.TheVariants.{On, Ended as NextEnded}
-use Rattle.s370_exec.specs.Meaning.{Run, solo_run, solo_step, run_on, run_after, run_ended, has_returned}
+use Rattle.s370_exec.specs.Meaning.{Run, solo_run, solo_step, run_from, run_after, run_ended, has_returned}
 use Rattle.s370_exec.proofs.Laws.{solo_step-done}
 use Rattle.session_book.specs.Meaning.{task_of, no_task, first_state}
 use Rattle.interleave_core.specs.Meaning.{World, TaskPart, Parts, part_of, first_part, memory_in, budget_in, first_parts, place_at, PlaceChange, Stepped, parts_step, cell_fetched, fact_marked, lifted, done_by, changed, with_due, original_under, same_cell, in_hand, with_stage, step_of, is_spent, executed, stage_after, place_due, task_goes_on, task_done, subject_place, instruction_executed, awaits_or, same_due}
@@ -39,21 +39,21 @@ pub record Goes (m : Memory) (budget : ℕ) (first : State) (u : TaskPart) : Typ
   pub trace : List Visit
   pub within : u.state.done ≤ budget
   pub state : solo_run m u.state.done first ≡ run_ended (solo_run m u.state.done first).ending u.state trace
-  pub going : has_ended u.stage ≡ false → (k : ℕ) → solo_run m (u.state.done + k) first ≡ run_on m k u.state trace
+  pub going : has_ended u.stage ≡ false → (k : ℕ) → solo_run m (u.state.done + k) first ≡ run_from m k u.state trace
   pub ended : (e : Ending) → u.stage ≡ Ended e → solo_run m budget first ≡ run_ended e u.state trace
   pub inside : is_inside u.stage ≡ true → (has_returned u.state ≡ false) × (u.state.done < budget)
 
-pub run_zero : (m : Memory) (s : State) (trace : List Visit) → run_on m 0 s trace ≡ run_ended (if has_returned s then Returned else Spent) s trace
-unfolding run_on
+pub run_zero : (m : Memory) (s : State) (trace : List Visit) → run_from m 0 s trace ≡ run_ended (if has_returned s then Returned else Spent) s trace
+unfolding run_from
 run_zero m s trace = refl
 
 run_more : (m : Memory) (k : ℕ) (s : State) (trace : List Visit) → has_returned s ≡ false →
-    run_on m (suc k) s trace ≡ run_after (λ t more. run_on m k t more) trace (solo_step m s).state (solo_step m s).visits (solo_step m s).next
-unfolding run_on
+    run_from m (suc k) s trace ≡ run_after (λ t more. run_from m k t more) trace (solo_step m s).state (solo_step m s).visits (solo_step m s).next
+unfolding run_from
 run_more m k s trace h = rw h refl
 
-run_returned : (m : Memory) (k : ℕ) (s : State) (trace : List Visit) → has_returned s ≡ true → run_on m k s trace ≡ run_ended Returned s trace
-unfolding run_on
+run_returned : (m : Memory) (k : ℕ) (s : State) (trace : List Visit) → has_returned s ≡ true → run_from m k s trace ≡ run_ended Returned s trace
+unfolding run_from
 run_returned m zero s trace h = rw h refl
 run_returned m (suc k) s trace h = rw h refl
 
@@ -121,12 +121,12 @@ goes_spent m budget first u was on spent g =
 
 -- the run goes on behind an executed instruction
 on_step : (m : Memory) (first : State) (u : TaskPart) (n : ℕ) (trace : List Visit) (next : Next) → (solo_step m u.state).next ≡ next → has_returned u.state ≡ false →
-    ((k : ℕ) → solo_run m (u.state.done + k) first ≡ run_on m k u.state trace) → (k : ℕ) →
-    solo_run m (u.state.done + 1 + k) first ≡ run_after (λ t more. run_on m k t more) trace (solo_step m u.state).state (solo_step m u.state).visits next
+    ((k : ℕ) → solo_run m (u.state.done + k) first ≡ run_from m k u.state trace) → (k : ℕ) →
+    solo_run m (u.state.done + 1 + k) first ≡ run_after (λ t more. run_from m k t more) trace (solo_step m u.state).state (solo_step m u.state).visits next
 on_step m first u n trace next is on going k =
     let more : u.state.done + 1 + k ≡ u.state.done + suc k = omega arith in
     ap (λ (j : ℕ). solo_run m j first) more ∙ (going (suc k) ∙ (run_more m k u.state trace on
-    ∙ ap (λ (x : Next). run_after (λ t more. run_on m k t more) trace (solo_step m u.state).state (solo_step m u.state).visits x) is))
+    ∙ ap (λ (x : Next). run_after (λ t more. run_from m k t more) trace (solo_step m u.state).state (solo_step m u.state).visits x) is))
 
 executed_by : (m : Memory) (budget : ℕ) (first : State) (u : TaskPart) (next : Next) → (solo_step m u.state).next ≡ next → has_ended u.stage ≡ false → has_returned u.state ≡ false → u.state.done < budget →
     Goes m budget first u → Goes m budget first (record u { state = (solo_step m u.state).state; stage = stage_after next })
@@ -134,7 +134,7 @@ executed_by m budget first u On is was on below g =
     let s : State = (solo_step m u.state).state in
     let trace : List Visit = g.trace ++ (solo_step m u.state).visits in
     let one : s.done ≡ u.state.done + 1 = solo_step-done m u.state in
-    let runs : (k : ℕ) → solo_run m (s.done + k) first ≡ run_on m k s trace = λ k. ap (λ (j : ℕ). solo_run m (j + k) first) one ∙ on_step m first u 0 g.trace On is on (g.going was) k in
+    let runs : (k : ℕ) → solo_run m (s.done + k) first ≡ run_from m k s trace = λ k. ap (λ (j : ℕ). solo_run m (j + k) first) one ∙ on_step m first u 0 g.trace On is on (g.going was) k in
     let none : s.done + 0 ≡ s.done = omega arith in
     let here : solo_run m s.done first ≡ run_ended (if has_returned s then Returned else Spent) s trace = ap (λ (j : ℕ). solo_run m j first) (sym none) ∙ (runs 0 ∙ run_zero m s trace) in
     record {
@@ -162,7 +162,7 @@ executed_by m budget first u (NextEnded e) is was on below g =
       inside = λ h. let f : false ≡ true = h in absurd cc;
     }
 
-by_next : (m : Memory) (trace : List Visit) (s : State) (visits : List Visit) (next : Next) → (run_after (λ t more. run_on m 0 t more) trace s visits next).trace ≡ trace ++ visits
+by_next : (m : Memory) (trace : List Visit) (s : State) (visits : List Visit) (next : Next) → (run_after (λ t more. run_from m 0 t more) trace s visits next).trace ≡ trace ++ visits
 by_next m trace s visits On = ap (λ (r : Run). r.trace) (run_zero m s (trace ++ visits))
 by_next m trace s visits (NextEnded e) = refl
 

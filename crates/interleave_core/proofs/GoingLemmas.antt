@@ -14,7 +14,7 @@ use Rattle.s370_state.specs.declared.endings.Next.TheVariants.{On, Ended as Next
 use Rattle.s370_exec.specs.Meaning.{has_returned}
 use Rattle.s370_exec.proofs.Laws.{solo_step-done}
 use Rattle.session_book.specs.Meaning.{no_task}
-use Rattle.interleave_core.specs.Meaning.{World, TaskPart, Parts, part_of, first_part, plan_in, memory_in, budget_in, place_at, change_due, task_goes_on, Stepped, parts_step, events_on, of_existing, task_replaced, with_stage, with_due, with_cell, place_due, is_spent, is_awaiting, due_after_fetch, hand_at, cell_fetched, fact_marked, lifted, in_hand, same_due, same_cell, original_under, step_of, subject_place, executed, stage_after, instruction_executed, awaits_or, ready_done, task_done, done_by, set_of, fact_in, next_of, stage_event, PlaceChange, change_of, next_place, most_events}
+use Rattle.interleave_core.specs.Meaning.{World, TaskPart, Parts, part_of, first_part, plan_in, memory_in, budget_in, place_at, change_due, task_goes_on, Stepped, parts_step, run_on, of_existing, task_replaced, with_stage, with_due, with_cell, place_due, is_spent, is_awaiting, due_after_fetch, hand_at, cell_fetched, fact_marked, lifted, in_hand, same_due, same_cell, original_under, step_of, subject_place, executed, stage_after, instruction_executed, awaits_or, ready_done, task_done, done_by, set_of, fact_in, next_of, stage_event, PlaceChange, change_of, next_place, most_events}
 use Rattle.interleave_core.specs.Going.{after, go_events}
 use Rattle.interleave_core.specs.CoreState.{is_by, is_task}
 use Rattle.interleave_core.specs.declared.events.Event.{Event}
@@ -326,23 +326,23 @@ left_most w c t = by (part_of c t).stage
 
 -- the task's next events, at most so many, one after the other
 abbrev pub gone_by : World → ℕ → Parts → TaskNo → Option Parts
-gone_by w n c t = events_on w c (go_events w n c t)
+gone_by w n c t = run_on w c (go_events w n c t)
 
 -- the task's next event, and those behind it
 go_one : (w : World) (n : ℕ) (c : Parts) (t : TaskNo) (e : Event) (x : Stepped) → next_of w c t ≡ Some e → parts_step w c e ≡ Some x → gone_by w (suc n) c t ≡ gone_by w n x.parts t
 go_one w n c t e x q step =
-    ap (λ (o : Option Event). events_on w c (option_map_or (λ (e : Event). e ∷ go_events w n (after c (parts_step w c e)) t) o [])) q
-    ∙ (ap (λ (o : Option Stepped). events_on w c (e ∷ go_events w n (after c o) t)) step
-    ∙ ap (option_and_then (λ (y : Stepped). events_on w y.parts (go_events w n x.parts t))) step)
+    ap (λ (o : Option Event). run_on w c (option_map_or (λ (e : Event). e ∷ go_events w n (after c (parts_step w c e)) t) o [])) q
+    ∙ (ap (λ (o : Option Stepped). run_on w c (e ∷ go_events w n (after c o) t)) step
+    ∙ ap (option_and_then (λ (y : Stepped). run_on w y.parts (go_events w n x.parts t))) step)
 
 pub go_none : (w : World) (n : ℕ) (c : Parts) (t : TaskNo) → next_of w c t ≡ None → gone_by w n c t ≡ Some c
 go_none w zero c t q = refl
-go_none w (suc n) c t q = ap (λ (o : Option Event). events_on w c (option_map_or (λ (e : Event). e ∷ go_events w n (after c (parts_step w c e)) t) o [])) q
+go_none w (suc n) c t q = ap (λ (o : Option Event). run_on w c (option_map_or (λ (e : Event). e ∷ go_events w n (after c (parts_step w c e)) t) o [])) q
 
 go_stuck : (w : World) (n : ℕ) (c : Parts) (t : TaskNo) (e : Event) → next_of w c t ≡ Some e → parts_step w c e ≡ None → gone_by w (suc n) c t ≡ None
 go_stuck w n c t e q step =
-    ap (λ (o : Option Event). events_on w c (option_map_or (λ (e : Event). e ∷ go_events w n (after c (parts_step w c e)) t) o [])) q
-    ∙ ap (option_and_then (λ (y : Stepped). events_on w y.parts (go_events w n (after c (parts_step w c e)) t))) step
+    ap (λ (o : Option Event). run_on w c (option_map_or (λ (e : Event). e ∷ go_events w n (after c (parts_step w c e)) t) o [])) q
+    ∙ ap (option_and_then (λ (y : Stepped). run_on w y.parts (go_events w n (after c (parts_step w c e)) t))) step
 
 -- the number of events makes no difference once it is as many as are left
 go_enough : (w : World) (n : ℕ) (c : Parts) (t : TaskNo) → IsPlan (plan_in w) → left w c t.0 ≤ n → (m : ℕ) → left w c t.0 ≤ m → gone_by w n c t ≡ gone_by w m c t

@@ -3,7 +3,7 @@ use Rattle.std.proofs.Common.{◌≡◌, ◌≢◌, ◌⊎◌, ℕ, Bool, true, 
 use Rattle.std.proofs.lemmas.Option.{same_Some}
 use Rattle.std.specs.Option.{option_and_then}
 use Rattle.module_area.specs.declared.cells.Cell.{Cell}
-use Rattle.interleave_core.specs.Meaning.{World, Parts, Stepped, parts_step, events_on, in_hand, same_due, with_cell}
+use Rattle.interleave_core.specs.Meaning.{World, Parts, Stepped, parts_step, run_on, in_hand, same_due, with_cell}
 use Rattle.interleave_core.specs.CoreState.{CoreState, CoreStepped, core_step, core_from, go_on}
 use Rattle.interleave_core.specs.declared.events.Event.{Event}
 use Rattle.interleave_core.specs.declared.stage.Due.{Due}
@@ -58,11 +58,11 @@ core_from-append w c d (e ∷ xs) ys h =
     let at = through (λ b. core_from w b xs) (core_step w c e) d h in
     ap (go_on (λ b. core_from w b (xs ++ ys))) at.1 ∙ core_from-append w at.0.core d xs ys at.2
 
-pub run_on-append : (w : World) (c d : Parts) (xs ys : List Event) → events_on w c xs ≡ Some d → events_on w c (xs ++ ys) ≡ events_on w d ys
-run_on-append w c d [] ys h = ap (λ (b : Parts). events_on w b ys) (same_Some c d h)
+pub run_on-append : (w : World) (c d : Parts) (xs ys : List Event) → run_on w c xs ≡ Some d → run_on w c (xs ++ ys) ≡ run_on w d ys
+run_on-append w c d [] ys h = ap (λ (b : Parts). run_on w b ys) (same_Some c d h)
 run_on-append w c d (e ∷ xs) ys h = by (λ b q. run_on-append w b d xs ys q) (parts_step w c e) h
   where
-    by : ((b : Parts) → events_on w b xs ≡ Some d → events_on w b (xs ++ ys) ≡ events_on w d ys) → (o : Option Stepped) →
-        option_and_then (λ (x : Stepped). events_on w x.parts xs) o ≡ Some d → option_and_then (λ (x : Stepped). events_on w x.parts (xs ++ ys)) o ≡ events_on w d ys
+    by : ((b : Parts) → run_on w b xs ≡ Some d → run_on w b (xs ++ ys) ≡ run_on w d ys) → (o : Option Stepped) →
+        option_and_then (λ (x : Stepped). run_on w x.parts xs) o ≡ Some d → option_and_then (λ (x : Stepped). run_on w x.parts (xs ++ ys)) o ≡ run_on w d ys
     by more None q = let n : None ≡ Some d = q in absurd cc
     by more (Some x) q = more x.parts q

@@ -2,7 +2,7 @@
 use Rattle.std.specs.Prelude.{◌≡◌, ℕ, zero, suc, true, false, Option, Some, None, is_none, List, [], ◌∷◌, All}
 use Rattle.std.specs.Option.{option_map_or}
 use Rattle.cov_base.specs.declared.numbers.TaskNo.{TaskNo}
-use Rattle.interleave_core.specs.Meaning.{World, Parts, Stepped, parts_step, events_on, next_of, most_events}
+use Rattle.interleave_core.specs.Meaning.{World, Parts, Stepped, parts_step, run_on, next_of, most_events}
 use Rattle.interleave_core.specs.CoreState.{is_by}
 use Rattle.interleave_core.specs.Results.{IsOver}
 use Rattle.interleave_core.specs.declared.events.Event.{Event}
@@ -26,5 +26,5 @@ all_events w c t = go_events w (most_events w t.0) c t
 pub record HasGone (w : World) (old new : Parts) (t : TaskNo) : Type 0 where
   pub begun : is_none (next_of w old t) ≡ false
   pub own : All (λ e. is_by w e t.0 ≡ true) (all_events w old t)
-  pub run : events_on w old (all_events w old t) ≡ Some new
+  pub run : run_on w old (all_events w old t) ≡ Some new
   pub ended : IsOver new t.0

@@ -313,9 +313,9 @@ parts_step w c (Plant s p) = by_controller w c false s.0 p.0 (whole_step w c s.0
 parts_step w c (Close s p) = by_controller w c true s.0 p.0 None (controller_of w s.0)
 
 -- what is stored after the events, one after the other; none where one of them isn't possible
-abbrev pub events_on : World → Parts → List Event → Option Parts
-events_on w c [] = Some c
-events_on w c (e ∷ events) = option_and_then (λ (x : Stepped). events_on w x.parts events) (parts_step w c e)
+abbrev pub run_on : World → Parts → List Event → Option Parts
+run_on w c [] = Some c
+run_on w c (e ∷ events) = option_and_then (λ (x : Stepped). run_on w x.parts events) (parts_step w c e)
 
 -- What a core tells of its tasks, and the event that is due of one.
 

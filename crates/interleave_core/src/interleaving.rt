@@ -5,7 +5,7 @@ ghost use Rattle.module_area.specs.Meaning.{word_at};
 ghost use Rattle.module_area.specs.Notes.{is_closed};
 ghost use Rattle.brk_table.specs.Places.{IsIn};
 ghost use Rattle.cov_base.specs.declared.limits.TheConstants.{SESSION_LIMIT};
-ghost use Rattle.interleave_core.specs.Meaning.{first_parts, plan_in, controller_of, whole_step, changed_cell, parts_step, events_on, set_of, next_of, results_of};
+ghost use Rattle.interleave_core.specs.Meaning.{first_parts, plan_in, controller_of, whole_step, changed_cell, parts_step, run_on, set_of, next_of, results_of};
 ghost use Rattle.interleave_core.specs.World.{IsWorld, world_of};
 ghost use Rattle.interleave_core.specs.CoreState.{core_start, KeepsRule};
 ghost use Rattle.interleave_core.specs.MeaningOfEvents.{Stands};
@@ -317,7 +317,7 @@ impl<'a> Core<'a> {
     fn go_on(&mut self, t: TaskNo)
         ensures world { self.new.world ≡ self.old.world }
         ensures fits { Fits self.new.world self.new.parts }
-        ensures run { events_on self.old.world self.old.parts (all_events self.old.world self.old.parts t) ≡ Some self.new.parts }
+        ensures run { run_on self.old.world self.old.parts (all_events self.old.world self.old.parts t) ≡ Some self.new.parts }
         ensures ended { t.0 < length self.old.world.job.tasks → IsOver self.new.parts t.0 }
     {
         self.fits();

@@ -20,7 +20,7 @@ module _ (d : Inside) (n : List ℕ) (h : HasNames d) where
   pub module_found : has d.names.modules n ≡ has_module (draft_view d) n
   module_found = ap (λ (x : JobNames). has x.modules n) h ∙ has-map (λ (i : ImageView). i.name) d.images.items n
 
-  pub module_index : index_of d.names.modules n ≡ adding.index_of (draft_view d) n
+  pub module_index : index_of d.names.modules n ≡ adding.image_index (draft_view d) n
   module_index = ap (λ (x : JobNames). index_of x.modules n) h ∙ index_of-map (λ (i : ImageView). i.name) d.images.items n
 
   pub session_found : has d.names.sessions n ≡ list_any (λ s. bytes_eq s.name n) (draft_view d).sessions

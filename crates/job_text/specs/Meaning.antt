@@ -2,7 +2,7 @@
 use Rattle.std.specs.Prelude.{ℕ, Bool, true, ◌&&◌, nat_eq, Option, Some, None, List, map, option_and_then, position, ◌+◌, ◌-◌, false, not, ◌||◌, nat_le, nat_lt, if◌then◌else◌, [], ◌∷◌, ◌++◌, length, option_map, take, slice_index, ◌*◌, Result, Ok, Err, ◌≡◌, ◌%◌, codes, ◌≤◌, slice_set, ◌⊎◌, ◌<◌, All, AllPairs}
 use Rattle.std.specs.List.{list_any, list_all, concat}
 use Rattle.std.specs.Str.{bytes_eq}
-use Rattle.cov_base.specs.Meaning.{ImageView, is_digit, name_at}
+use Rattle.cov_base.specs.Meaning.{ImageView, is_digit_byte, name_at}
 use Rattle.session_book.specs.Meaning.{JobView, SessionView, TaskView, first_regs, task_named}
 use Rattle.module_area.specs.Meaning.{DataView}
 use Rattle.hex.specs.Hex.{decode_of, decode_sized}
@@ -218,7 +218,7 @@ decimal_value n (b ∷ bs) = decimal_value (10 * n + (b - 48)) bs
 
 -- 1 to 9 digits without a leading zero, but 0 itself
 abbrev pub is_number : List ℕ → Bool
-is_number w = nat_le 1 (length w) && nat_le (length w) 9 && (not (nat_eq (slice_index w 0) 48) || nat_eq (length w) 1) && list_all is_digit w
+is_number w = nat_le 1 (length w) && nat_le (length w) 9 && (not (nat_eq (slice_index w 0) 48) || nat_eq (length w) 1) && list_all is_digit_byte w
 
 abbrev pub card_number : List ℕ → Option ℕ
 card_number w = if is_number w then Some (decimal_value 0 w) else None

@@ -2,7 +2,7 @@
 use Rattle.std.specs.Prelude.{◌≡◌, ℕ, ◌+◌, ◌-◌, ◌≤◌, Bool, true, false, not, nat_eq, nat_le, if◌then◌else◌, Option, Some, None, List, [], ◌∷◌, ◌++◌, length, option_map, option_and_then}
 use Rattle.cov_base.specs.Meaning.{ImageView}
 use Rattle.cov_base.specs.declared.limits.TheConstants.{MODULE_LIMIT, SIZE_LIMIT, LINE_LIMIT, PHASE_LIMIT, SESSION_LIMIT, TASK_LIMIT, PRIVATE_LIMIT, BUDGET_LIMIT, ROOM_LIMIT}
-use Rattle.job_text.specs.Meaning.{DraftView, Controllers, are_met, LineView, listing_text, CardView, Cover, Module, Text, Listing, Serve, Phase, Session, Task, End, card_at, no_job, has_module, fits, with_module, with_service, with_phase, with_new_session, has_task, with_task}
+use Rattle.job_text.specs.Meaning.{DraftView, Controllers, are_met, LineView, listing_text, CardView, Cover, Module, Text, Listing, Serve, Phase, Session, Task, End, card_at, no_job, has_module, fits, with_module, with_service, with_phase, with_new_session, has_task, with_task, put_index, image_index}
 use Rattle.session_book.specs.declared.services.Service.{Service}
 use Rattle.job_text.specs.TaskParts.{fresh_task, task_more}
 use Rattle.job_text.specs.declared.grammar.Grammar.{Grammar}
@@ -27,6 +27,10 @@ plain st = state st.part st.job None
 
 abbrev pub start : Grammar → State
 start g = state part.Start (no_job g) None
+
+-- the modules behind these, with the one of this name
+abbrev pub put_named : DraftView → Option (List ℕ) → List ℕ → List ℕ → Option (List ℕ)
+put_named j by used name = put_index j by used (image_index j name)
 
 abbrev pub is_start : Part → Bool
 is_start part.Start = true

@@ -15,7 +15,7 @@ use std::alloc::Global;
 /// The task of the phase that has this name, by the names of the tasks.
 fn controller_of(names: &NameList, tasks: &[TaskCard], phase: u32, name: &Name) -> Option<usize>
     requires { names.now ≡ task_names tasks.now }
-    ensures index { result ≡ drafts.controller_of tasks.now phase name.now }
+    ensures index { result ≡ drafts.controller_named tasks.now phase name.now }
     ensures within { IfSome result (λ i. i < length tasks.now) }
 {
     let at = names.index_of(name)?;
@@ -44,7 +44,7 @@ pub(crate) fn are_met(job: &Draft) -> bool
 fn index_of(names: &NameList, tasks: &[TaskCard], phase: u32, by: Option<Name>) -> Option<u32>
     requires few { length tasks.now ≤ TASK_LIMIT }
     requires names { names.now ≡ task_names tasks.now }
-    ensures { result ≡ option_and_then (drafts.controller_of tasks.now phase) by }
+    ensures { result ≡ option_and_then (drafts.controller_named tasks.now phase) by }
 {
     let name = by?;
     let at = controller_of(names, tasks, phase, &name)?;

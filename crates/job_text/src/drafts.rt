@@ -57,7 +57,7 @@ pub(crate) fn has_task(job: &Draft, name: &Name) -> bool
 }
 
 fn index_of(job: &Draft, name: &Name) -> Option<usize>
-    ensures index { result ≡ adding.index_of job.now name.now }
+    ensures index { result ≡ adding.image_index job.now name.now }
     ensures within { IfSome result (λ i. i < length job.now.images) }
 {
     job.names.modules.index_of(name)
@@ -116,7 +116,7 @@ fn put_index(
 ) -> Result<Option<Vec<u32>>, NoMemory>
     requires modules { length job.now.images ≤ MODULE_LIMIT }
     requires phases { length job.now.phases ≤ PHASE_LIMIT }
-    ensures { IfOk result (λ o. adding.put_index job.now by.now used.items (adding.index_of job.now name.now) ≡ option_map (λ v. v.items) o) }
+    ensures { IfOk result (λ o. machine.put_named job.now by.now used.items name.now ≡ option_map (λ v. v.items) o) }
 {
     match index_of(job, name) {
         None => Ok(None),
@@ -335,7 +335,7 @@ pub(crate) fn with_session(
 ) -> Result<Option<Draft>, NoMemory>
     requires modules { length job.images ≤ MODULE_LIMIT }
     requires phases { length job.phases ≤ PHASE_LIMIT }
-    ensures { IfOk result (λ o. o ≡ adding.with_session job name by names.now) }
+    ensures { IfOk result (λ o. o ≡ adding.with_new_session job name by names.now) }
 {
     if has_session(&job, &name) || !may_have(&job, &by) {
         return Ok(None);

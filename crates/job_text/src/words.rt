@@ -2,7 +2,7 @@
 ghost use Rattle.std.specs.Prelude.{◌≡◌, ◌+◌, ◌*◌, ◌<◌, map, IfOk, option_map, nat_eq, position};
 ghost use Rattle.std.specs.Str.{bytes_eq};
 ghost use Rattle.std.specs.List.{list_all};
-ghost use Rattle.cov_base.specs.Meaning.{is_digit};
+ghost use Rattle.cov_base.specs.Meaning.{is_digit_byte};
 ghost use Rattle.job_text.specs.Meaning as spell;
 
 use cov_base::{Addr, Name};
@@ -38,13 +38,13 @@ pub(crate) fn is(word: &[u8], text: &[u8]) -> bool
 }
 
 fn is_digit(b: u8) -> bool
-    ensures { result ≡ is_digit b }
+    ensures { result ≡ is_digit_byte b }
 {
     b >= b'0' && b <= b'9'
 }
 
 fn all_digits(word: &[u8]) -> bool
-    ensures { result ≡ list_all is_digit word.now }
+    ensures { result ≡ list_all is_digit_byte word.now }
 {
     word.iter().all(|b| is_digit(*b))
 }
@@ -57,7 +57,7 @@ fn is_number(word: &[u8]) -> bool
 
 /// The number of 1 to 9 digits without a leading zero, but 0 itself.
 pub(crate) fn number_of(word: &[u8]) -> Option<u32>
-    ensures { result ≡ spell.number_at word.now }
+    ensures { result ≡ spell.card_number word.now }
 {
     if !is_number(word) {
         return None;
@@ -97,7 +97,7 @@ pub(crate) fn address_of(word: &[u8]) -> Option<Addr>
 
 /// The word of eight hexadecimal digits of either case.
 pub(crate) fn word_of(word: &[u8]) -> Option<u32>
-    ensures { result ≡ spell.word_at word.now }
+    ensures { result ≡ spell.card_word word.now }
 {
     match <[u8; 4] as FromHex>::from_hex(word) {
         Ok(bytes) => Some(u32::from_be_bytes(bytes)),

@@ -95,8 +95,8 @@ results_kept s a l k = Overflows (with_cc (with_bytes s (store_field s.bytes a l
 
 -- the whole magnitude: where n is below 32, n digits to the left; else 64 - n digits to the right, after the rounding digit
 -- i was added to the last digit that goes
-unfoldable pub shifted : ℕ → ℕ → ℕ → ℕ
-shifted v i n = if nat_lt n 32 then v * 10 ^ n else (v + i * 10 ^ (63 - n)) / 10 ^ (64 - n)
+unfoldable pub digits_shifted : ℕ → ℕ → ℕ → ℕ
+digits_shifted v i n = if nat_lt n 32 then v * 10 ^ n else (v + i * 10 ^ (63 - n)) / 10 ^ (64 - n)
 
 -- The row of each decimal operation (Principles of Operation, "Decimal Instructions").
 
@@ -129,5 +129,5 @@ decimal_row MP c m s = Some (needing (is_shorter c) (on_both m s c (multiplied s
 decimal_row DP c m s = Some (needing (is_shorter c) (on_both m s c (divided_fields s c)))
 -- the rounding digit, in bits 12-15, is to be a digit too
 decimal_row SRP c m s = Some (storing (e1 s.cpu c) (l1 c + 1) (on_data (if nat_le (r2 c) 9 then field_at m s.bytes (e1 s.cpu c) (l1 c) else None)
-    (λ f. results_kept s (e1 s.cpu c) (l1 c) (kept (l1 c) (shifted f.magnitude (r2 c) (shift_distance s.cpu c)) f.minus))))
+    (λ f. results_kept s (e1 s.cpu c) (l1 c) (kept (l1 c) (digits_shifted f.magnitude (r2 c) (shift_distance s.cpu c)) f.minus))))
 decimal_row _ c m s = None

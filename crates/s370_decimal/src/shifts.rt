@@ -6,7 +6,7 @@ ghost use Rattle.cov_base.specs.Meaning.{can_reach};
 ghost use Rattle.s370_state.specs.Row.{Performs};
 ghost use Rattle.s370_state.specs.Meaning.{field_at};
 ghost use Rattle.s370_decode.specs.Meaning.{shift_distance};
-ghost use Rattle.s370_decimal.specs.Meaning.{kept, shifted, decimal_row};
+ghost use Rattle.s370_decimal.specs.Meaning.{kept, digits_shifted, decimal_row};
 
 use crate::fields::power;
 use crate::results::{Kept, keep, put_result};
@@ -50,13 +50,13 @@ fn rounded(v: u128, i: u8, n: u8) -> u128
 }
 
 /// What the field keeps after the shift.
-#[tactic(auto, unfolding(crate::specs::Meaning::shifted))]
+#[tactic(auto, unfolding(crate::specs::Meaning::digits_shifted))]
 fn keep_shifted(l: u8, f: Field, i: u8, n: u8) -> Kept
     requires length { l ≤ 15 }
     requires magnitude { f.magnitude < 10000000000000000000000000000000 }
     requires digit { i ≤ 9 }
     requires distance { n < 64 }
-    ensures { result ≡ kept l (shifted f.magnitude i n) f.minus }
+    ensures { result ≡ kept l (digits_shifted f.magnitude i n) f.minus }
 {
     if n < 32 {
         keep_left(l, f, n)

@@ -1,7 +1,7 @@
 -- What the claim of the program says by this crate's clauses.
 use Rattle.std.specs.Prelude.{ℕ, zero, suc, ◌+◌, ◌/◌, ◌%◌, Bool, true, false, not, ◌&&◌, ◌||◌, ◌==◌, if◌then◌else◌, Option, Some, None, List, [], ◌∷◌, ◌++◌}
 use Rattle.cov_base.specs.Meaning.{Memory, byte_at, wrap, Machine}
-use Rattle.s370_state.specs.Meaning.{is_decimal_digit, is_sign, is_minus, store_bytes, Row, Use, Outcome, Completes, Program, reads, stores, with_address}
+use Rattle.s370_state.specs.Meaning.{is_digit, is_sign, is_minus, store_bytes, Row, Use, Outcome, Completes, Program, reads, stores, with_address}
 use Rattle.s370_edit.specs.declared.working.Digit.{Digit}
 use Rattle.s370_edit.specs.declared.working.Working.{Working}
 use Rattle.s370_edit.specs.declared.working.PatternStep.{PatternStep}
@@ -47,7 +47,7 @@ digit_selected w d starts fill at = record {
     significant = (is_shown w d || starts) && not d.plus;
     nonzero = w.nonzero || not (d.value == 0);
     mark = if not w.significant && not (d.value == 0) then Some at else w.mark;
-    bad = not (is_decimal_digit d.value);
+    bad = not (is_digit d.value);
   };
   byte = if is_shown w d then 240 + d.value else fill;
 }

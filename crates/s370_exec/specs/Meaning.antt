@@ -277,11 +277,11 @@ run_after more trace s visits On = more s (trace ++ visits)
 run_after more trace s visits (Ended e) = run_ended e s (trace ++ visits)
 
 -- with so many instructions left of the budget, from a state to which the trace has led
-unfoldable pub run_on : Memory → ℕ → State → List Visit → Run
-run_on m zero s trace = run_ended (if has_returned s then Returned else Spent) s trace
-run_on m (suc n) s trace =
+unfoldable pub run_from : Memory → ℕ → State → List Visit → Run
+run_from m zero s trace = run_ended (if has_returned s then Returned else Spent) s trace
+run_from m (suc n) s trace =
     if has_returned s then run_ended Returned s trace
-    else run_after (λ t more. run_on m n t more) trace (solo_step m s).state (solo_step m s).visits (solo_step m s).next
+    else run_after (λ t more. run_from m n t more) trace (solo_step m s).state (solo_step m s).visits (solo_step m s).next
 
 abbrev pub solo_run : Memory → ℕ → State → Run
-solo_run m budget s = run_on m budget s []
+solo_run m budget s = run_from m budget s []

@@ -55,8 +55,8 @@ row_fields f c m s =
 -- Comparisons without signs (Principles of Operation, "General Instructions", "Compare Logical").
 
 -- of a first operand with a second
-abbrev pub compares : Machine → ℕ → ℕ → Outcome
-compares s v w = Completes (with_cc s (order_code (nat_cmp v w)))
+abbrev pub compares_logical : Machine → ℕ → ℕ → Outcome
+compares_logical s v w = Completes (with_cc s (order_code (nat_cmp v w)))
 
 -- of the n bytes from a and from b on, the leftmost unequal pair decides
 unfoldable pub compared : Memory → List ℕ → ℕ → ℕ → ℕ → ℕ
@@ -114,10 +114,10 @@ logic_row XR c m s = row_registers bit_xor c m s
 logic_row X c m s = row_word bit_xor c m s
 logic_row XI c m s = row_immediate bit_xor c m s
 logic_row XC c m s = row_fields bit_xor c m s
-logic_row CLR c m s = Some (from_register s c (compares s (reg s (r1 c))))
-logic_row CL c m s = Some (from_word m s c (compares s (reg s (r1 c))))
+logic_row CLR c m s = Some (from_register s c (compares_logical s (reg s (r1 c))))
+logic_row CL c m s = Some (from_word m s c (compares_logical s (reg s (r1 c))))
 -- a byte in storage with the immediate byte, and two fields
-logic_row CLI c m s = Some (reading (e1 s.cpu c) 1 (compares s (byte_at m s.bytes (e1 s.cpu c)) (i2 c)))
+logic_row CLI c m s = Some (reading (e1 s.cpu c) 1 (compares_logical s (byte_at m s.bytes (e1 s.cpu c)) (i2 c)))
 logic_row CLC c m s =
     Some (comparing (e1 s.cpu c) (i2 c + 1) (e2 s.cpu c) (i2 c + 1) (Completes (with_cc s (compared m s.bytes (e1 s.cpu c) (e2 s.cpu c) (i2 c + 1)))))
 -- the byte goes to bits 24-31 of R1, or comes from there
@@ -127,7 +127,7 @@ logic_row ICM c m s =
     let v = number_at m s.bytes (e2 s.cpu c) (size c) in
     Some (reading (e2 s.cpu c) (size c) (Completes (with_cc (with_reg s (r1 c) (inserted 4 (r2 c) (reg s (r1 c)) v)) (insert_code v (byte_at m s.bytes (e2 s.cpu c))))))
 logic_row STCM c m s = Some (to_storage s (e2 s.cpu c) (size c) (gathered 4 (r2 c) (reg s (r1 c))))
-logic_row CLM c m s = Some (reading (e2 s.cpu c) (size c) (compares s (gathered 4 (r2 c) (reg s (r1 c))) (number_at m s.bytes (e2 s.cpu c) (size c))))
+logic_row CLM c m s = Some (reading (e2 s.cpu c) (size c) (compares_logical s (gathered 4 (r2 c) (reg s (r1 c))) (number_at m s.bytes (e2 s.cpu c) (size c))))
 logic_row TM c m s = Some (reading (e1 s.cpu c) 1 (Completes (with_cc s (mask_code (bit_and (byte_at m s.bytes (e1 s.cpu c)) (i2 c)) (i2 c)))))
 logic_row MVI c m s = stores_byte (e1 s.cpu c) (i2 c) m s
 -- the byte's leftmost bit as it was is the condition code, and the byte becomes all ones

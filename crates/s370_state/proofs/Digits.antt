@@ -10,7 +10,7 @@ use Rattle.std.specs.List.{list_all}
 use Rattle.std.proofs.lemmas.Bool.{and_parts}
 use Rattle.cov_base.specs.Meaning.{Memory, byte_at, wrap}
 use Rattle.s370_state.specs.declared.packed.Field.{Field}
-use Rattle.s370_state.specs.Meaning.{is_sign, is_minus, sign_half, is_decimal_digit, halves_at, decimal, field_at, digits_of, bytes_of, store_bytes, store_field}
+use Rattle.s370_state.specs.Meaning.{is_sign, is_minus, sign_half, is_digit, halves_at, decimal, field_at, digits_of, bytes_of, store_bytes, store_field}
 
 pub decimal_append : (xs : List ℕ) (v : ℕ) (ys : List ℕ) → decimal v (xs ++ ys) ≡ decimal (decimal v xs) ys
 unfolding decimal
@@ -39,10 +39,10 @@ and_false true = refl
 and_false false = refl
 
 -- the digits of a byte more
-pub digits_more : (m : Memory) (bytes : List ℕ) (a n b : ℕ) → b ≡ byte_at m bytes (wrap (a + n)) → list_all is_decimal_digit (halves_at m bytes a n) ≡ true → (is_decimal_digit (b / 16) && is_decimal_digit (b % 16)) ≡ true →
-    list_all is_decimal_digit (halves_at m bytes a (n + 1)) ≡ true
+pub digits_more : (m : Memory) (bytes : List ℕ) (a n b : ℕ) → b ≡ byte_at m bytes (wrap (a + n)) → list_all is_digit (halves_at m bytes a n) ≡ true → (is_digit (b / 16) && is_digit (b % 16)) ≡ true →
+    list_all is_digit (halves_at m bytes a (n + 1)) ≡ true
 digits_more m bytes a n b e h d =
-    rw (more_halves m bytes a n b e, list_all-append is_decimal_digit (halves_at m bytes a n) (b / 16 ∷ (b % 16 ∷ [])), h) (two_true (is_decimal_digit (b / 16)) (is_decimal_digit (b % 16)) ∙ d)
+    rw (more_halves m bytes a n b e, list_all-append is_digit (halves_at m bytes a n) (b / 16 ∷ (b % 16 ∷ [])), h) (two_true (is_digit (b / 16)) (is_digit (b % 16)) ∙ d)
 
 -- and their number
 pub number_more : (m : Memory) (bytes : List ℕ) (a n b v : ℕ) → b ≡ byte_at m bytes (wrap (a + n)) → v ≡ decimal 0 (halves_at m bytes a n) → v * 100 + (b / 16 * 10 + b % 16) ≡ decimal 0 (halves_at m bytes a (n + 1))
@@ -53,21 +53,21 @@ last_or : (i n : ℕ) → i < suc n → (i ≡ n) ⊎ (i < n)
 last_or i n h = grind arith
 
 -- a byte that is no pair of digits
-pub digits_fail : (m : Memory) (bytes : List ℕ) (a n i b : ℕ) → b ≡ byte_at m bytes (wrap (a + i)) → i < n → (is_decimal_digit (b / 16) && is_decimal_digit (b % 16)) ≡ false → list_all is_decimal_digit (halves_at m bytes a n) ≡ false
+pub digits_fail : (m : Memory) (bytes : List ℕ) (a n i b : ℕ) → b ≡ byte_at m bytes (wrap (a + i)) → i < n → (is_digit (b / 16) && is_digit (b % 16)) ≡ false → list_all is_digit (halves_at m bytes a n) ≡ false
 unfolding halves_at
 digits_fail m bytes a zero i b e l h = absurd (omega arith)
 digits_fail m bytes a (suc n) i b e l h =
     let c : ℕ = byte_at m bytes (wrap (a + n)) in
-    let parts = list_all-append is_decimal_digit (halves_at m bytes a n) (c / 16 ∷ (c % 16 ∷ [])) in
+    let parts = list_all-append is_digit (halves_at m bytes a n) (c / 16 ∷ (c % 16 ∷ [])) in
     elim (last_or i n l) [
       | inl q ↦
           let same : b ≡ c = e ∙ ap (λ (k : ℕ). byte_at m bytes (wrap (a + k))) q in
-          let bad : (is_decimal_digit (c / 16) && (is_decimal_digit (c % 16) && true)) ≡ false = two_true (is_decimal_digit (c / 16)) (is_decimal_digit (c % 16)) ∙ (rw same at h) in
-          parts ∙ (rw bad (and_false (list_all is_decimal_digit (halves_at m bytes a n))))
+          let bad : (is_digit (c / 16) && (is_digit (c % 16) && true)) ≡ false = two_true (is_digit (c / 16)) (is_digit (c % 16)) ∙ (rw same at h) in
+          parts ∙ (rw bad (and_false (list_all is_digit (halves_at m bytes a n))))
       | inr k ↦ parts ∙ (rw (digits_fail m bytes a n i b e k h) refl)
     ]
 
-pub no_digits : (m : Memory) (bytes : List ℕ) (a : ℕ) → list_all is_decimal_digit (halves_at m bytes a 0) ≡ true
+pub no_digits : (m : Memory) (bytes : List ℕ) (a : ℕ) → list_all is_digit (halves_at m bytes a 0) ≡ true
 unfolding halves_at
 no_digits m bytes a = refl
 
@@ -75,11 +75,11 @@ pub no_number : (m : Memory) (bytes : List ℕ) (a : ℕ) → 0 ≡ decimal 0 (h
 unfolding halves_at decimal
 no_number m bytes a = refl
 
-pub pair_below : (b : ℕ) → (is_decimal_digit (b / 16) && is_decimal_digit (b % 16)) ≡ true → (b / 16 < 10) × (b % 16 < 10)
-pair_below b e = let p = and_parts (is_decimal_digit (b / 16)) (is_decimal_digit (b % 16)) e in (grind (arith, nat_tests, p.0), grind (arith, nat_tests, p.1))
+pub pair_below : (b : ℕ) → (is_digit (b / 16) && is_digit (b % 16)) ≡ true → (b / 16 < 10) × (b % 16 < 10)
+pair_below b e = let p = and_parts (is_digit (b / 16)) (is_digit (b % 16)) e in (grind (arith, nat_tests, p.0), grind (arith, nat_tests, p.1))
 
-pub last_digit : (b : ℕ) → (is_decimal_digit (b / 16) && is_sign (b % 16)) ≡ true → b / 16 < 10
-last_digit b e = let p = and_parts (is_decimal_digit (b / 16)) (is_sign (b % 16)) e in grind (arith, nat_tests, p.0)
+pub last_digit : (b : ℕ) → (is_digit (b / 16) && is_sign (b % 16)) ≡ true → b / 16 < 10
+last_digit b e = let p = and_parts (is_digit (b / 16)) (is_sign (b % 16)) e in grind (arith, nat_tests, p.0)
 
 pub pair_more : (n v b : ℕ) → v < 100 ^ n → b / 16 < 10 → b % 16 < 10 → v * 100 + (b / 16 * 10 + b % 16) < 100 ^ (n + 1)
 pair_more n v b h p q = rw (add-one, pow-suc 100 n) (omega arith)
@@ -99,29 +99,29 @@ digit_last l v d h e =
     let b : v < 10 ^ (l + l) = rw (hundreds l) at h in
     rw (two, pow-suc 10 (l + l)) (omega arith)
 
-pub field_good : (m : Memory) (bytes : List ℕ) (a l b v : ℕ) → b ≡ byte_at m bytes (wrap (a + l)) → list_all is_decimal_digit (halves_at m bytes a l) ≡ true → v ≡ decimal 0 (halves_at m bytes a l) → (is_decimal_digit (b / 16) && is_sign (b % 16)) ≡ true →
+pub field_good : (m : Memory) (bytes : List ℕ) (a l b v : ℕ) → b ≡ byte_at m bytes (wrap (a + l)) → list_all is_digit (halves_at m bytes a l) ≡ true → v ≡ decimal 0 (halves_at m bytes a l) → (is_digit (b / 16) && is_sign (b % 16)) ≡ true →
     Some (record { magnitude = v * 10 + b / 16; minus = is_minus (b % 16) }) ≡ field_at m bytes a l
 unfolding field_at
 field_good m bytes a l b v e h w q =
-    let p = and_parts (is_decimal_digit (b / 16)) (is_sign (b % 16)) q in
-    let d : is_decimal_digit (b / 16) ≡ true = p.0 in
+    let p = and_parts (is_digit (b / 16)) (is_sign (b % 16)) q in
+    let d : is_digit (b / 16) ≡ true = p.0 in
     let s : is_sign (b % 16) ≡ true = p.1 in
-    rw (← e, list_all-append is_decimal_digit (halves_at m bytes a l) (b / 16 ∷ []), h, d, s, decimal_append (halves_at m bytes a l) 0 (b / 16 ∷ []), ← w, decimal_one v (b / 16)) refl
+    rw (← e, list_all-append is_digit (halves_at m bytes a l) (b / 16 ∷ []), h, d, s, decimal_append (halves_at m bytes a l) 0 (b / 16 ∷ []), ← w, decimal_one v (b / 16)) refl
 
-pub field_pairs_bad : (m : Memory) (bytes : List ℕ) (a l : ℕ) → list_all is_decimal_digit (halves_at m bytes a l) ≡ false → None ≡ field_at m bytes a l
+pub field_pairs_bad : (m : Memory) (bytes : List ℕ) (a l : ℕ) → list_all is_digit (halves_at m bytes a l) ≡ false → None ≡ field_at m bytes a l
 unfolding field_at
 field_pairs_bad m bytes a l h =
-    rw (list_all-append is_decimal_digit (halves_at m bytes a l) (byte_at m bytes (wrap (a + l)) / 16 ∷ []), h) refl
+    rw (list_all-append is_digit (halves_at m bytes a l) (byte_at m bytes (wrap (a + l)) / 16 ∷ []), h) refl
 
 none_by : (p q : Bool) (x : Option Field) → (p && q) ≡ false → None ≡ (if ((p && true) && q) then x else None)
 none_by true true x e = let z : true ≡ false = e in absurd cc
 none_by true false x e = refl
 none_by false q x e = refl
 
-pub field_last_bad : (m : Memory) (bytes : List ℕ) (a l b : ℕ) → b ≡ byte_at m bytes (wrap (a + l)) → list_all is_decimal_digit (halves_at m bytes a l) ≡ true → (is_decimal_digit (b / 16) && is_sign (b % 16)) ≡ false → None ≡ field_at m bytes a l
+pub field_last_bad : (m : Memory) (bytes : List ℕ) (a l b : ℕ) → b ≡ byte_at m bytes (wrap (a + l)) → list_all is_digit (halves_at m bytes a l) ≡ true → (is_digit (b / 16) && is_sign (b % 16)) ≡ false → None ≡ field_at m bytes a l
 unfolding field_at
 field_last_bad m bytes a l b e h s =
-    rw (← e, list_all-append is_decimal_digit (halves_at m bytes a l) (b / 16 ∷ []), h) (none_by (is_decimal_digit (b / 16)) (is_sign (b % 16)) _ s)
+    rw (← e, list_all-append is_digit (halves_at m bytes a l) (b / 16 ∷ []), h) (none_by (is_digit (b / 16)) (is_sign (b % 16)) _ s)
 
 pub length-digits_of : (k v : ℕ) → length (digits_of k v) ≡ k
 unfolding digits_of

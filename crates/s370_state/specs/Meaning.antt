@@ -29,8 +29,8 @@ is_minus n = if n == 11 then true else n == 13
 abbrev pub sign_half : Bool → ℕ
 sign_half minus = if minus then 13 else 12
 
-abbrev pub is_decimal_digit : ℕ → Bool
-is_decimal_digit n = nat_lt n 10
+abbrev pub is_digit : ℕ → Bool
+is_digit n = nat_lt n 10
 
 -- the half bytes of the n bytes from a on, left to right
 unfoldable pub halves_at : Memory → List ℕ → ℕ → ℕ → List ℕ
@@ -51,7 +51,7 @@ decimal v (d ∷ ds) = decimal (10 * v + d) ds
 -- what the field from a on holds; none where a digit or the sign is bad
 unfoldable pub field_at : Memory → List ℕ → ℕ → ℕ → Option Field
 field_at m bytes a l =
-    if (list_all is_decimal_digit (digits_at m bytes a l) && is_sign (sign_at m bytes a l)) then
+    if (list_all is_digit (digits_at m bytes a l) && is_sign (sign_at m bytes a l)) then
     Some (record { magnitude = decimal 0 (digits_at m bytes a l); minus = is_minus (sign_at m bytes a l) })
     else None
 

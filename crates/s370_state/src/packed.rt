@@ -4,7 +4,7 @@ ghost use Rattle.std.specs.Prelude.{◌≡◌, ◌+◌, ◌-◌, ◌*◌, ◌/�
 ghost use Rattle.std.specs.List.{list_all};
 ghost use Rattle.cov_base.specs.Meaning.{can_reach, can_store};
 ghost use Rattle.s370_state.specs.Fields.{AreBytes};
-ghost use Rattle.s370_state.specs.Meaning.{is_sign, is_minus, sign_half, is_decimal_digit, halves_at, decimal, field_at, number, digits_of, bytes_of, store_field};
+ghost use Rattle.s370_state.specs.Meaning.{is_sign, is_minus, sign_half, is_digit, halves_at, decimal, field_at, number, digits_of, bytes_of, store_field};
 
 use crate::operands::byte_of;
 use crate::space::Space;
@@ -21,7 +21,7 @@ pub struct Field {
 
 /// Whether the half byte is a digit.
 pub fn is_digit(half: u8) -> bool
-    ensures { result ≡ is_decimal_digit half }
+    ensures { result ≡ is_digit half }
 {
     half < 10
 }
@@ -50,27 +50,27 @@ fn sign_half(minus: bool) -> u8
 
 /// Whether both halves of the byte are digits.
 fn is_pair(byte: u8) -> bool
-    ensures { result ≡ (is_decimal_digit (byte / 16) && is_decimal_digit (byte % 16)) }
+    ensures { result ≡ (is_digit (byte / 16) && is_digit (byte % 16)) }
 {
     is_digit(byte / 16) && is_digit(byte % 16)
 }
 
 /// Whether the halves of a field's last byte are a digit and a sign.
 fn is_last(byte: u8) -> bool
-    ensures { result ≡ (is_decimal_digit (byte / 16) && is_sign (byte % 16)) }
+    ensures { result ≡ (is_digit (byte / 16) && is_sign (byte % 16)) }
 {
     is_digit(byte / 16) && is_sign(byte % 16)
 }
 
 /// The number of the digits in the first n bytes of a row; none where a half byte of these is no digit.
 #[inline(always)]
-fn pairs<P: Space>(_space: &P, at: Addr, n: u32, row: &[u8]) -> Option<u128>
+fn pairs<P: Space>(_from: &P, at: Addr, n: u32, row: &[u8]) -> Option<u128>
     requires most { n ≤ 15 }
-    requires row { AreBytes (P.memory _space.now) (P.bytes _space.now) at (n + 1) row.now }
-    ensures good { IfSome result (λ _. list_all is_decimal_digit (halves_at (P.memory _space.now) (P.bytes _space.now) at n) ≡ true) }
-    ensures value { IfSome result (λ v. v ≡ decimal 0 (halves_at (P.memory _space.now) (P.bytes _space.now) at n)) }
+    requires row { AreBytes (P.memory _from.now) (P.bytes _from.now) at (n + 1) row.now }
+    ensures good { IfSome result (λ _. list_all is_digit (halves_at (P.memory _from.now) (P.bytes _from.now) at n) ≡ true) }
+    ensures value { IfSome result (λ v. v ≡ decimal 0 (halves_at (P.memory _from.now) (P.bytes _from.now) at n)) }
     ensures below { IfSome result (λ v. v < 100 ^ n) }
-    ensures bad { IfNone result (list_all is_decimal_digit (halves_at (P.memory _space.now) (P.bytes _space.now) at n) ≡ false) }
+    ensures bad { IfNone result (list_all is_digit (halves_at (P.memory _from.now) (P.bytes _from.now) at n) ≡ false) }
 {
     let mut v: u128 = 0;
     for i in 0..n {
@@ -84,16 +84,16 @@ fn pairs<P: Space>(_space: &P, at: Addr, n: u32, row: &[u8]) -> Option<u128>
 }
 
 /// What the field of length code l holds, whose bytes stand in a row; none where a digit or the sign is bad.
-fn field_in<P: Space>(_space: &P, at: Addr, l: u8, row: &[u8]) -> Option<Field>
+fn field_in<P: Space>(_from: &P, at: Addr, l: u8, row: &[u8]) -> Option<Field>
     requires length { l ≤ 15 }
-    requires row { AreBytes (P.memory _space.now) (P.bytes _space.now) at (l + 1) row.now }
-    ensures field { result ≡ field_at (P.memory _space.now) (P.bytes _space.now) at l }
+    requires row { AreBytes (P.memory _from.now) (P.bytes _from.now) at (l + 1) row.now }
+    ensures field { result ≡ field_at (P.memory _from.now) (P.bytes _from.now) at l }
     ensures below { IfSome result (λ f. f.magnitude < 10 ^ (2 * l + 1)) }
     ensures most { IfSome result (λ f. f.magnitude < 10000000000000000000000000000000) }
 {
     let n = u32::from(l);
     let last = row[usize::from(l)];
-    match pairs(_space, at, n, row) {
+    match pairs(_from, at, n, row) {
         Some(high) => {
             if is_last(last) {
                 Some(Field {

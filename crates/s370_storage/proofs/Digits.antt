@@ -1,7 +1,7 @@
 -- The recursions of packing, one result byte or pair on.
 use Rattle.std.proofs.Common.{◌≡◌, ℕ, ◌+◌, ◌*◌, ◌/◌, ◌%◌, List, slice_set, suc, refl, ap, ◌∙◌, add-one, arith}
 use Rattle.cov_base.specs.Meaning.{Memory, byte_at, wrap}
-use Rattle.s370_storage.specs.Meaning.{source, result_at, exchanged, packed_byte, packed, with_zoned, unpacked, offset_moved}
+use Rattle.s370_storage.specs.Meaning.{source, result_at, exchanged, packed_byte, packed, with_zoned, unpacked, shifted}
 use Rattle.s370_storage.specs.declared.packing.Fields.{Fields}
 
 pub packed_none : (m : Memory) (bytes : List ℕ) (o : Fields) → packed m bytes o 0 ≡ bytes
@@ -20,10 +20,10 @@ pub unpacked_more : (m : Memory) (bytes : List ℕ) (o : Fields) (j : ℕ) → u
 unfolding unpacked
 unpacked_more m bytes o j = let e : j + 1 ≡ suc j = omega arith in ap (unpacked m bytes o) e ∙ refl
 
-pub shifted_none : (m : Memory) (bytes : List ℕ) (o : Fields) → offset_moved m bytes o 0 ≡ record { bytes = bytes; half = byte_at m bytes (wrap (o.to + o.to_last)) % 16 }
-unfolding offset_moved
+pub shifted_none : (m : Memory) (bytes : List ℕ) (o : Fields) → shifted m bytes o 0 ≡ record { bytes = bytes; half = byte_at m bytes (wrap (o.to + o.to_last)) % 16 }
+unfolding shifted
 shifted_none m bytes o = refl
 
-pub shifted_more : (m : Memory) (bytes : List ℕ) (o : Fields) (k : ℕ) → offset_moved m bytes o (k + 1) ≡ record { bytes = slice_set (offset_moved m bytes o k).bytes (result_at o k) (source m (offset_moved m bytes o k).bytes o k % 16 * 16 + (offset_moved m bytes o k).half); half = source m (offset_moved m bytes o k).bytes o k / 16 }
-unfolding offset_moved
+pub shifted_more : (m : Memory) (bytes : List ℕ) (o : Fields) (k : ℕ) → shifted m bytes o (k + 1) ≡ record { bytes = slice_set (shifted m bytes o k).bytes (result_at o k) (source m (shifted m bytes o k).bytes o k % 16 * 16 + (shifted m bytes o k).half); half = source m (shifted m bytes o k).bytes o k / 16 }
+unfolding shifted
 shifted_more m bytes o k = rw add-one refl

@@ -115,9 +115,9 @@ unfoldable pub unequal : Memory → List ℕ → Long → ℕ → Option ℕ
 unequal m bytes o n = first_where (λ i. not (first_byte m bytes o i == second_byte m bytes o i)) n
 
 -- by the unequal pair, if any
-abbrev pub compares_long : Memory → Machine → ℕ → ℕ → Long → Option ℕ → Outcome
-compares_long m s r q o None = Completes (with_cc (with_regs s (passed s.cpu.regs r q o o.first_length o.second_length)) 0)
-compares_long m s r q o (Some i) =
+abbrev pub compares : Memory → Machine → ℕ → ℕ → Long → Option ℕ → Outcome
+compares m s r q o None = Completes (with_cc (with_regs s (passed s.cpu.regs r q o o.first_length o.second_length)) 0)
+compares m s r q o (Some i) =
     Completes (with_cc (with_regs s (passed s.cpu.regs r q o (min i o.first_length) (min i o.second_length))) (order_code (nat_cmp (first_byte m s.bytes o i) (second_byte m s.bytes o i))))
 
 -- both are read whole, also past an unequal pair
@@ -125,7 +125,7 @@ abbrev pub long_compares : ℕ → ℕ → Memory → Machine → Option Row
 long_compares r q m s =
     let o = long s.cpu.regs r q in
     Some (needing (is_even r && is_even q) (comparing o.first o.first_length o.second o.second_length (
-    compares_long m s r q o (unequal m s.bytes o (max o.first_length o.second_length)))))
+    compares m s r q o (unequal m s.bytes o (max o.first_length o.second_length)))))
 
 -- Packing, unpacking and moves with an offset (Principles of Operation, "General Instructions"). Fields are
 -- worked right to left, and their bytes are numbered so, from 0. Each result byte is stored as soon as it is formed,
@@ -174,10 +174,10 @@ pub record Shifting : Type 0 where
   pub half : ℕ
 
 -- after k result bytes of MVO
-unfoldable pub offset_moved : Memory → List ℕ → Fields → ℕ → Shifting
-offset_moved m bytes o zero = record { bytes = bytes; half = byte_at m bytes (wrap (o.to + o.to_last)) % 16 }
-offset_moved m bytes o (suc k) =
-    let done = offset_moved m bytes o k in
+unfoldable pub shifted : Memory → List ℕ → Fields → ℕ → Shifting
+shifted m bytes o zero = record { bytes = bytes; half = byte_at m bytes (wrap (o.to + o.to_last)) % 16 }
+shifted m bytes o (suc k) =
+    let done = shifted m bytes o k in
     let v = source m done.bytes o k in
     record { bytes = slice_set done.bytes (result_at o k) (v % 16 * 16 + done.half); half = v / 16 }
 
@@ -262,5 +262,5 @@ storage_row MVCL c m s = long_moves (r1 c) (r2 c) m s
 storage_row CLCL c m s = long_compares (r1 c) (r2 c) m s
 storage_row PACK c m s = Some (packs s c (packed m s.bytes (fields s.cpu c) (r1 c + 1)))
 storage_row UNPK c m s = Some (packs s c (unpacked m s.bytes (fields s.cpu c) ((r1 c + 1) / 2)))
-storage_row MVO c m s = Some (packs s c (offset_moved m s.bytes (fields s.cpu c) (r1 c + 1)).bytes)
+storage_row MVO c m s = Some (packs s c (shifted m s.bytes (fields s.cpu c) (r1 c + 1)).bytes)
 storage_row _ c m s = None

@@ -6,7 +6,7 @@ ghost use Rattle.cov_base.specs.Meaning.{can_reach, can_store};
 ghost use Rattle.s370_state.specs.Meaning.{is_even};
 ghost use Rattle.s370_state.specs.Row.{Performs};
 ghost use Rattle.s370_state.specs.Parts.{Follows};
-ghost use Rattle.s370_storage.specs.Meaning.{long, passed, lesser, overlaps, padded_bytes, long_moved, moves_apart, long_moves, extended, unequal, compares_long, long_compares, storage_row};
+ghost use Rattle.s370_storage.specs.Meaning.{long, passed, lesser, overlaps, padded_bytes, long_moved, moves_apart, long_moves, extended, unequal, compares, long_compares, storage_row};
 
 use cov_base::Addr;
 use s370_decode::{Code, Op};
@@ -186,7 +186,7 @@ fn set_compared<P: Space>(cpu: &mut Cpu, space: &P, r: u8, q: u8, o: &Long, uneq
     requires second { o.now.second_length < 16777216 }
     requires reach { can_reach (P.memory space.now) o.now.first o.now.first_length ≡ true }
     requires reach_second { can_reach (P.memory space.now) o.now.second o.now.second_length ≡ true }
-    ensures { Follows P.memory P.bytes (λ m s. compares_long m s r q o.now unequal) cpu.old space.now cpu.new space.now Next.On }
+    ensures { Follows P.memory P.bytes (λ m s. compares m s r q o.now unequal) cpu.old space.now cpu.new space.now Next.On }
 {
     match unequal {
         None => {

@@ -5,7 +5,7 @@ ghost use Rattle.std.specs.Prelude.{◌≡◌, ◌+◌, ◌-◌, ◌*◌, ◌/�
 ghost use Rattle.cov_base.specs.Meaning.{can_reach, can_store};
 ghost use Rattle.s370_state.specs.Row.{Performs};
 ghost use Rattle.s370_state.specs.Parts.{Tested};
-ghost use Rattle.s370_storage.specs.Meaning.{fields, source, result_at, exchanged, packed_byte, packed, with_zoned, unpacked, offset_moved, field_uses, storage_row};
+ghost use Rattle.s370_storage.specs.Meaning.{fields, source, result_at, exchanged, packed_byte, packed, with_zoned, unpacked, shifted, field_uses, storage_row};
 
 use cov_base::Addr;
 use s370_decode::{Code, Op};
@@ -173,7 +173,7 @@ fn shift_bytes<P: Space>(space: &mut P, o: &Fields)
     requires store { can_store (P.memory space.old) o.now.to (o.now.to_last + 1) ≡ true }
     requires source { can_reach (P.memory space.old) o.now.from (o.now.from_last + 1) ≡ true }
     ensures memory { P.memory space.new ≡ P.memory space.old }
-    ensures bytes { P.bytes space.new ≡ (offset_moved (P.memory space.old) (P.bytes space.old) o.now (o.now.to_last + 1)).bytes }
+    ensures bytes { P.bytes space.new ≡ (shifted (P.memory space.old) (P.bytes space.old) o.now (o.now.to_last + 1)).bytes }
 {
     let mut half = byte_of(space, o.to, o.to_last, o.to_last + 1) % 16;
     for k in 0..o.to_last + 1 {

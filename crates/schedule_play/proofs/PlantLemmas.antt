@@ -8,7 +8,7 @@ use Rattle.std.proofs.lemmas.List.{get_or-set_other}
 use Rattle.std.proofs.lemmas.List.Elements.{All-head, All-tail}
 use Rattle.module_area.specs.Meaning.{word_at, no_cell, fresh_word, ControlledView, window_at}
 use Rattle.module_area.specs.declared.places.Place.{Place}
-use Rattle.interleave_core.specs.Meaning.{World, Parts, plan_in, controller_of, Stepped, parts_step, events_on, by_controller, whole_step, with_cell, breakpoint_of}
+use Rattle.interleave_core.specs.Meaning.{World, Parts, plan_in, controller_of, Stepped, parts_step, run_on, by_controller, whole_step, with_cell, breakpoint_of}
 use Rattle.interleave_core.specs.World.{IsWorld}
 use Rattle.interleave_core.specs.declared.events.Event.{Event}
 use Rattle.interleave_core.specs.declared.events.Event.TheVariants as event
@@ -51,18 +51,18 @@ plant_possible w c s p is lt e some fresh =
 pub never_refused : (w : World) (c : Parts) (s p : ℕ) → IsWorld w → p < length w.places → s ≡ window_at (plan_in w) p → 0 < s → (word_at c.cells p).tag ≡ 0 → parts_step w c (plant_of s p) ≡ None → ⊥
 never_refused w c s p is lt e some fresh none = let n : None ≡ Some (planted c s p) = sym none ∙ plant_possible w c s p is lt e some fresh in absurd cc
 
-pub no_plant : (w : World) (c : Parts) (p : ℕ) → window_at (plan_in w) p ≡ 0 → events_on w c (plant_at w p) ≡ Some c
+pub no_plant : (w : World) (c : Parts) (p : ℕ) → window_at (plan_in w) p ≡ 0 → run_on w c (plant_at w p) ≡ Some c
 no_plant w c p e = by (nat_lt 0 (window_at (plan_in w) p)) refl
   where
-    by : (b : Bool) → nat_lt 0 (window_at (plan_in w) p) ≡ b → events_on w c (if b then plant_of (window_at (plan_in w) p) p ∷ [] else []) ≡ Some c
+    by : (b : Bool) → nat_lt 0 (window_at (plan_in w) p) ≡ b → run_on w c (if b then plant_of (window_at (plan_in w) p) p ∷ [] else []) ≡ Some c
     by true q = let z : false ≡ true = ap (λ (n : ℕ). nat_lt 0 n) (sym e) ∙ q in absurd cc
     by false q = refl
 
-pub one_plant : (w : World) (c d : Parts) (s p : ℕ) (shown : Shown) → s ≡ window_at (plan_in w) p → 0 < s → parts_step w c (plant_of s p) ≡ Some (record { parts = d; shown = shown }) → events_on w c (plant_at w p) ≡ Some d
+pub one_plant : (w : World) (c d : Parts) (s p : ℕ) (shown : Shown) → s ≡ window_at (plan_in w) p → 0 < s → parts_step w c (plant_of s p) ≡ Some (record { parts = d; shown = shown }) → run_on w c (plant_at w p) ≡ Some d
 one_plant w c d s p shown e some step =
     let there : nat_lt 0 (window_at (plan_in w) p) ≡ true = ap (λ (n : ℕ). nat_lt 0 n) (sym e) ∙ lt-ltb 0 s some in
-    ap (λ (b : Bool). events_on w c (if b then plant_of (window_at (plan_in w) p) p ∷ [] else [])) there
-    ∙ (ap (λ (n : ℕ). events_on w c (plant_of n p ∷ [])) (sym e) ∙ ap (option_and_then (λ (x : Stepped). Some x.parts)) step)
+    ap (λ (b : Bool). run_on w c (if b then plant_of (window_at (plan_in w) p) p ∷ [] else [])) there
+    ∙ (ap (λ (n : ℕ). run_on w c (plant_of n p ∷ [])) (sym e) ∙ ap (option_and_then (λ (x : Stepped). Some x.parts)) step)
 
 -- and leaves all other cells
 pub others_stay : (w : World) (c d : Parts) (s p : ℕ) (shown : Shown) → IsWorld w → p < length w.places → s ≡ window_at (plan_in w) p → 0 < s → (word_at c.cells p).tag ≡ 0 → parts_step w c (plant_of s p) ≡ Some (record { parts = d; shown = shown }) →
@@ -81,8 +81,8 @@ fresh_tag (p ∷ places) (suc q) = fresh_tag places q
 abbrev pub plants_from : World → ℕ → ℕ → List Event
 plants_from w p count = flat_map (plant_at w) (range_with_len p count)
 
-pub planted_next : (w : World) (p n : ℕ) (c d : Parts) → p < n → events_on w c (plant_at w p) ≡ Some d → events_on w c (plants_from w p (n - p)) ≡ events_on w d (plants_from w (p + 1) (n - (p + 1)))
+pub planted_next : (w : World) (p n : ℕ) (c d : Parts) → p < n → run_on w c (plant_at w p) ≡ Some d → run_on w c (plants_from w p (n - p)) ≡ run_on w d (plants_from w (p + 1) (n - (p + 1)))
 planted_next w p n c d lt h = let more : n - p ≡ suc (n - (p + 1)) = omega arith in rw more (run_on-append w c d (plant_at w p) (plants_from w (p + 1) (n - (p + 1))) h)
 
-pub planted_end : (w : World) (p n : ℕ) (c : Parts) → n ≤ p → events_on w c (plants_from w p (n - p)) ≡ Some c
+pub planted_end : (w : World) (p n : ℕ) (c : Parts) → n ≤ p → run_on w c (plants_from w p (n - p)) ≡ Some c
 planted_end w p n c le = let none : n - p ≡ 0 = omega arith in rw none refl

@@ -2,7 +2,7 @@
 use Rattle.std.specs.Option.{option_map_or}
 use Rattle.std.proofs.Common.{◌≡◌, ℕ, ◌+◌, Bool, true, false, nat_eq, ◌==◌, if◌then◌else◌, Option, Some, None, List, [], ◌∷◌, ◌++◌, length, subst, refl, sym, ap, ◌∙◌, arith, append-nil}
 use Rattle.module_area.specs.declared.places.Place.{Place}
-use Rattle.interleave_core.specs.Meaning.{World, Parts, first_parts, events_on}
+use Rattle.interleave_core.specs.Meaning.{World, Parts, first_parts, run_on}
 use Rattle.session_book.specs.Meaning.{JobView}
 use Rattle.job_text.specs.Meaning.{LineView, put_on, lines_of, item_at}
 use Rattle.schedule_play.specs.Meaning.{Play, Bad, Whole, with_item, play, play_line, play_end, play_of, plants}
@@ -98,8 +98,8 @@ pub no_more : (all : Play) (ps : List Played) (w : World) (n : ℕ) (c : Parts) 
 no_more all ps w n c rest so none = so ∙ (ap (with_items ps) (ap (λ (r : List LineView). play w n c r) none) ∙ with_items-bad ps n)
 
 -- a schedule whose windows were planted
-pub begun : (j : JobView) (places : List Place) (w : World) (count : ℕ) (c : Parts) (lines : List LineView) → w ≡ record { job = j; places = places } → nat_eq (length j.phases) 1 ≡ true → events_on w (first_parts w) (plants w) ≡ Some c →
+pub begun : (j : JobView) (places : List Place) (w : World) (count : ℕ) (c : Parts) (lines : List LineView) → w ≡ record { job = j; places = places } → nat_eq (length j.phases) 1 ≡ true → run_on w (first_parts w) (plants w) ≡ Some c →
     play_of j places count lines ≡ play w (count + 1) c lines
 begun j places w count c lines is one planted =
-    ap (λ (b : Bool). let v : World = record { job = j; places = places } in if b then option_map_or (λ (b : Parts). play v (count + 1) b lines) (events_on v (first_parts v) (plants v)) (Bad 0) else Bad 0) one
-    ∙ (ap (λ (v : World). option_map_or (λ (b : Parts). play v (count + 1) b lines) (events_on v (first_parts v) (plants v)) (Bad 0)) (sym is) ∙ ap (λ (o : Option Parts). option_map_or (λ (b : Parts). play w (count + 1) b lines) o (Bad 0)) planted)
+    ap (λ (b : Bool). let v : World = record { job = j; places = places } in if b then option_map_or (λ (b : Parts). play v (count + 1) b lines) (run_on v (first_parts v) (plants v)) (Bad 0) else Bad 0) one
+    ∙ (ap (λ (v : World). option_map_or (λ (b : Parts). play v (count + 1) b lines) (run_on v (first_parts v) (plants v)) (Bad 0)) (sym is) ∙ ap (λ (o : Option Parts). option_map_or (λ (b : Parts). play w (count + 1) b lines) o (Bad 0)) planted)

@@ -5,7 +5,7 @@ use Rattle.std.specs.Option.{option_and_then, option_map_or}
 use Rattle.cov_base.specs.declared.numbers.TaskNo.{TaskNo}
 use Rattle.module_area.specs.declared.places.Place.{Place}
 use Rattle.session_book.specs.Meaning.{JobView}
-use Rattle.interleave_core.specs.Meaning.{World, Parts, first_parts, Stepped, parts_step, events_on, next_of, most_events, go}
+use Rattle.interleave_core.specs.Meaning.{World, Parts, first_parts, Stepped, parts_step, run_on, next_of, most_events, go}
 use Rattle.interleave_core.specs.CoreState.{CoreState, core_start, core_after, core_from, go_on}
 use Rattle.interleave_core.specs.Going.{HasGone}
 use Rattle.interleave_core.specs.MeaningOfEvents.{Stands}
@@ -21,7 +21,7 @@ use Rattle.schedule_play.specs.declared.playing.Played.{Played}
 
 -- events of the core lead from these parts to those
 abbrev HasRun : World → Parts → Parts → Type 0
-HasRun w c d = (events : List Event) × (events_on w c events ≡ Some d)
+HasRun w c d = (events : List Event) × (run_on w c events ≡ Some d)
 
 went : (w : World) (n : ℕ) (c : Parts) (t : TaskNo) → HasRun w c (go w n c t)
 went w zero c t = ([], refl)
@@ -29,7 +29,7 @@ went w (suc n) c t = by_next (λ b. went w n b t) (next_of w c t)
   where
     by_step : ((b : Parts) → HasRun w b (go w n b t)) → (e : Event) (o : Option Stepped) → parts_step w c e ≡ o → HasRun w c (option_map_or (λ (x : Stepped). go w n x.parts t) o c)
     by_step more e None h = ([], refl)
-    by_step more e (Some x) h = let r = more x.parts in (e ∷ r.0, ap (option_and_then (λ (y : Stepped). events_on w y.parts r.0)) h ∙ r.1)
+    by_step more e (Some x) h = let r = more x.parts in (e ∷ r.0, ap (option_and_then (λ (y : Stepped). run_on w y.parts r.0)) h ∙ r.1)
 
     by_next : ((b : Parts) → HasRun w b (go w n b t)) → (o : Option Event) → HasRun w c (option_map_or (λ (x : Stepped). go w n x.parts t) (option_and_then (parts_step w c) o) c)
     by_next more None = ([], refl)
@@ -92,12 +92,12 @@ play_run w n c d (line ∷ lines) played h = by_item (item_at w.job line.bytes) 
     by_item (Some item) rest q = by_line item rest (is_end item) q
 
 -- with the logs
-with_logs : (w : World) (c : CoreState) (events : List Event) (d : Parts) → events_on w c.parts events ≡ Some d → (e : CoreState) × (core_from w c events ≡ Some e) × (e.parts ≡ d)
+with_logs : (w : World) (c : CoreState) (events : List Event) (d : Parts) → run_on w c.parts events ≡ Some d → (e : CoreState) × (core_from w c events ≡ Some e) × (e.parts ≡ d)
 with_logs w c [] d h = (c, refl, same_Some c.parts d h)
 with_logs w c (e ∷ events) d h = by_step (λ b q. with_logs w b events d q) (parts_step w c.parts e) h
   where
-    by_step : ((b : CoreState) → events_on w b.parts events ≡ Some d → (f : CoreState) × (core_from w b events ≡ Some f) × (f.parts ≡ d)) → (o : Option Stepped) →
-        option_and_then (λ (x : Stepped). events_on w x.parts events) o ≡ Some d → (f : CoreState) × (go_on (λ b. core_from w b events) (option_map (core_after w c e) o) ≡ Some f) × (f.parts ≡ d)
+    by_step : ((b : CoreState) → run_on w b.parts events ≡ Some d → (f : CoreState) × (core_from w b events ≡ Some f) × (f.parts ≡ d)) → (o : Option Stepped) →
+        option_and_then (λ (x : Stepped). run_on w x.parts events) o ≡ Some d → (f : CoreState) × (go_on (λ b. core_from w b events) (option_map (core_after w c e) o) ≡ Some f) × (f.parts ≡ d)
     by_step more None q = absurd cc
     by_step more (Some x) q = more (core_after w c e x).core q
 
@@ -109,17 +109,17 @@ play_is_run j places count d lines played is_world h = by_phases (nat_eq (length
     w : World
     w = record { job = j; places = places }
 
-    by_start : (o : Option Parts) → events_on w (first_parts w) (plants w) ≡ o → option_map_or (λ (b : Parts). play w (count + 1) b lines) o (Bad 0) ≡ Whole d played → IsRun w d
+    by_start : (o : Option Parts) → run_on w (first_parts w) (plants w) ≡ o → option_map_or (λ (b : Parts). play w (count + 1) b lines) o (Bad 0) ≡ Whole d played → IsRun w d
     by_start None e q = absurd cc
     by_start (Some c) e q =
         let made = play_run w (count + 1) c d lines played q in
         let events : List Event = plants w ++ made.0 in
-        let run : events_on w (first_parts w) events ≡ Some d = run_on-append w (first_parts w) c (plants w) made.0 e ∙ made.1 in
+        let run : run_on w (first_parts w) events ≡ Some d = run_on-append w (first_parts w) c (plants w) made.0 e ∙ made.1 in
         let all = with_logs w (core_start w) events d run in
         record { events = made.0; run = run; stands = subst (Stands w events) all.2 (run_stands w all.0 events is_world all.1) }
 
-    by_phases : (b : Bool) → (if b then option_map_or (λ (b : Parts). play w (count + 1) b lines) (events_on w (first_parts w) (plants w)) (Bad 0) else Bad 0) ≡ Whole d played → IsRun w d
-    by_phases true q = by_start (events_on w (first_parts w) (plants w)) refl q
+    by_phases : (b : Bool) → (if b then option_map_or (λ (b : Parts). play w (count + 1) b lines) (run_on w (first_parts w) (plants w)) (Bad 0) else Bad 0) ≡ Whole d played → IsRun w d
+    by_phases true q = by_start (run_on w (first_parts w) (plants w)) refl q
     by_phases false q = absurd cc
 
 pub goes : (w : World) (c d : Parts) (t : TaskNo) → HasGone w c d t → play_item w c (Go t) ≡ Some (record { parts = d; shown = shown.Done })

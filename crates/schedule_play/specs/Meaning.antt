@@ -5,7 +5,7 @@ use Rattle.std.specs.Option.{option_map_or}
 use Rattle.module_area.specs.Meaning.{window_at, place_of}
 use Rattle.module_area.specs.declared.places.Place.{Place}
 use Rattle.session_book.specs.Meaning.{JobView, task_of, session_of}
-use Rattle.interleave_core.specs.Meaning.{World, Parts, plan_in, first_parts, Stepped, parts_step, events_on, set_of, most_events, go, next_of, results_of}
+use Rattle.interleave_core.specs.Meaning.{World, Parts, plan_in, first_parts, Stepped, parts_step, run_on, set_of, most_events, go, next_of, results_of}
 use Rattle.interleave_core.specs.MeaningOfEvents.{Stands}
 use Rattle.interleave_core.specs.declared.events.Event.{Event}
 use Rattle.interleave_core.specs.declared.events.Event.TheVariants as event
@@ -89,12 +89,12 @@ play w n c (line ∷ lines) = play_line (λ d. play w (n + 1) d lines) w n c lin
 abbrev pub play_of : JobView → List Place → ℕ → List LineView → Play
 play_of j places count lines =
     let w : World = record { job = j; places = places } in
-    if nat_eq (length j.phases) 1 then option_map_or (λ (c : Parts). play w (count + 1) c lines) (events_on w (first_parts w) (plants w)) (Bad 0) else Bad 0
+    if nat_eq (length j.phases) 1 then option_map_or (λ (c : Parts). play w (count + 1) c lines) (run_on w (first_parts w) (plants w)) (Bad 0) else Bad 0
 
 -- The play is a run of the core, whose first events are the plants. It stands as the core does after every list of events.
 pub record IsRun (w : World) (parts : Parts) : Type 0 where
   pub events : List Event
-  pub run : events_on w (first_parts w) (plants w ++ events) ≡ Some parts
+  pub run : run_on w (first_parts w) (plants w ++ events) ≡ Some parts
   pub stands : Stands w (plants w ++ events) parts
 
 -- The text that tells a schedule that was played.

@@ -3,7 +3,7 @@ ghost use Rattle.std.specs.Prelude.{◌≡◌, ◌≢◌, ℕ, [], ◌+◌, ◌<
 ghost use Rattle.brk_table.specs.Places.{IsIn};
 ghost use Rattle.job_text.specs.Meaning.{lines_of};
 ghost use Rattle.module_area.specs.Meaning.{word_at, window_at};
-ghost use Rattle.interleave_core.specs.Meaning.{plan_in, first_parts, events_on};
+ghost use Rattle.interleave_core.specs.Meaning.{plan_in, first_parts, run_on};
 ghost use Rattle.interleave_core.specs.World.{IsWorld, world_of};
 ghost use Rattle.interleave_core.specs.Results.{Fits};
 ghost use Rattle.interleave_core.specs.Views.{Leaves};
@@ -137,7 +137,7 @@ fn plant<'a>(core: &mut Core<'a>, s: u32, p: u32)
     requires is_world { IsWorld core.old.world }
     requires fresh { (word_at core.old.parts.cells p).tag ≡ 0 }
     ensures stays { Stays core.old core.new }
-    ensures planted { events_on core.old.world core.old.parts (plant_at core.old.world p) ≡ Some core.new.parts }
+    ensures planted { run_on core.old.world core.old.parts (plant_at core.old.world p) ≡ Some core.new.parts }
     ensures others { (q : ℕ) → p < q → word_at core.new.parts.cells q ≡ word_at core.old.parts.cells q }
 {
     if s == 0 {
@@ -154,7 +154,7 @@ fn plant_all<'a>(core: &mut Core<'a>, windows: &[u32])
     requires is_world { IsWorld core.old.world }
     requires fresh { (p : ℕ) → (word_at core.old.parts.cells p).tag ≡ 0 }
     ensures stays { Stays core.old core.new }
-    ensures planted { events_on core.old.world core.old.parts (plants core.old.world) ≡ Some core.new.parts }
+    ensures planted { run_on core.old.world core.old.parts (plants core.old.world) ≡ Some core.new.parts }
 {
     for p in 0..windows.len() {
         plant(core, windows[p], p as u32);
@@ -166,7 +166,7 @@ fn begin<'a>(alloc: Global, job: &'a Job, tables: &'a Tables) -> Result<Core<'a>
     requires phase { length job.now.phases ≡ 1 }
     requires places { All (IsIn job.now.images) tables.now.places }
     ensures world { IfOk result (λ c. c.world ≡ world_of job.now tables.now) }
-    ensures planted { IfOk result (λ c. events_on c.world (first_parts c.world) (plants c.world) ≡ Some c.parts) }
+    ensures planted { IfOk result (λ c. run_on c.world (first_parts c.world) (plants c.world) ≡ Some c.parts) }
     ensures fits { IfOk result (λ c. Fits c.world c.parts) }
     ensures is_world { IfOk result (λ c. IsWorld c.world) }
 {

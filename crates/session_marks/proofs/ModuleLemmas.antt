@@ -14,7 +14,7 @@ use Rattle.cov_base.specs.Meaning.{FactSet, ImageView, is_filled}
 use Rattle.module_area.specs.Images.{IsImage, AreClear}
 use Rattle.module_area.specs.Meaning.{place_of, no_place}
 use Rattle.module_area.specs.declared.places.Place.{Place}
-use Rattle.brk_table.specs.Meaning.{TablesView, all_places, first_place, place_total as count_in}
+use Rattle.brk_table.specs.Meaning.{TablesView, all_places, first_place, place_count as count_in}
 use Rattle.brk_table.specs.Places.{IsPlace, AreApart}
 use Rattle.brk_table.specs.Together.{AreTables}
 use Rattle.marks_file.specs.Meaning.{MarkedView, is_new_name, is_base, is_clear, is_size, is_count, place_total, are_modules, is_module_count, are_marks, are_places}

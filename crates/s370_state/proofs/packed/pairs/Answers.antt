@@ -1,5 +1,5 @@
 use Rattle.std.proofs.Common.{◌≡◌, ◌/◌, ◌%◌, slice_index, true, ◌&&◌, ◌∙◌, sym, arith, lit<}
-use Rattle.s370_state.specs.Meaning.{is_decimal_digit}
+use Rattle.s370_state.specs.Meaning.{is_digit}
 use Rattle.s370_state.proofs.Digits.{no_digits, no_number, digits_more, number_more, digits_fail, pair_below, pair_more, pairs_fit}
 use Rattle.s370_state.proofs.packed.pairs.Goals as goal
 
@@ -22,7 +22,7 @@ pub loop-i-preserved : goal.loop-i-preserved
 loop-i-preserved g c =
     let b = slice_index c.args.row.now c.loop-i.i in
     let e = c.requires.row.each c.loop-i.i (omega arith) in
-    let pair : (is_decimal_digit (b / 16) && is_decimal_digit (b % 16)) ≡ true = sym c.is_pair.ensures ∙ c.if-not-is_pair.false in
+    let pair : (is_digit (b / 16) && is_digit (b % 16)) ≡ true = sym c.is_pair.ensures ∙ c.if-not-is_pair.false in
     let p = pair_below b pair in
     record {
       good = digits_more _ _ _ c.loop-i.i b e c.loop-i.invariant.good pair;

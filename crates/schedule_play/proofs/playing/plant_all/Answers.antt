@@ -1,7 +1,7 @@
 use Rattle.std.proofs.Common.{◌≡◌, ◌<◌, ℕ, length, get_or, sym, ap, ◌∙◌, subst, arith}
 use Rattle.module_area.specs.Meaning.{window_at}
 use Rattle.module_area.specs.declared.cells.Cell.{Cell}
-use Rattle.interleave_core.specs.Meaning.{World, plan_in, events_on}
+use Rattle.interleave_core.specs.Meaning.{World, plan_in, run_on}
 use Rattle.interleave_core.specs.World.{IsWorld}
 use Rattle.schedule_play.proofs.PlantLemmas.{plants_from, planted_next, planted_end}
 use Rattle.schedule_play.proofs.playing.plant_all.Goals as goal
@@ -33,5 +33,5 @@ loop-p-preserved c = record {
 pub returns-clause-planted : goal.returns-clause-planted
 returns-clause-planted c =
     let all : length c.args.windows.now ≡ length c.args.core.now.world.places = ap length c.requires.windows ∙ c.requires.is_world.is_plan.windows in
-    ap (λ (n : ℕ). events_on c.args.core.now.world c.args.core.now.parts (plants_from c.args.core.now.world 0 n)) (sym all)
+    ap (λ (n : ℕ). run_on c.args.core.now.world c.args.core.now.parts (plants_from c.args.core.now.world 0 n)) (sym all)
     ∙ (c.loop-p.invariant.planted ∙ planted_end c.loop-p.core.world c.loop-p.p (length c.args.windows.now) c.loop-p.core.parts c.loop-p-test.false)
