@@ -3,8 +3,8 @@ use Rattle.std.proofs.lemmas.List.Elements.{All-cons, All-nil}
 use Rattle.session_book.specs.JobView.{IsTask}
 use Rattle.interleave_core_tests.proofs.tests.job.Goals as goal
 
-pub new-requires : goal.new-requires
-new-requires c = record {
+pub new-requires-2 : goal.new-requires-2
+new-requires-2 c = record {
   listings = search rules;
   images = search rules;
   sizes = search rules;
