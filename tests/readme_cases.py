@@ -117,11 +117,21 @@ def length_of_readme() -> None:
     assert words < 1200, f"{words} words"
 
 
+def listed_crates() -> list[str]:
+    """The crates of crates.txt, in their order."""
+    return [it.partition(":")[0] for it in text_of("crates.txt").splitlines() if ":" in it and not it.startswith("#")]
+
+
+def crates_of_readme() -> None:
+    """README.md: it names the crates of crates.txt, in their order"""
+    named = " ".join(text_of("README.md").split()).partition("Its crates, as")[2].partition("): ")[2]
+    equal(named, ", ".join(listed_crates()) + ".")
+
+
 def crates_described() -> None:
     """docs/ARCHITECTURE.md: its table has each crate of crates.txt once, and no other"""
-    listed = [it.partition(":")[0] for it in text_of("crates.txt").splitlines() if ":" in it and not it.startswith("#")]
     table = text_of("docs/ARCHITECTURE.md").partition("| Crate |")[2].partition("\n\n")[0]
-    equal(sorted(", ".join(re.findall(r"(?m)^\| (\w[\w, ]*) \|", table)).split(", ")), sorted(listed))
+    equal(sorted(", ".join(re.findall(r"(?m)^\| (\w[\w, ]*) \|", table)).split(", ")), sorted(listed_crates()))
 
 
-CHECKS = [commands_in_help, trouble, length_of_readme, crates_described]
+CHECKS = [commands_in_help, trouble, length_of_readme, crates_of_readme, crates_described]
