@@ -6,7 +6,8 @@ use Rattle.cov_base.specs.declared.facts.Fact.{Fact}
 use Rattle.module_area.specs.Meaning.{place_of, window_at}
 use Rattle.module_area.specs.declared.places.Place.{Place}
 use Rattle.task_services.specs.Meaning.{course_of}
-use Rattle.session_book.specs.Meaning.{JobView, session_of, no_session, observes, traces_from, plan_view}
+use Rattle.session_book.specs.Meaning.{JobView, session_of, no_session, observes}
+use Rattle.phase_plan.specs.Meaning.{traces_from, plan_view}
 use Rattle.session_book.specs.JobView.{IsJob}
 use Rattle.session_book.specs.Sessions.{AreWhole}
 use Rattle.job_run.specs.Meaning.{trace_by}

@@ -13,7 +13,8 @@ use Rattle.module_area.specs.Meaning.{PlanView, place_of, window_at}
 use Rattle.module_area.specs.declared.places.Place.{Place}
 use Rattle.observed_step.specs.Steps.{memory_at}
 use Rattle.task_services.specs.Meaning.{course_of}
-use Rattle.session_book.specs.Meaning.{JobView, task_of, traces_from, plan_view}
+use Rattle.session_book.specs.Meaning.{JobView, task_of}
+use Rattle.phase_plan.specs.Meaning.{traces_from, plan_view}
 use Rattle.job_run.specs.Crews.{all_tasks, phase_at}
 use Rattle.job_run.specs.Meaning.{result_of_run, trace_by}
 use Rattle.job_run.specs.Tasks.{HasNotRun, IsEnded, done_result, own_run}

@@ -5,7 +5,8 @@ use Rattle.cov_base.specs.declared.facts.Fact.{Fact}
 use Rattle.module_area.specs.declared.places.Place.{Place}
 use Rattle.module_area.specs.Meaning.{shows, place_of}
 use Rattle.task_services.specs.Meaning.{course_of}
-use Rattle.session_book.specs.Meaning.{JobView, session_of, observes, traces_from}
+use Rattle.session_book.specs.Meaning.{JobView, session_of, observes}
+use Rattle.phase_plan.specs.Meaning.{traces_from}
 use Rattle.job_run.specs.Meaning.{trace_by}
 
 -- How often traces give a fact at a place.

@@ -6,7 +6,8 @@ use Rattle.cov_base.specs.declared.numbers.TaskNo.{TaskNo}
 use Rattle.module_area.specs.Meaning.{place_of, window_at}
 use Rattle.module_area.specs.declared.places.Place.{Place}
 use Rattle.task_services.specs.Meaning.{course_of}
-use Rattle.session_book.specs.Meaning.{JobView, plan_view, traces_from}
+use Rattle.session_book.specs.Meaning.{JobView}
+use Rattle.phase_plan.specs.Meaning.{plan_view, traces_from}
 use Rattle.job_run.specs.Meaning.{trace_by}
 use Rattle.job_run.specs.Tasks.{AreRun}
 use Rattle.count_session.specs.Meaning.{count_at, count_of_all}

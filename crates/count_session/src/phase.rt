@@ -19,7 +19,8 @@ use cov_base::{NoMemory, PlaceNo, TaskNo};
 use cov_outside::Gate;
 use job_run::{Crew, Done, run_crew};
 use module_area::Plan;
-use session_book::{Job, plan_of};
+use phase_plan::plan_of;
+use session_book::Job;
 use std::alloc::Global;
 use std::thread::Threads;
 
@@ -85,7 +86,7 @@ pub(crate) struct CountCrew<'a> {
 }
 
 impl<'a> Crew for CountCrew<'a> {
-    ghost use Rattle.session_book.specs.Meaning.{plan_view};
+    ghost use Rattle.phase_plan.specs.Meaning.{plan_view};
     ghost use Rattle.task_services.specs.Meaning.{course_of};
     ghost use Rattle.job_run.specs.Crews.{phase_at};
     ghost use Rattle.job_run.specs.Passes.{IsOfPhase};

@@ -10,7 +10,8 @@ use Rattle.cov_base.specs.declared.numbers.TaskNo.{TaskNo}
 use Rattle.module_area.specs.Meaning.{set_at, ControlView, first_control, number_of, sessions_of, PlanView, ControlledView, has_session}
 use Rattle.module_area.specs.Rule.{has_task}
 use Rattle.module_area.specs.declared.places.Place.{Place}
-use Rattle.session_book.specs.Meaning.{JobView, SessionView, TaskView, no_session, no_task, session_of, task_of, with_controlled, controlled_from, plan_view, ResultView}
+use Rattle.session_book.specs.Meaning.{JobView, SessionView, TaskView, no_session, no_task, session_of, task_of, ResultView}
+use Rattle.phase_plan.specs.Meaning.{with_controlled, controlled_from, plan_view}
 use Rattle.session_book.specs.JobView.{IsJob, IsTaskOf}
 use Rattle.task_run.specs.Meaning.{Walk, solo}
 use Rattle.task_run.specs.Ran.{walk_from}

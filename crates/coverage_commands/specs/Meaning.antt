@@ -20,7 +20,8 @@ use Rattle.check_exits.specs.Meaning.{with_exits}
 use Rattle.task_run.specs.Meaning.{Course, solo, IsBetween}
 use Rattle.task_services.specs.Meaning.{course_of}
 use Rattle.table_combine.specs.Meaning.{Difference, first_difference, IsCombined, IsBad, IsOtherTable}
-use Rattle.session_book.specs.Meaning.{JobView, SessionView, session_of, is_whole, plan_view, observes, ResultView}
+use Rattle.session_book.specs.Meaning.{JobView, SessionView, session_of, is_whole, observes, ResultView}
+use Rattle.phase_plan.specs.Meaning.{plan_view}
 use Rattle.brk_table.specs.Meaning.{TablesView}
 use Rattle.job_input.specs.Meaning.{SourceChange, CameWhole, HasJob, to_end, to_go_on, input_limit, IsJobFault, IsReadFault, source_change}
 use Rattle.job_input.specs.declared.form.Form.{Form}

@@ -7,7 +7,7 @@ ghost use Rattle.refusals.specs.Meaning.{refusal};
 ghost use Rattle.coverage_commands.specs.Files.{IsFileOf, IsFileRefusal, IsShowRefusal};
 ghost use Rattle.report_text.specs.Conditions.{AreTablesOf};
 ghost use Rattle.report_text.specs.Writes.{PrintsText};
-ghost use Rattle.session_book.specs.Sets.{HasSetsOf};
+ghost use Rattle.phase_plan.specs.Sets.{HasSetsOf};
 ghost use Rattle.session_marks.specs.FromFile.{set_at, sets_of_one};
 ghost use Rattle.coverage_commands.specs.Calls.{Tells};
 

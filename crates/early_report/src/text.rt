@@ -1,6 +1,6 @@
 //! The text of an early report: behind each controlled session's part, whether and when its sets were taken.
 ghost use Rattle.std.specs.Prelude.{◌≡◌, ◌<◌, ◌≤◌, ◌++◌, ◌∷◌, [], length, is_some, if◌then◌else◌};
-ghost use Rattle.session_book.specs.Sets.{HasSetsOf};
+ghost use Rattle.phase_plan.specs.Sets.{HasSetsOf};
 ghost use Rattle.report_text.specs.Conditions.{AreTablesOf, AreResultsOf, AreSetsOf};
 ghost use Rattle.report_text.specs.Writes.{Prints};
 ghost use Rattle.early_report.specs.Meaning.{drain_line};

@@ -7,7 +7,8 @@ use Rattle.cov_base.specs.declared.facts.Fact.{Fact}
 use Rattle.cov_base.specs.declared.facts.Fact.TheVariants.{Ran, Went, Stayed}
 use Rattle.module_area.specs.Meaning.{executes, shows, facts_at, facts_of_all, place_of}
 use Rattle.module_area.specs.declared.places.Place.{Place}
-use Rattle.session_book.specs.Meaning.{JobView, TaskView, session_of, traces_from}
+use Rattle.session_book.specs.Meaning.{JobView, TaskView, session_of}
+use Rattle.phase_plan.specs.Meaning.{traces_from}
 use Rattle.evidence_check.specs.Meaning.{trace_of, first_in, first_from, session_first, session_facts}
 use Rattle.evidence_check.specs.Noting.{first_of}
 use Rattle.evidence_check.specs.declared.firsts.First.{First}

@@ -18,7 +18,8 @@ use Rattle.s370_exec.proofs.Laws.{solo_step-done}
 use Rattle.module_area.specs.Meaning.{shows, place_of}
 use Rattle.module_area.specs.declared.places.Place.{Place}
 use Rattle.observed_step.proofs.Laws.{course_solo}
-use Rattle.session_book.specs.Meaning.{JobView, TaskView, task_memory, task_of, session_of, first_state, no_task}
+use Rattle.session_book.specs.Meaning.{JobView, TaskView, task_of, session_of, no_task}
+use Rattle.phase_plan.specs.Meaning.{task_memory, first_state}
 use Rattle.session_book.specs.JobView.{IsJob}
 use Rattle.evidence_check.specs.Meaning.{trace_of, first_in, first_from, session_first}
 use Rattle.evidence_check.specs.Noting.{first_of}

@@ -9,7 +9,8 @@ use Rattle.module_area.specs.declared.places.Place.{Place}
 use Rattle.brk_table.specs.Meaning.{TablesView, first_place, place_count}
 use Rattle.observed_step.specs.Meaning.{visits_of}
 use Rattle.task_run.specs.Meaning.{solo}
-use Rattle.session_book.specs.Meaning.{JobView, TaskView, of_task, session_of, session_set}
+use Rattle.session_book.specs.Meaning.{JobView, TaskView, session_of}
+use Rattle.phase_plan.specs.Meaning.{of_task, session_set}
 use Rattle.evidence_check.specs.declared.firsts.First.{First}
 use Rattle.byteorder.specs.Endian.{big_bytes, big_number}
 use Rattle.cov_base.specs.declared.facts.Fact.TheVariants.{Ran, Went, Stayed}

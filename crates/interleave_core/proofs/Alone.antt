@@ -11,7 +11,8 @@ use Rattle.s370_state.specs.declared.endings.Next.{Next}
 use Rattle.s370_state.specs.declared.endings.Next.TheVariants.{On, Ended as NextEnded}
 use Rattle.s370_exec.specs.Meaning.{Run, solo_run, solo_step, run_from, run_after, run_ended, has_returned}
 use Rattle.s370_exec.proofs.Laws.{solo_step-done}
-use Rattle.session_book.specs.Meaning.{task_of, no_task, first_state}
+use Rattle.session_book.specs.Meaning.{task_of, no_task}
+use Rattle.phase_plan.specs.Meaning.{first_state}
 use Rattle.interleave_core.specs.Meaning.{World, TaskPart, Parts, part_of, first_part, memory_in, budget_in, first_parts, place_at, PlaceChange, Stepped, parts_step, cell_fetched, fact_marked, lifted, done_by, changed, with_due, original_under, same_cell, in_hand, with_stage, step_of, is_spent, executed, stage_after, place_due, task_goes_on, task_done, subject_place, instruction_executed, awaits_or, same_due}
 use Rattle.module_area.specs.Meaning.{word_at}
 use Rattle.interleave_core.specs.CoreState.{CoreState, CoreStepped, core_start, core_step, core_after, core_from, core_run}

@@ -31,7 +31,8 @@ use Rattle.interleave_core.proofs.Alone.{GoesAt, AllGo, has_ended, is_inside, ex
 use Rattle.s370_state.specs.declared.endings.Ending.TheVariants.{Returned, Spent}
 use Rattle.s370_state.specs.declared.endings.Next.{Next}
 use Rattle.s370_state.specs.declared.endings.Next.TheVariants.{On, Ended as NextEnded}
-use Rattle.session_book.specs.Meaning.{task_of, no_task, first_state}
+use Rattle.session_book.specs.Meaning.{task_of, no_task}
+use Rattle.phase_plan.specs.Meaning.{first_state}
 use Rattle.module_area.specs.Rule.{window_tag}
 use Rattle.std.proofs.lemmas.Grind.{get_or-set_at}
 use Rattle.std.proofs.lemmas.Option.{same_Some}

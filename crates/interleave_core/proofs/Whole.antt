@@ -19,7 +19,8 @@ use Rattle.module_area.specs.declared.parties.View.{View}
 use Rattle.module_area.specs.declared.places.Place.{Place}
 use Rattle.module_area.proofs.Laws.{has_fact-with_fact, same_fact-true, same_tests, has-append, left-append, right-append, or_cases}
 use Rattle.module_area.proofs.Laws.{or_left, or_right, same_fact-same}
-use Rattle.session_book.specs.Meaning.{SessionView, TaskView, session_of, no_session, no_task, is_whole, observes, window_from, window_of, traces_from, session_set}
+use Rattle.session_book.specs.Meaning.{SessionView, TaskView, session_of, no_session, no_task, is_whole, observes}
+use Rattle.phase_plan.specs.Meaning.{window_from, window_of, traces_from, session_set}
 use Rattle.brk_table.proofs.Laws.{one_begins}
 use Rattle.interleave_core.specs.Meaning.{World, TaskPart, Parts, part_of, budget_in, plan_in, place_at, Stepped, parts_step, cell_fetched, fact_marked, lifted, done_by, may_plant, breakpoint_of, with_cell, with_due, with_stage, original_under, same_cell, in_hand, hand_at, step_of, place_due, is_awaiting, task_done, set_of, fact_in}
 use Rattle.interleave_core.specs.World.{IsWorld}

@@ -7,7 +7,8 @@ use Rattle.module_area.specs.Meaning.{fresh_word, word_at, PlanView, ControlledV
 use Rattle.module_area.specs.declared.cells.Cell.{Cell}
 use Rattle.module_area.specs.declared.places.Place.{Place}
 use Rattle.brk_table.specs.Meaning.{memory_of}
-use Rattle.session_book.specs.Meaning.{JobView, TaskView, task_of, no_task, first_state, plan_view, ResultView}
+use Rattle.session_book.specs.Meaning.{JobView, TaskView, task_of, no_task, ResultView}
+use Rattle.phase_plan.specs.Meaning.{first_state, plan_view}
 use Rattle.interleave_core.specs.declared.stage.Stage.{Stage}
 use Rattle.interleave_core.specs.declared.stage.Stage.TheVariants.{Ready, Awaiting, Holding, Ended}
 use Rattle.cov_base.specs.declared.numbers.PlaceNo.{PlaceNo}

@@ -7,7 +7,8 @@ use Rattle.s370_state.specs.declared.endings.Ending.{Ending}
 use Rattle.s370_exec.specs.Meaning.{Run, solo_run, run_ended, visit_of}
 use Rattle.module_area.specs.Meaning.{kind_at, window_at, place_of}
 use Rattle.module_area.specs.declared.cells.Cell.{Cell}
-use Rattle.session_book.specs.Meaning.{task_of, first_state, session_set}
+use Rattle.session_book.specs.Meaning.{task_of}
+use Rattle.phase_plan.specs.Meaning.{first_state, session_set}
 use Rattle.interleave_core.specs.Meaning.{World, TaskPart, Parts, part_of, first_parts, memory_in, budget_in, plan_in, place_at, step_of, set_of, Stepped, parts_step}
 use Rattle.interleave_core.specs.declared.events.Event.{Event}
 use Rattle.interleave_core.specs.declared.events.Event.TheVariants.{Fetch, Plant}

@@ -26,8 +26,9 @@ use crate::stage::{Due, Hand};
 use brk_table::Tables;
 use cov_base::{Bits, NoMemory, PlaceNo, SessNo, TaskNo};
 use module_area::{Cell, Plan};
+use phase_plan::plan_of;
 use s370_state::{Cpu, Ending};
-use session_book::{FactSets, Job, Results, plan_of};
+use session_book::{FactSets, Job, Results};
 use std::alloc::Global;
 use std::marker::Model;
 

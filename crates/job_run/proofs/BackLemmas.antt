@@ -10,7 +10,8 @@ use Rattle.module_area.specs.Meaning.{FinalsView, set_at, PlanView}
 use Rattle.module_area.specs.Notes.{Notes}
 use Rattle.module_area.specs.declared.places.Place.{Place}
 use Rattle.task_run.specs.Meaning.{Course}
-use Rattle.session_book.specs.Meaning.{JobView, plan_view}
+use Rattle.session_book.specs.Meaning.{JobView}
+use Rattle.phase_plan.specs.Meaning.{plan_view}
 use Rattle.job_run.specs.Crews.{AreBack, phase_at}
 use Rattle.job_run.specs.Passes.{AreEquipped, EndsTask, KnowsFinal}
 use Rattle.job_run.specs.Slots.{AreEmpty, HaveExtras, KeepsOthers, in_phase}

@@ -5,7 +5,8 @@ use Rattle.std.proofs.lemmas.Bool.Decides.{nat_tests}
 use Rattle.std.proofs.lemmas.List.{append-nil, take_more, take_all, length-take-le}
 use Rattle.cov_base.specs.declared.numbers.TaskNo.{TaskNo}
 use Rattle.module_area.specs.Rule.{has_task}
-use Rattle.session_book.specs.Meaning.{TaskView, task_of, no_task, tasks_from}
+use Rattle.session_book.specs.Meaning.{TaskView, task_of, no_task}
+use Rattle.phase_plan.specs.Meaning.{tasks_from}
 use Rattle.job_run.specs.Crews.{PhaseView, IsTaskOf, is_its, all_tasks, tasks_before}
 
 -- the first task of some, and the rest

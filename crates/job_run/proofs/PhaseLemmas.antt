@@ -5,7 +5,8 @@ use Rattle.module_area.specs.Meaning.{FinalsView}
 use Rattle.module_area.specs.declared.places.Place.{Place}
 use Rattle.module_area.specs.declared.tallies.Tally.{Tally}
 use Rattle.task_run.specs.Meaning.{Course}
-use Rattle.session_book.specs.Meaning.{JobView, plan_view}
+use Rattle.session_book.specs.Meaning.{JobView}
+use Rattle.phase_plan.specs.Meaning.{plan_view}
 use Rattle.job_run.specs.Meaning.{EndsArea, Account, AreEnded, phase_trace, walk_by}
 use Rattle.job_run.specs.Areas.{GrowsBy}
 use Rattle.job_run.specs.Runs.{HasLeftBy}

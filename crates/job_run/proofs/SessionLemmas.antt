@@ -15,7 +15,8 @@ use Rattle.module_area.specs.Meaning.{facts_at, FinalsView, set_at, PlanView, Co
 use Rattle.module_area.specs.declared.places.Place.{Place}
 use Rattle.task_run.proofs.Laws.{facts_of_all-one}
 use Rattle.task_run.specs.Meaning.{Course, IsBetween}
-use Rattle.session_book.specs.Meaning.{JobView, SessionView, session_of, no_session, is_whole, observes, window_from, window_of, plan_view, traces_from, places_from, with_controlled, controlled_from}
+use Rattle.session_book.specs.Meaning.{JobView, SessionView, session_of, no_session, is_whole, observes}
+use Rattle.phase_plan.specs.Meaning.{window_from, window_of, plan_view, traces_from, places_from, with_controlled, controlled_from}
 use Rattle.session_book.specs.JobView.{IsJob, IsSession, AreParted, is_same_controller}
 use Rattle.job_run.specs.Meaning.{IsBounded, Account, joined, phase_trace, set_by, least_by, most_by, trace_by, walk_by, no_finals, set_left}
 use Rattle.job_run.specs.Runs.{HasLeftBy}

@@ -24,7 +24,8 @@ use Rattle.svc_monitor.proofs.Laws.{Observes-none}
 use Rattle.task_run.specs.Called.{Follows, HasWindows, HasPlanted}
 use Rattle.task_run.specs.Meaning.{Course, Walk}
 use Rattle.task_run.specs.Ran.{walk_from}
-use Rattle.session_book.specs.Meaning.{JobView, TaskView, task_of, tasks_from, traces_from, plan_view}
+use Rattle.session_book.specs.Meaning.{JobView, TaskView, task_of}
+use Rattle.phase_plan.specs.Meaning.{tasks_from, traces_from, plan_view}
 use Rattle.session_book.specs.JobView.{IsJob, IsTask}
 use Rattle.job_run.specs.Bounds.{JoinsTasks, Leaves}
 use Rattle.job_run.specs.Crews.{phase_at, all_tasks}

@@ -16,7 +16,8 @@ use Rattle.task_run.specs.Meaning.{Course, walk}
 use Rattle.task_run.specs.Ran.{run_from, walk_from}
 use Rattle.observed_step.specs.Meaning.{Tour}
 use Rattle.observed_step.specs.Steps.{stands}
-use Rattle.session_book.specs.Meaning.{JobView, ResultView, task_of, no_task, plan_view}
+use Rattle.session_book.specs.Meaning.{JobView, ResultView, task_of, no_task}
+use Rattle.phase_plan.specs.Meaning.{plan_view}
 use Rattle.session_book.specs.JobView.{IsJob, IsTask}
 use Rattle.space_map.specs.Space.{SpaceView, memory_of_space, row_of}
 use Rattle.job_run.specs.Meaning.{run_by, walk_by, result_by, result_of_run, no_finals}

@@ -1,7 +1,8 @@
 -- The tasks of a phase, and what a crew makes of their slots.
 use Rattle.std.specs.Prelude.{◌≡◌, ℕ, ◌<◌, Bool, true, false, Option, Some, None, IfSome, List, length, get_or, take}
 use Rattle.cov_base.specs.declared.numbers.TaskNo.{TaskNo}
-use Rattle.session_book.specs.Meaning.{JobView, tasks_from}
+use Rattle.session_book.specs.Meaning.{JobView}
+use Rattle.phase_plan.specs.Meaning.{tasks_from}
 use Rattle.job_run.specs.Slots.{AreEmpty, in_phase}
 use Rattle.job_run.specs.declared.outcome.Done.{Done}
 use Rattle.job_run.specs.declared.slots.Slot.{Slot}

@@ -10,7 +10,8 @@ use Rattle.observed_step.specs.Meaning.{Tour, visits_of}
 use Rattle.svc_monitor.specs.Meaning.{at_places, facts_under}
 use Rattle.task_run.specs.Meaning.{tag_by, Walk, Course, solo, walk, IsBetween, least_set, most_set, opened_places, closed_places}
 use Rattle.module_area.specs.declared.places.Place.{Place}
-use Rattle.session_book.specs.Meaning.{JobView, ResultView, of_task, session_of, session_set, traces_from, plan_view}
+use Rattle.session_book.specs.Meaning.{JobView, ResultView, session_of}
+use Rattle.phase_plan.specs.Meaning.{of_task, session_set, traces_from, plan_view}
 
 -- What one area is left with after its phase's tasks have run over its plan.
 

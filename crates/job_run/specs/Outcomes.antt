@@ -4,7 +4,8 @@ use Rattle.cov_base.specs.Meaning.{is_within}
 use Rattle.module_area.specs.Meaning.{place_of, set_at}
 use Rattle.module_area.specs.declared.places.Place.{Place}
 use Rattle.task_run.specs.Meaning.{Course, solo, IsBetween}
-use Rattle.session_book.specs.Meaning.{JobView, task_of, session_of, observes, is_whole, plan_view}
+use Rattle.session_book.specs.Meaning.{JobView, task_of, session_of, observes, is_whole}
+use Rattle.phase_plan.specs.Meaning.{plan_view}
 use Rattle.job_run.specs.Meaning.{result_by, set_by, least_by, most_by, no_finals}
 use Rattle.job_run.specs.Sets.{SetsView, set_in}
 use Rattle.job_run.specs.Tasks.{Ends, IsEquipped, results_of}

@@ -15,7 +15,8 @@ use Rattle.planter.specs.Planted.{planted_notes}
 use Rattle.svc_monitor.specs.Observed.{Observes}
 use Rattle.task_run.specs.Meaning.{Course, Walk}
 use Rattle.task_run.specs.Ran.{RanAs}
-use Rattle.session_book.specs.Meaning.{JobView, plan_view}
+use Rattle.session_book.specs.Meaning.{JobView}
+use Rattle.phase_plan.specs.Meaning.{plan_view}
 use Rattle.session_book.specs.JobView.{IsJob}
 use Rattle.job_run.specs.Bounds.{JoinsTasks, Leaves}
 use Rattle.job_run.specs.Crews.{AreReady, phase_at}

@@ -5,7 +5,8 @@ use Rattle.module_area.specs.declared.areas.Areas as areas
 use Rattle.module_area.specs.declared.places.Place.{Place}
 use Rattle.module_area.specs.declared.tallies.Tally.{Tally}
 use Rattle.brk_table.specs.Meaning.{TablesView}
-use Rattle.session_book.specs.Meaning.{JobView, plan_view}
+use Rattle.session_book.specs.Meaning.{JobView}
+use Rattle.phase_plan.specs.Meaning.{plan_view}
 use Rattle.task_run.specs.Meaning.{Course, solo}
 use Rattle.job_run.specs.Areas.{GrowsBy}
 use Rattle.job_run.specs.Meaning.{walk_by, phase_trace, Account, HasRunBy}

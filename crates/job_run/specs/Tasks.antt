@@ -8,8 +8,9 @@ use Rattle.module_area.specs.declared.places.Place.{Place}
 use Rattle.task_run.specs.Meaning.{Course}
 use Rattle.task_run.specs.Ran.{run_from}
 use Rattle.task_run.specs.declared.tasks.Task.{Task}
-use Rattle.session_book.specs.Begun.{IsBegun}
-use Rattle.session_book.specs.Meaning.{JobView, ResultView, task_of, plan_view}
+use Rattle.phase_plan.specs.Begun.{IsBegun}
+use Rattle.session_book.specs.Meaning.{JobView, ResultView, task_of}
+use Rattle.phase_plan.specs.Meaning.{plan_view}
 use Rattle.job_run.specs.Meaning.{result_by}
 use Rattle.job_run.specs.declared.outcome.Done.{Done}
 use Rattle.job_run.specs.declared.slots.Slot.{Slot}

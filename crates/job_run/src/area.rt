@@ -1,6 +1,6 @@
 //! The crew of an area: it runs the tasks of a phase by any runner of tasks.
 ghost use Rattle.std.specs.Prelude.{◌≡◌, length, IfOk};
-ghost use Rattle.session_book.specs.Meaning.{plan_view};
+ghost use Rattle.phase_plan.specs.Meaning.{plan_view};
 ghost use Rattle.job_run.specs.Passes.{AreEquipped};
 ghost use Rattle.job_run.specs.Slots.{AreEmpty, KeepsOthers};
 ghost use Rattle.job_run.specs.Tasks.{AreRun};

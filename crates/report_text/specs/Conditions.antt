@@ -7,7 +7,7 @@ use Rattle.module_area.specs.declared.places.Place.{Place}
 use Rattle.brk_table.specs.Meaning.{TablesView}
 use Rattle.brk_table.specs.Places.{IsIn}
 use Rattle.session_book.specs.Meaning.{JobView, ResultView, session_of, task_of}
-use Rattle.session_book.specs.Sets.{AreWithin}
+use Rattle.phase_plan.specs.Sets.{AreWithin}
 
 -- each line of a listing has a number
 abbrev pub HasFewLines : JobView → Type 0

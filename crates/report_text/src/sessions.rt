@@ -9,7 +9,7 @@ ghost use Rattle.report_text.specs.Conditions.{AreTablesOf, HasSession};
 ghost use Rattle.report_text.specs.Meaning.{lacks, location_of, last_byte_of, line_mark, marked_lines, marked_listing, run_line, executed_count, shown_count, possible_count, totals_line, session_line, module_lines};
 ghost use Rattle.report_text.specs.Sessions.{open_run, runs_from, lines_of, session_text};
 ghost use Rattle.session_book.specs.Meaning.{module_of};
-ghost use Rattle.session_book.specs.Sets.{HasSetsOf, AreWithin};
+ghost use Rattle.phase_plan.specs.Sets.{HasSetsOf, AreWithin};
 ghost use Rattle.report_text.specs.declared.sessions.Run.{Run};
 ghost use Rattle.report_text.specs.Writes.{Prints, PrintsText};
 

@@ -14,7 +14,8 @@ use brk_table::Tables;
 use cov_base::{NoMemory, PlaceNo, SessNo};
 use interleave_core::{Core, Event, NotPossible, Shown, start};
 use job_text::{Item, first_line, item_of};
-use session_book::{Job, plan_of};
+use phase_plan::plan_of;
+use session_book::Job;
 use std::alloc::{AllocFailed, Global};
 
 /// An item of a schedule, the event that it stood for, if it was one, and what it has shown.

@@ -1,3 +1,1 @@
-mod ControlledLemmas
-mod PlanLemmas
 mod NameLemmas

@@ -1,8 +1,6 @@
-pub mod Begun
 pub mod JobInside
 pub mod JobView
 pub mod Meaning
 pub mod Names
 pub mod Results
 pub mod Sessions
-pub mod Sets

@@ -9,7 +9,7 @@ use Rattle.std.proofs.lemmas.List.Elements.{All-cons, All-nil}
 use Rattle.std.proofs.lemmas.Bool.{ltb-true}
 use Rattle.cov_base.specs.declared.facts.Kind.{Kind}
 use Rattle.session_book.specs.Meaning.{module_of, JobView}
-use Rattle.session_book.specs.Sets.{AreWithin}
+use Rattle.phase_plan.specs.Sets.{AreWithin}
 use Rattle.session_marks.specs.Fields.{HasGoodFields, AreHalfwords}
 use Rattle.session_marks.proofs.TableLemmas.{Differ}
 use Rattle.session_marks.proofs.ModuleLemmas.{AreTabled, own_places_kept, marks_kept}

@@ -22,7 +22,7 @@ use Rattle.marks_file.specs.declared.marks.MarkedPlace.{MarkedPlace}
 use Rattle.marks_file.proofs.Laws.{is_module, both}
 use Rattle.session_book.specs.Meaning.{JobView, module_of, no_module}
 use Rattle.session_book.specs.JobView.{IsJob}
-use Rattle.session_book.specs.Sets.{AreWithin}
+use Rattle.phase_plan.specs.Sets.{AreWithin}
 use Rattle.session_marks.specs.Fields.{HasGoodFields, AreHalfwords}
 use Rattle.session_marks.specs.Meaning.{marked_places, marked_module}
 use Rattle.session_marks.proofs.TableLemmas.{OwnTable, own_table, Differ, count_of, counts_fit, count_more, first_differs, rest_differs}

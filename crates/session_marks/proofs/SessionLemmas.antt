@@ -12,7 +12,7 @@ use Rattle.table_combine.specs.Meaning.{first_difference, unite}
 use Rattle.table_combine.proofs.Laws.{row_same, same_rows, joined_rows, length-unite_places}
 use Rattle.brk_table.specs.Meaning.{TablesView, first_place, place_count}
 use Rattle.session_book.specs.Meaning.{JobView, module_of, session_of}
-use Rattle.session_book.specs.Sets.{AreWithin}
+use Rattle.phase_plan.specs.Sets.{AreWithin}
 use Rattle.session_marks.specs.Meaning.{marked_places, marked_place, marked_module, session_marks, session_rows}
 use Rattle.session_marks.specs.FromFile.{IsOwn, AreSameAt}
 use Rattle.session_marks.proofs.RuleLemmas.{length-marked_places}

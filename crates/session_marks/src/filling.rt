@@ -2,7 +2,7 @@
 ghost use Rattle.std.specs.Prelude.{◌≡◌, ◌+◌, ◌<◌, ◌≤◌, length};
 ghost use Rattle.brk_table.specs.Together.{AreTables};
 ghost use Rattle.cov_base.specs.Meaning.{no_facts};
-ghost use Rattle.session_book.specs.Sets.{HasSetsOf};
+ghost use Rattle.phase_plan.specs.Sets.{HasSetsOf};
 ghost use Rattle.session_marks.specs.Filled.{with_sets, filled_module, AreThere, filled};
 ghost use Rattle.session_marks.specs.Meaning.{session_file};
 

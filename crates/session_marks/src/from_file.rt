@@ -3,7 +3,7 @@ ghost use Rattle.std.specs.Prelude.{◌≡◌, ◌≢◌, ◌⊎◌, ℕ, ◌+�
 ghost use Rattle.cov_base.specs.Meaning.{no_facts};
 ghost use Rattle.brk_table.specs.Together.{AreTables};
 ghost use Rattle.session_book.specs.Meaning.{session_of};
-ghost use Rattle.session_book.specs.Sets.{HasSetsOf};
+ghost use Rattle.phase_plan.specs.Sets.{HasSetsOf};
 ghost use Rattle.session_marks.specs.Meaning.{session_marks};
 ghost use Rattle.session_marks.specs.FromFile.{set_at, sets_of_one, HasSetsAt, HaveSets, HaveCounts, AreEmptyElsewhere, AreOfSession, IsSetsFault, IsDecided};
 

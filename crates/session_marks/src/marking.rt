@@ -4,7 +4,7 @@ ghost use Rattle.brk_table.specs.Together.{AreTables};
 ghost use Rattle.module_area.specs.Meaning.{place_of};
 ghost use Rattle.session_book.specs.JobView.{IsJob, IsSession};
 ghost use Rattle.session_book.specs.Meaning.{module_of, session_of};
-ghost use Rattle.session_book.specs.Sets.{HasSetsOf, AreWithin};
+ghost use Rattle.phase_plan.specs.Sets.{HasSetsOf, AreWithin};
 ghost use Rattle.session_marks.specs.Meaning.{marked_place, marked_module, marked_modules, session_file};
 ghost use Rattle.session_marks.specs.Marking.{marked_between};
 ghost use Rattle.session_marks.specs.Fields.{HasGoodFields, AreHalfwords};

@@ -7,7 +7,8 @@ use Rattle.observed_step.specs.Meaning.{Tour, visits_of}
 use Rattle.observed_step.specs.Steps.{memory_at, stands}
 use Rattle.observed_step.specs.declared.bench.Bench.{Bench}
 use Rattle.observed_step.specs.declared.task.TaskEnd.{TaskEnd}
-use Rattle.session_book.specs.Meaning.{JobView, first_state, of_task, plan_view, task_memory, task_of}
+use Rattle.session_book.specs.Meaning.{JobView, task_of}
+use Rattle.phase_plan.specs.Meaning.{first_state, of_task, plan_view, task_memory}
 use Rattle.session_book.specs.declared.services.Service.{Service}
 use Rattle.task_run.specs.Meaning.{Course, solo}
 use Rattle.task_services.specs.Meaning.{course_of, with_services}

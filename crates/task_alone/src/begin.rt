@@ -1,7 +1,8 @@
 //! A task of a job that runs alone, before its first instruction.
 ghost use Rattle.std.specs.Prelude.{◌≡◌, ◌<◌, length, IfOk};
 ghost use Rattle.brk_table.specs.Kept.{AreCodes};
-ghost use Rattle.session_book.specs.Meaning.{first_state, task_memory, task_of};
+ghost use Rattle.session_book.specs.Meaning.{task_of};
+ghost use Rattle.phase_plan.specs.Meaning.{first_state, task_memory};
 ghost use Rattle.observed_step.specs.Steps.{IsShown, memory_at, stands};
 ghost use Rattle.task_alone.specs.Alone.{no_sessions};
 
@@ -9,7 +10,8 @@ use brk_table::Tables;
 use cov_base::NoMemory;
 use module_area::Control;
 use observed_step::Bench;
-use session_book::{Begun, Job, begin};
+use phase_plan::{Begun, begin};
+use session_book::Job;
 use std::alloc::Global;
 
 /// Task t of the job as its card says, over modules that were never planted, whatever sessions it controls: it opens and

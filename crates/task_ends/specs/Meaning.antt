@@ -4,7 +4,8 @@ use Rattle.cov_base.specs.Meaning.{ImageView, Visit, unpadded}
 use Rattle.module_area.specs.Meaning.{is_place}
 use Rattle.module_area.specs.declared.places.Place.{Place}
 use Rattle.brk_table.specs.Meaning.{in_image}
-use Rattle.session_book.specs.Meaning.{JobView, of_task, task_of, module_of}
+use Rattle.session_book.specs.Meaning.{JobView, task_of, module_of}
+use Rattle.phase_plan.specs.Meaning.{of_task}
 use Rattle.report_text.specs.Meaning.{sum_from, text_of, lines_from, is_monitored, task_words}
 use Rattle.task_services.specs.Meaning.{course_of}
 use Rattle.observed_step.specs.Meaning.{Tour, visits_of}

@@ -21,7 +21,8 @@ use early_report::{Drain, EarlyRunner, Poll, Stage, drain_begin, drain_poll, dra
 use module_area::{Areas, Cells, Control, Drains, Forks, Plan};
 use observed_step::Bench;
 use planter::{close_open, open_next};
-use session_book::{Begun, Job, begin, plan_of};
+use phase_plan::{Begun, begin, plan_of};
+use session_book::Job;
 use shared_area::SharedAreas;
 use std::alloc::Global;
 use std::test::Fail;

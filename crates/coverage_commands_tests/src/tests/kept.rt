@@ -14,7 +14,8 @@ use job_gen::trial;
 use job_tables::tables_of;
 use s370_decode::Code;
 use s370_exec::fetch_rest;
-use session_book::{Job, begin};
+use phase_plan::begin;
+use session_book::Job;
 use std::alloc::Global;
 use std::test::Fail;
 

@@ -1,6 +1,6 @@
 use Rattle.std.proofs.Common.{◌≡◌, [], ◌∷◌, ◌++◌, ◌∙◌, All, get_or, sym, ap, subst}
 use Rattle.session_book.specs.Meaning.{SessionView, session_of}
-use Rattle.session_book.specs.Sets.{AreWithin}
+use Rattle.phase_plan.specs.Sets.{AreWithin}
 use Rattle.report_text.specs.Meaning.{session_part, session_line}
 use Rattle.report_text.specs.Writes.{WritesLines}
 use Rattle.report_text.proofs.WriteLemmas.{progress_start, progress_more, progress_exit, progress_last}

@@ -1,5 +1,5 @@
 use Rattle.std.proofs.Common.{◌≡◌, take}
-use Rattle.session_book.proofs.plans.places_of.Given as goal
+use Rattle.phase_plan.proofs.plans.places_of.Given as goal
 
 abbrev pub invariant-loop-n : goal.invariant-loop-n
 invariant-loop-n l = l.places.items ≡ take l.n l.tables.places

@@ -12,9 +12,10 @@ use Rattle.module_area.specs.Meaning.{ControlledView, no_place, place_of}
 use Rattle.module_area.specs.Rule.{IsPlan, IsControlled, has_task}
 use Rattle.module_area.specs.declared.places.Place.{Place}
 use Rattle.brk_table.specs.Places.{ArePlaces, IsPlace}
-use Rattle.session_book.specs.Meaning.{JobView, SessionView, TaskView, no_session, no_task, window_from, window_of, tasks_from, places_from, controlled_from, plan_view}
+use Rattle.session_book.specs.Meaning.{JobView, SessionView, TaskView, no_session, no_task}
+use Rattle.phase_plan.specs.Meaning.{window_from, window_of, tasks_from, places_from, controlled_from, plan_view}
 use Rattle.session_book.specs.JobView.{IsJob, AreParted, IsTaskOf, is_same_controller}
-use Rattle.session_book.proofs.ControlledLemmas.{session_at, IsNumber, numbers_at, numbers_rise, IsAt, all_at, all_follow, IsWindow, window_is, share_none, by_none}
+use Rattle.phase_plan.proofs.ControlledLemmas.{session_at, IsNumber, numbers_at, numbers_rise, IsAt, all_at, all_follow, IsWindow, window_is, share_none, by_none}
 
 window_most : (ss : List SessionView) (phase m w : ℕ) → (w ≡ 0) ⊎ IsWindow 1 ss phase m w → w ≤ length ss
 window_most ss phase m w h = ⊎_elim (λ e. omega arith) (λ a. let l = a.exists in let e = a.number in omega arith) h

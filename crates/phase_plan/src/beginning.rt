@@ -2,13 +2,13 @@
 ghost use Rattle.std.specs.Prelude.{◌≡◌, ◌<◌, length, All, IfOk};
 ghost use Rattle.module_area.specs.Images.{AreImages};
 ghost use Rattle.brk_table.specs.Places.{IsIn};
-ghost use Rattle.session_book.specs.Begun.{IsBegun};
+ghost use Rattle.phase_plan.specs.Begun.{IsBegun};
 
-use crate::job::Job;
 use brk_table::Tables;
 use cov_base::NoMemory;
 use module_area::Images;
 use s370_state::{Cpu, TaskIo};
+use session_book::Job;
 use space_map::TaskSpace;
 use std::alloc::Global;
 

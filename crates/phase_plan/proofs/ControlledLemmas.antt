@@ -7,7 +7,8 @@ use Rattle.std.proofs.lemmas.List.Folds.{Any-from_list_any}
 use Rattle.cov_base.specs.declared.numbers.PlaceNo.{PlaceNo}
 use Rattle.module_area.specs.Meaning.{ControlledView, place_of}
 use Rattle.module_area.specs.declared.places.Place.{Place}
-use Rattle.session_book.specs.Meaning.{SessionView, no_session, is_whole, observes, window_from, places_from, with_controlled, controlled_from}
+use Rattle.session_book.specs.Meaning.{SessionView, no_session, is_whole, observes}
+use Rattle.phase_plan.specs.Meaning.{window_from, places_from, with_controlled, controlled_from}
 use Rattle.session_book.specs.JobView.{AreParted, is_same_controller}
 
 -- the session at an index

@@ -1,9 +1,9 @@
 use Rattle.std.proofs.Common.{rules, ◌≡◌}
 use Rattle.brk_table.specs.Places.{ArePlaces}
 use Rattle.session_book.specs.JobView.{IsJob}
-use Rattle.session_book.specs.Meaning.{plan_view}
-use Rattle.session_book.proofs.PlanLemmas.{is_plan}
-use Rattle.session_book.proofs.plans.plan_of.Goals as goal
+use Rattle.phase_plan.specs.Meaning.{plan_view}
+use Rattle.phase_plan.proofs.PlanLemmas.{is_plan}
+use Rattle.phase_plan.proofs.plans.plan_of.Goals as goal
 
 pub invariant_of-result : goal.invariant_of-result
 invariant_of-result c =

@@ -3,12 +3,13 @@ ghost use Rattle.std.specs.Prelude.{◌≡◌, ◌<◌, ◌≤◌, nat_eq, lengt
 ghost use Rattle.std.specs.List.{list_any};
 ghost use Rattle.cov_base.specs.declared.limits.TheConstants.{PLACE_LIMIT, SESSION_LIMIT, TASK_LIMIT};
 ghost use Rattle.brk_table.specs.Places.{ArePlaces};
-ghost use Rattle.session_book.specs.Meaning.{is_whole, observes, window_from, window_of, tasks_from, places_from, controlled_from, plan_view};
+ghost use Rattle.session_book.specs.Meaning.{is_whole, observes};
+ghost use Rattle.phase_plan.specs.Meaning.{window_from, window_of, tasks_from, places_from, controlled_from, plan_view};
 
-use crate::job::{Job, Session, TaskCard};
 use brk_table::Tables;
 use cov_base::{NoMemory, PlaceNo, SessNo, TaskNo};
 use module_area::{Controlled, Place, Plan};
+use session_book::{Job, Session, TaskCard};
 use std::alloc::Global;
 
 fn has_module(modules: &[u32], m: u32) -> bool

@@ -5,8 +5,9 @@ use Rattle.module_area.specs.declared.places.Place.{Place}
 use Rattle.brk_table.specs.Meaning.{memory_of}
 use Rattle.brk_table.specs.Places.{AreSeen}
 use Rattle.space_map.specs.Space.{memory_of_space}
-use Rattle.session_book.specs.Meaning.{JobView, task_of, first_state}
-use Rattle.session_book.specs.declared.beginning.Begun.{Begun}
+use Rattle.session_book.specs.Meaning.{JobView, task_of}
+use Rattle.phase_plan.specs.Meaning.{first_state}
+use Rattle.phase_plan.specs.declared.beginning.Begun.{Begun}
 
 -- task t as its card says, which sees the places
 pub record IsBegun (j : JobView) (places : List Place) (t : ℕ) (b : Begun) : Type 0 where

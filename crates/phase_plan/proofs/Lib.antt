@@ -1,0 +1,2 @@
+mod ControlledLemmas
+mod PlanLemmas
