@@ -1,4 +1,4 @@
--- The table of a listing over its module, and the first fault of a listing that has none.
+-- A table's places in its module.
 use Rattle.std.specs.Prelude.{◌≡◌, ℕ, ◌+◌, ◌-◌, ◌*◌, ◌≤◌, length, slice_index, All, AllPairs}
 use Rattle.cov_base.specs.Meaning.{ImageView}
 use Rattle.module_area.specs.declared.places.Place.{Place}

@@ -13,7 +13,7 @@ abbrev pub covers : ℕ → Line → Bool
 covers k Text = false
 covers k (says.Code loc code) = nat_le loc k && nat_lt k (loc + code.len)
 
--- one of the n bytes from a place on has a line
+-- one of the n bytes from a location on has a line
 unfoldable pub is_covered : List (Option ℕ) → ℕ → ℕ → Bool
 is_covered cover from zero = false
 is_covered cover from (suc n) = is_covered cover from n || is_some (get_or cover (from + n) None)

@@ -1,4 +1,4 @@
--- The place at each address: a number of 2,048 entries for each page of 4 KB, and one entry for each halfword of it.
+-- The place at each address: for each page of 4 KB the number of its 2,048 entries, one for each halfword.
 use Rattle.std.specs.Prelude.{◌≡◌, ◌≢◌, ℕ, ◌+◌, ◌*◌, ◌/◌, ◌%◌, ◌<◌, ◌≤◌, List, length, get_or}
 use Rattle.module_area.specs.Meaning.{place_of}
 use Rattle.module_area.specs.declared.places.Place.{Place}

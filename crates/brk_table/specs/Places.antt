@@ -1,4 +1,4 @@
--- The places of all modules, and the memory that a task sees over them.
+-- What places are, in their modules and as a task sees them.
 use Rattle.std.specs.Prelude.{◌≡◌, ◌≢◌, ◌⊎◌, ℕ, zero, suc, ◌+◌, ◌-◌, ◌*◌, ◌%◌, ◌<◌, ◌≤◌, true, Option, Some, None, IfSome, List, length, slice_index, get_or, All, AllPairs}
 use Rattle.cov_base.specs.Meaning.{breakpoint, kind_of, length_of, Memory, ImageView, can_reach, half_at}
 use Rattle.cov_base.specs.declared.limits.TheConstants.{PLACE_LIMIT}

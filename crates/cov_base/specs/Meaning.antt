@@ -34,7 +34,7 @@ is_conditional code second =
 unfoldable pub kind_of : ℕ → Kind
 kind_of h = if is_conditional (h / 256) (h % 256) then Conditional else Straight
 
--- the breakpoint: SVC 255, which ORing by EX cannot change
+-- SVC 255
 abbrev pub breakpoint : ℕ
 breakpoint = BREAKPOINT
 

@@ -1,4 +1,4 @@
--- A source that is read to its end, and a text that is written whole.
+-- A source that is read in part.
 use Rattle.std.specs.Prelude.{ℕ, ◌≤◌, List, length, Option, None, Some}
 use Rattle.std.specs.Io.KnownBytes.{Consumes}
 

@@ -1,4 +1,4 @@
--- The columns of a listing line, counted from 1 (High Level Assembler, the source and object section).
+-- What the columns of either width keep.
 use Rattle.std.specs.Prelude.{◌≤◌}
 use Rattle.listing_lines.specs.declared.columns.Columns.{Columns}
 

@@ -1,4 +1,4 @@
--- What a listing says, line by line, and its first fault.
+-- What is told of the lines of a listing, and of a fault.
 use Rattle.std.specs.Prelude.{◌≡◌, ◌⊎◌, ◌==◌, Bool, true, Option, Some}
 use Rattle.cov_base.specs.Meaning.{length_of}
 use Rattle.s370_decode.specs.Meaning.{first_half}

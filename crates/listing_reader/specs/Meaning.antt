@@ -94,7 +94,7 @@ has_mnemonic c line shift =
 abbrev pub column_location : Columns → List ℕ → ℕ → Option ℕ
 column_location c line shift = number_in line shift c.location c.digits
 
--- a line behind the heading is one of an instruction: a location, a blank, an operation, and some object code
+-- a line behind the heading is one of an instruction: a location, a blank, a mnemonic, and some object code
 unfoldable pub is_instruction : Columns → List ℕ → ℕ → Bool
 is_instruction c line shift =
     is_some (column_location c line shift) && is_blank_at line shift (c.location + c.digits) && has_mnemonic c line shift

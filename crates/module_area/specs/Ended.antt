@@ -21,8 +21,8 @@ pub record HasSets (plan : PlanView) (notes : Notes) (finals : FinalsView) : Typ
   pub over : (s p : ℕ) (f : Fact) → 0 < s → s ≤ plan.sessions → p < length plan.places → has_fact (set_at finals s p) f ≡ true → is_over plan s p ≡ true
   pub planted : (s p : ℕ) (f : Fact) → 0 < s → s ≤ plan.sessions → p < length plan.places → has_fact (set_at finals s p) f ≡ true → 2 * s ≤ notes.last p + 1
 
--- Each fact was marked at least once. Where each set that was met full was met free or tried to be lifted, the lifts are
--- at least the places whose whole session's set is full, and at most the sessions and places whose set is full.
+-- Each fact was marked at least once. The lifts are at most the sessions and places whose set is full, and, where each set that
+-- was met full was met free or tried to be lifted, at least the places whose whole session's set is full.
 pub record HasTally (plan : PlanView) (notes : Notes) (finals : FinalsView) : Type 0 where
   pub marks : sum_by fact_count finals.sets ≤ notes.tally.marks
   pub lifts_least : ((s p : ℕ) → notes.full s p ≡ true → notes.free s p ≡ true) → full_places plan finals ≤ notes.tally.lifts

@@ -21,7 +21,7 @@ pub record Notes : Type 0 where
   pub marked : ℕ → ℕ → Fact → Bool
   -- it met the set of the session at the place full
   pub full : ℕ → ℕ → Bool
-  -- it fetched the original there under the session's tag, or its lift there was done
+  -- it fetched the original there under the session's tag, or tried to lift there
   pub free : ℕ → ℕ → Bool
   -- the highest tag that it knows of the place
   pub seen : ℕ → ℕ

@@ -1,4 +1,4 @@
--- What a party has done and knows, as lists, and what each kind of step adds to them.
+-- What closing, splitting, joining, boundaries and looks add to a party's lists.
 use Rattle.std.specs.Prelude.{ℕ, ◌*◌, Bool, not, nat_eq, None, List, [], ◌∷◌, ◌++◌}
 use Rattle.cov_base.specs.Meaning.{FactSet}
 use Rattle.module_area.specs.declared.parties.Role.{Role}

@@ -1,4 +1,4 @@
--- A phase's plan: the places, what observes each of them, and the tasks.
+-- What a plan without controlled sessions is tested for.
 use Rattle.std.specs.Prelude.{◌≡◌, ◌≢◌, ℕ, ◌≤◌, List, []}
 use Rattle.cov_base.specs.Meaning.{breakpoint, kind_of}
 use Rattle.cov_base.specs.declared.numbers.TaskNo.{TaskNo}

@@ -15,7 +15,7 @@ use mathlib.Core.Option.{some}
 use lib.ListN.{get_elem?}
 use Rattle.cov_base.specs.FactKind.{is_of_kind}
 
--- A phase's plan: the places, what observes each of them, and the tasks.
+-- What every plan keeps.
 
 abbrev pub has_task : List TaskNo → ℕ → Bool
 has_task tasks t = list_any (λ u. nat_eq u.0 t) tasks

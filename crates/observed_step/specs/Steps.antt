@@ -55,7 +55,7 @@ pub record Does {O P : Type 0} (makes : O → TablesView → P → List Visit �
   pub made : makes o t p step.visits mid
   pub answered : answers o mid c call q new.control
 
--- the memory is as it was, and so much was done of the step of a task alone
+-- the memory is as it was, and what was done is the step of a task alone
 pub record StepsAs {O P : Type 0} (makes : O → TablesView → P → List Visit → P → Type 0) (answers : O → P → ControlView → Option ℕ → P → ControlView → Type 0)
     (o : O) (t : TablesView) (p : P) (old : Bench) (done : ℕ) (q : P) (new : Bench) (result : Next) : Type 0 where
   pub memory : memory_at new ≡ memory_at old

@@ -17,7 +17,7 @@ is_selected mask code = if code == 0 then nat_le 8 mask else (if code == 1 then 
 abbrev pub less_one : CpuView → Code → ℕ
 less_one s c = (slice_index s.regs (r1 c) + 4294967295) % 4294967296
 
--- R1 and the increment, R3
+-- R1 plus the increment, R3
 abbrev pub index_sum : CpuView → Code → ℕ
 index_sum s c = (slice_index s.regs (r1 c) + slice_index s.regs (r2 c)) % 4294967296
 

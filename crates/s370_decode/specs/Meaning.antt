@@ -56,7 +56,7 @@ e2 s c = address s (b2 c) 0 (d2 c)
 abbrev pub shift_distance : CpuView → Code → ℕ
 shift_distance s c = e2 s c % 64
 
--- the same of RX, with its index
+-- the address of the second operand of RX, with its index
 abbrev pub ex : CpuView → Code → ℕ
 ex s c = address s (b2 c) (r2 c) (d2 c)
 

@@ -1,5 +1,4 @@
--- The mnemonics of machine instructions and the extended ones of branches (Principles of Operation, Appendix
--- "Lists of Instructions"; High Level Assembler, "Extended Mnemonic Codes"): upper case, by length, then by letters.
+-- Mnemonics as numbers.
 use Rattle.std.specs.Prelude.{ℕ, ◌+◌, ◌*◌, List, [], ◌∷◌, map, reverse}
 use Rattle.s370_decode.specs.Meaning.{mnemonics}
 

@@ -32,7 +32,7 @@ abbrev pub Tries : {S : Type 0} → (S → Memory) → (S → List ℕ) → Code
 Tries memory_of bytes_of c cpu space io cpu' space' io' (Some told) end = Executes memory_of bytes_of c None cpu space io cpu' space' io' told end
 Tries memory_of bytes_of c cpu space io cpu' space' io' None end = IsUntouched cpu space io cpu' space' io'
 
--- the same of an operation that neither input and output nor the length code concern; to is the updated address
+-- it carries out an operation that neither input and output nor the length code concern; to is the updated address
 pub record CarriesOut {S : Type 0} (memory_of : S → Memory) (bytes_of : S → List ℕ) (c : Code) (op : Op) (to : ℕ)
     (cpu : CpuView) (space : S) (cpu' : CpuView) (space' : S) (told : Told) (end : Ending) : Type 0 where
   pub memory : memory_of space' ≡ memory_of space

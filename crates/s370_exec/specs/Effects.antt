@@ -1,4 +1,4 @@
--- The effect of an instruction that was fetched whole: the row of its operation, the task calls, and codes without a row.
+-- An instruction's effect as its parts tell it.
 use Rattle.std.specs.Prelude.{ℕ, Bool, true, false, Option, List}
 use Rattle.cov_base.specs.Meaning.{CpuView, Machine, IoView, Memory}
 use Rattle.s370_state.specs.declared.endings.Ending.{Ending}

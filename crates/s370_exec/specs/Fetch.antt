@@ -1,4 +1,4 @@
--- Fetching an instruction behind its first halfword, and the instruction that EX executes.
+-- Fetching a whole instruction.
 use Rattle.std.specs.Prelude.{ℕ, Option, List}
 use Rattle.std.specs.Option.{option_or}
 use Rattle.cov_base.specs.Meaning.{Memory, half_at, length_of}

@@ -1,4 +1,4 @@
--- A task alone: one step with its visits, and the run with its trace.
+-- A state by its parts, and what visits tell of a subject.
 use Rattle.std.specs.Prelude.{ℕ, Bool, Option, Some, None, List, ◌∷◌}
 use Rattle.cov_base.specs.Meaning.{CpuView, IoView, State, Visit}
 use Rattle.s370_state.specs.Meaning.{machine_of}

@@ -1,5 +1,4 @@
--- And, or and exclusive or, by the operation on bits (Principles of Operation, "General Instructions", "AND", "OR", "Exclusive
--- OR"). The rows are of R1 with R2, of R1 with a word, of a byte with the immediate byte, and of the bytes of two fields.
+-- And, or and exclusive or, and what they leave in a register.
 use Rattle.std.specs.Prelude.{ℕ, ◌==◌, bit_and, bit_or, bit_xor, slice_set}
 use Rattle.cov_base.specs.Meaning.{CpuView}
 use Rattle.s370_logic.specs.Meaning.{zero_code}

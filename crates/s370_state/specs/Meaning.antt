@@ -123,7 +123,7 @@ pub record Use : Type 0 where
 
 pub data Outcome : Type 0 where
   Completes : Machine → Outcome
-  -- completes, and the code, where it isn't 0, if the mask has its bit
+  -- completes; a code that isn't 0 then ends the task, if the mask has its bit
   Overflows : Machine → ℕ → Outcome
   Program : ℕ → Outcome
 
@@ -199,7 +199,7 @@ reg s r = slice_index s.cpu.regs r
 abbrev pub is_even : ℕ → Bool
 is_even r = r % 2 == 0
 
--- the 64 bits of register r and the next, where r is even
+-- the 64 bits of register r and the next
 abbrev pub pair : CpuView → ℕ → ℕ
 pair s r = slice_index s.regs r * 4294967296 + slice_index s.regs (r + 1)
 

@@ -1,4 +1,4 @@
--- A row is what one operation says of one state. The order of tests is stated here once, for all rows.
+-- An operation that does as its row says.
 use Rattle.std.specs.Prelude.{◌≡◌, ℕ, Option, List}
 use Rattle.cov_base.specs.Meaning.{CpuView, Machine, Memory}
 use Rattle.s370_state.specs.declared.endings.Next.{Next}

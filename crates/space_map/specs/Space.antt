@@ -1,4 +1,4 @@
--- What contracts see of a task's space, and the bytes that it begins with.
+-- What contracts see of a task's space.
 use Rattle.std.specs.Prelude.{ℕ, ◌*◌, List, length, take, drop}
 use Rattle.cov_base.specs.Meaning.{Memory, ImageView, half_at}
 use Rattle.module_area.specs.declared.places.Place.{Place}

@@ -5,7 +5,7 @@ use Rattle.cov_base.specs.declared.facts.Fact.{Fact}
 use Rattle.module_area.specs.Meaning.{PlanView, kind_at}
 use Rattle.module_area.specs.Notes.{Notes, after_mark, after_lift, IsFound}
 
--- the fact is marked, and the breakpoint lifted exactly where the set with it is full
+-- the fact is marked, and a lift tried exactly where the set with it is full
 abbrev pub settled : PlanView → Notes → ℕ → ℕ → Fact → FactSet → Bool → Notes
 settled plan n s p f found exchanged =
     if is_full (kind_at plan p) (with_fact found f) then after_lift (after_mark plan n s p f found) s p exchanged

@@ -1,4 +1,4 @@
--- The supervisor calls of a run, and what they make of the sessions that the task controls.
+-- What the supervisor calls of a run make of a pass.
 use Rattle.std.specs.Prelude.{◌≡◌, ◌↔◌, ℕ, ◌+◌, ◌*◌, true, Option, Some, List, [], ◌∷◌, take}
 use Rattle.cov_base.specs.Meaning.{Visit}
 use Rattle.module_area.specs.Meaning.{PlanView, has_place, has_session, ControlView, places_under, control_after}
