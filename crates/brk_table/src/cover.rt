@@ -2,7 +2,7 @@
 ghost use Rattle.std.specs.Prelude.{◌≡◌, ℕ, ◌+◌, ◌<◌, ◌≤◌, Some, None, length, get_or};
 ghost use Rattle.brk_table.specs.Cover.{is_covered};
 
-/// Whether one of the bytes from a place on has a line.
+/// Whether one of the bytes from a location on has a line.
 #[tactic(auto, using(crate::proofs::CoverLemmas::covered_none, crate::proofs::CoverLemmas::covered_more, crate::proofs::CoverLemmas::covered_found))]
 pub fn is_covered(cover: &[Option<u32>], from: usize, len: usize) -> bool
     requires { from + len ≤ length cover.now }
@@ -16,7 +16,7 @@ pub fn is_covered(cover: &[Option<u32>], from: usize, len: usize) -> bool
     false
 }
 
-/// Gives the bytes from a place on to the line.
+/// Gives the bytes from a location on to the line.
 pub fn mark(cover: &mut [Option<u32>], from: usize, len: usize, line: u32)
     requires { from + len ≤ length cover.old }
     ensures inside { (k : ℕ) → from ≤ k → k < from + len → get_or cover.new k None ≡ Some line }

@@ -30,7 +30,7 @@ fn place_from(module: u32, base: Addr, loc: u32, code: &Code) -> Place
     }
 }
 
-/// Whether the line's instruction begins there.
+/// The line's instruction, where it begins there.
 fn begins(line: Line, at: u32) -> Option<Code>
     ensures code { IfSome result (λ c. line ≡ says.Code at c) }
     ensures none { IsNone result → (c : Instruction) → line ≡ says.Code at c → ⊥ }

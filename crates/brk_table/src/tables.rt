@@ -109,8 +109,7 @@ impl Tables {
     ghost use Rattle.brk_table.specs.Places.{ArePlaces};
     ghost use Rattle.brk_table.specs.Unpacked.{AreAtPlaces};
 
-    /// Numbers the places of tables that `build` gave for different modules in rising order, whose modules share no
-    /// byte, with at most 65,536 places together.
+    /// Numbers the places of tables as `build` gives them, table by table: at most 65,536 together, which share no byte.
     pub fn of(alloc: Global, tables: Vec<Table>) -> Result<Tables, NoMemory>
         requires places { ArePlaces (all_places tables.items) }
         requires lines { All HasItsPlaces tables.items }

@@ -51,7 +51,7 @@ fn of_fault(fault: BuildFault) -> Built {
     }
 }
 
-/// Builds the table of module 0, whose first byte is at 100000.
+/// Builds the table of module 0, whose first byte is at X'100000'.
 fn build_over(alloc: Global, texts: &[&[u8]], code: &[u8], room: u32) -> Result<Built, NoMemory> {
     let mut lines = ListingLines::new(alloc);
     for text in texts {

@@ -82,8 +82,8 @@ impl<W: Write> StdSink<W> {
 }
 
 impl<W: Write + Drop> StdSink<BufWriter<W>> {
-    /// Hands on what the writer still holds: it holds nothing then. Failed where that answers an error, which raises the
-    /// count by one.
+    /// Hands on what the writer still holds: after an Ok it holds nothing. Failed where that answers an error, which raises
+    /// the count by one.
     pub fn flush(&mut self) -> Result<(), Failed>
         ensures kept { Keeps (written_by W.contents self.old) (written_by W.contents self.new) }
         ensures none_held { OnOk result (writer_buffer (writer_of self.new) ≡ []) }

@@ -12,7 +12,7 @@ use std::marker::Model;
 /// How many bytes a buffer has room for.
 const ROOM: usize = 4096;
 
-/// Holds bytes on their way to a sink, which gets them 4,096 at a time, and what is held then by `flush`. It takes no
+/// Holds bytes on their way to a sink, which gets 4,096 or more at a time, and what is held then by `flush`. It takes no
 /// memory.
 #[derive(Drop)]
 pub struct WriteBuffer {

@@ -9,7 +9,7 @@ ghost use Rattle.cov_outside.specs.Causes.{HasCause};
 #[derive(Clone, Copy, Debug, PartialEq, Eq)]
 pub struct Failed;
 
-/// A device that gives bytes. Its count of faults never falls, and ends at 2^64 - 1.
+/// A device that gives bytes. Its count of faults never falls; at its end, 2^64 - 1, it needn't rise.
 pub trait Source {
     /// The bytes that are left, where it tells them.
     ghost left: { Self → Option (List ℕ) };
@@ -27,7 +27,7 @@ pub trait Source {
         ensures no_fault { OnOk result (faults self.new ≡ faults self.old) };
 }
 
-/// A device that takes bytes. Its count of faults never falls, and ends at 2^64 - 1.
+/// A device that takes bytes. Its count of faults never falls; at its end, 2^64 - 1, it needn't rise.
 pub trait Sink {
     /// The bytes that were written, where it tells them.
     ghost written: { Self → Option (List ℕ) };
@@ -36,8 +36,7 @@ pub trait Sink {
     ghost faults: { Self → ℕ };
 
     /// Takes the first bytes of a piece that isn't empty, at least one, and answers with how many.
-    /// Failed only where the count rose or stands at its end; nothing of the piece is then taken. Of the
-    /// count after an Ok nothing is said but that it never falls.
+    /// Failed only where the count rose or stands at its end; nothing of the piece is then taken. An Ok may raise it.
     fn write(&mut self, piece: &[u8]) -> Result<usize, Failed>
         requires { 0 < length piece.now }
         ensures some { IfOk result (λ n. 0 < n) }

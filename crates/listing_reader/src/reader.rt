@@ -82,7 +82,7 @@ fn read_later(
     Ok(())
 }
 
-/// As many text lines.
+/// So many text lines, and room for so many in all.
 fn texts(alloc: Global, count: usize, room: usize) -> Result<Listing, ListFault>
     ensures lines { IfOk result (λ l. l ≡ replicate count Line.Text) }
     ensures sound { IfOk result (λ l. AllPass is_sound l) }

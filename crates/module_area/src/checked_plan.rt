@@ -19,7 +19,7 @@ fn may_stand(place: &Place, window: u32, sessions: u32) -> bool
     window <= sessions && place.original != BREAKPOINT && place.kind == kind(place.original)
 }
 
-/// Whether the task stands among the first n.
+/// Whether task n stands among those before it.
 fn is_repeated(tasks: &[TaskNo], n: usize) -> bool
     requires { n < length tasks.now }
     ensures yes { result ≡ true → AllPairs (λ t u. t.0 ≢ u.0) tasks.now → ⊥ }

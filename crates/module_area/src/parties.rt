@@ -18,7 +18,7 @@ pub struct View {
     pub marked: LinkedList<(u64, u64, Fact)>,
     /// Session and place, where it met the set full.
     pub full: LinkedList<(u64, u64)>,
-    /// Session and place, where it fetched the original under the session's tag, or its lift was done.
+    /// Session and place, where it fetched the original under the session's tag, or tried to lift.
     pub free: LinkedList<(u64, u64)>,
     /// Session and place of each breakpoint that it took out.
     pub lifted: LinkedList<(u64, u64)>,

@@ -41,7 +41,7 @@ impl Controlled {
 }
 
 /// A phase's plan: at most 65,536 places, for each of them the number of the whole session over it or 0, the
-/// controlled sessions in job order, the tasks in job order, and the number of sessions of the whole job, at
+/// controlled sessions in job order, the tasks, none twice, and the number of sessions of the whole job, at
 /// most 16.
 #[derive(Drop)]
 pub struct Plan {

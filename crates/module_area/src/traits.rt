@@ -91,7 +91,7 @@ pub trait Cells {
 
 /// Cells on which several threads work, each with a pass of its own.
 pub trait Forks: Cells {
-    /// A pass for a task of the plan, split off from the root, once for each task: it bears the task's number and has
+    /// A pass for a task of the plan, split off from the root, once for each task: it bears the task and has
     /// seen what the root has seen; nothing is marked, and its tally is zero. It keeps the places that its task controls,
     /// under the root's last tags, and the root keeps them no longer.
     fn split(&self, root: &mut Self::Pass, task: TaskNo) -> Self::Pass

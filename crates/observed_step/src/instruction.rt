@@ -282,7 +282,7 @@ fn step_told<O: Observer>(
 
 /// One instruction of the task, which has done so many before, and of which neither budget nor return address is tested, with
 /// the place that begins there, if one does: it ends or goes on as over modules that were never planted, and the observer is
-/// shown its visits, and then its supervisor call, before what the instruction does. Where the task ends `end` is changed.
+/// shown its visits, and then its supervisor call, before what the instruction does. `end` is room for an ending.
 #[inline(always)]
 pub fn step<O: Observer>(
     observer: &O,

@@ -26,7 +26,7 @@ fn less_one(cpu: &Cpu, code: &Code) -> u32
     cpu.reg(code.r1()).wrapping_sub(1)
 }
 
-/// R1 and the increment.
+/// R1 plus the increment.
 fn index_sum(cpu: &Cpu, code: &Code) -> u32
     ensures { result ≡ index_sum cpu.now code.now }
 {
@@ -262,8 +262,8 @@ fn branch_on_index(cpu: &mut Cpu, code: &Code, op: Op, next: Addr)
 /// Performs a branch: BC BCR BCT BCTR BAL BALR BAS BASR BXH BXLE (Principles of Operation, "General Instructions").
 /// The instruction address becomes the branch address where the instruction branches, else `next`, the updated
 /// address; `link` is the length code that BAL and BALR leave: 1 for two bytes, 2 for four bytes and under EX. A branch
-/// has no test and no interruption, also where it goes to an odd address. The operation is that of the code's first
-/// byte: it is passed because the caller has decoded it. Takes no memory.
+/// has no test and no interruption, also where it goes to an odd address. The caller has decoded the operation.
+/// Takes no memory.
 #[inline(always)]
 pub fn branch(cpu: &mut Cpu, code: &Code, op: Op, next: Addr, link: u8)
     requires group { group_of op ≡ Group.Branch }

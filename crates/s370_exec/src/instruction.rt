@@ -386,8 +386,8 @@ fn how_ended(end: &Ending) -> Next
     ended(*end)
 }
 
-/// Executes an instruction that is no EX and whose length is that of its first halfword, under the order of tests
-/// from the operation on; `ex` is the address of the EX that executes it.
+/// Executes an instruction that is no EX, under the order of tests from the operation on; `ex` is the address of the EX
+/// that executes it.
 #[inline(always)]
 pub fn execute<P: Space>(
     cpu: &mut Cpu,

@@ -1,5 +1,5 @@
-//! The operations that load, store or compute with a word or halfword in storage, each a call in a frame of its own; but for
-//! L and ST, which stand in the match of all operations.
+//! The frequent operations on a word or halfword in storage, each a call in a frame of its own; but for L and ST, which stand
+//! in the match of the frequent ones.
 ghost use Rattle.s370_exec.specs.Does.{CarriesOut};
 ghost use Rattle.s370_exec.specs.Meaning.{effect};
 

@@ -47,7 +47,7 @@ impl Cpu {
         self.regs[r as usize] = v;
     }
 
-    /// The 64 bits of register r, which is even and below 16, and the next.
+    /// The 64 bits of register r, which is below 15, and the next.
     pub fn pair(&self, r: u8) -> u64
         requires { r < 15 }
         ensures { result ≡ pair self.now r }
@@ -55,7 +55,7 @@ impl Cpu {
         u64::from(self.reg(r)) * 4_294_967_296 + u64::from(self.reg(r + 1))
     }
 
-    /// Puts 64 bits into register r, which is even and below 16, and the next.
+    /// Puts 64 bits into register r, which is below 15, and the next.
     pub fn set_pair(&mut self, r: u8, v: u64)
         requires { r < 15 }
         ensures { self.new ≡ record self.old { regs = with_pair self.old.regs r v } }

@@ -12,8 +12,8 @@ use crate::space::{Refused, Space};
 use cov_base::Addr;
 use s370_decode::Code;
 
-/// The second operand's address in the RX format. The first operand's fields stand where RX has the second's, and are read with
-/// no test of the length, which a caller mostly knows.
+/// The second operand's address in the RX format. Below six bytes its fields are the first operand's, which are read without a
+/// test of the length: a caller mostly knows it.
 #[inline(always)]
 #[tactic(auto, unfolding(s370_decode::specs::Meaning::b1, s370_decode::specs::Meaning::d1, s370_decode::specs::Meaning::b2, s370_decode::specs::Meaning::d2))]
 pub fn indexed(cpu: &Cpu, code: &Code) -> Addr

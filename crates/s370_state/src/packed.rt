@@ -108,7 +108,7 @@ fn field_in<P: Space>(_from: &P, at: Addr, l: u8, row: &[u8]) -> Option<Field>
     }
 }
 
-/// The bytes of an operand one at a time, and zeros behind them.
+/// The bytes of an operand, one at a time, in front.
 #[cold]
 #[inline(never)]
 fn gathered<P: Space>(space: &P, at: Addr, n: u32) -> [u8; 16]

@@ -174,7 +174,7 @@ fn lifts_late<C: Cells>(
     Some((there, lifted, cells.fetch(pass, PlaceNo(0))))
 }
 
-/// Two tasks with traps of two sessions in hand: each marks and lifts in its own session, the later one first.
+/// Two tasks with traps of two sessions in hand: each marks in its own session, and the later one lifts first.
 fn two_late<C: Cells>(
     cells: &C,
     control: &mut C::Pass,

@@ -31,7 +31,7 @@ impl Cells for SharedCells {
         found
     }
 
-    // As `add`.
+    // It is seldom called, and stays out of the task's loop.
     #[cold]
     #[inline(never)]
     fn lift(&self, pass: &mut SharedPass, s: SessNo, place: PlaceNo) -> bool {

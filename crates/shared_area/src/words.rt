@@ -1,4 +1,4 @@
-//! How a cell, the sets of facts and a task's number lie in words, and where the words lie.
+//! Cells, sets of facts and tasks' numbers in words.
 ghost use Rattle.std.specs.Prelude.{◌≡◌, ◌+◌, ◌*◌, ◌/◌, ◌%◌, ◌^◌, ◌<◌, ◌≤◌, true, nat_eq, length};
 ghost use Rattle.cov_base.specs.FactKind.{is_of_kind};
 ghost use Rattle.cov_base.specs.declared.facts.Kind.{Kind as Kinds};

@@ -25,7 +25,7 @@ fn image_at(images: &[Image], a: u32) -> Option<&Image>
     None
 }
 
-/// A module stands there.
+/// Whether a module stands at the address.
 pub fn is_image(images: &Images, a: u32) -> bool
     ensures { result ≡ list_any (λ i. in_image i a) images.now }
 {
@@ -43,7 +43,7 @@ pub fn image_byte(images: &Images, a: u32) -> u8
     }
 }
 
-/// All bytes of the range stand in one module.
+/// Whether all bytes of the range stand in one module.
 pub fn is_in_one_image(images: &Images, a: u32, len: u32) -> bool
     requires { AreImages images.now }
     ensures all { IsTrue result → (b : ℕ) → a ≤ b → b < a + len → list_any (λ i. in_image i b) images.now ≡ true }

@@ -22,7 +22,7 @@ use std::alloc::Global;
 use std::marker::Model;
 
 /// What a task's addresses hold: private storage of at most X'100000' bytes from address 0 on, and the modules.
-/// Contracts see the memory and the private bytes.
+/// Contracts see the private bytes, the modules, and their places.
 #[derive(Drop)]
 pub struct TaskSpace<'a> {
     bytes: Vec<u8>,
