@@ -75,7 +75,6 @@ areas_change ledger finals made old new = record {
 
 -- What a command reads and makes.
 
--- what a command reads and makes
 pub record Way : Type 0 where
   -- it reads the source to its end
   pub reads_input : Bool

@@ -1,4 +1,4 @@
--- The text of an early report.
+-- What drains tell of their sessions in an early report.
 use Rattle.std.specs.Prelude.{ℕ, nat_eq, if◌then◌else◌, Option, Some, None, List, [], ◌∷◌, length, map, get_or, Result}
 use Rattle.std.specs.declared.vec.Vec.{Vec}
 use Rattle.cov_base.specs.Meaning.{FactSet}

@@ -18,7 +18,7 @@ use Rattle.early_report.specs.Drains.{controller_of, is_odd}
 use Rattle.early_report.specs.Followed.{Stands}
 use Rattle.early_report.specs.declared.drains.Stage.TheVariants.{Unused, Begun, Taken}
 
--- of those of the task's run alone
+-- the count at which the task's run alone closes the session, if it does
 abbrev pub closed_at : PlanView → Task → ℕ → Option ℕ
 closed_at plan task s = closing_count task.bench.control (walk_from solo plan task).calls s
 
@@ -36,7 +36,7 @@ pub record IsTaken (plan : PlanView) (closing done : ℕ) (sets : ℕ → ℕ �
   pub polls : d.at ≡ d.polls + closing
   pub alone : others plan.tasks (controller_of plan d.session) ≡ [] → d.at ≡ closing
 
--- Some other task of the plan, which by its noted number hadn't ended then, still had that number at the last poll, and every
+-- The last poll has stopped at the entry of another task of the plan, which by its noted number hadn't ended then, and every
 -- instruction from the closing one on has had a poll.
 pub record IsPending (plan : PlanView) (closing done : ℕ) (d : DrainView) : Type 0 where
   pub stage : d.stage ≡ Begun

@@ -1,4 +1,4 @@
--- What it means that marks and evidence are verified, and the faults.
+-- Marks and evidence that pass, and the faults of others.
 use Rattle.std.specs.Prelude.{◌≡◌, ℕ, Some, None, List, length}
 use Rattle.brk_table.specs.Meaning.{TablesView}
 use Rattle.marks_file.specs.Meaning.{MarkedView, first_bad}

@@ -1,4 +1,4 @@
--- The core: what it stores and each task's log, its deterministic step, and its run by a list of events.
+-- An event behind each list of events that leaves what the core stored.
 use Rattle.std.specs.Prelude.{◌≡◌, Some, None, List, [], ◌∷◌, ◌++◌}
 use Rattle.interleave_core.specs.CoreState.{CoreState, core_step, core_run, KeepsRule}
 use Rattle.interleave_core.specs.MeaningOfEvents.{Stands}

@@ -1,4 +1,4 @@
--- A task's events one by one until it has ended.
+-- Which events a task makes until it has ended.
 use Rattle.std.specs.Prelude.{◌≡◌, ℕ, zero, suc, true, false, Option, Some, None, is_none, List, [], ◌∷◌, All}
 use Rattle.std.specs.Option.{option_map_or}
 use Rattle.cov_base.specs.declared.numbers.TaskNo.{TaskNo}

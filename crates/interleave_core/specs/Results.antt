@@ -1,4 +1,4 @@
--- What a core tells of its tasks, and the event that is due of one.
+-- A task that has ended, what a core stores in range, and an event that is due.
 use Rattle.std.specs.Prelude.{◌≡◌, ℕ, ◌<◌, true, Some, IsSome, length}
 use Rattle.cov_base.specs.Meaning.{is_within}
 use Rattle.module_area.specs.Meaning.{kind_at}

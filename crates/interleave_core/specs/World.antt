@@ -1,4 +1,4 @@
--- What the events of a core are judged by, and what a core stores.
+-- The world of a job and its tables, and what a world keeps.
 use Rattle.std.specs.Prelude.{◌≡◌, ℕ, ◌<◌, length, All}
 use Rattle.module_area.specs.Rule.{IsPlan}
 use Rattle.brk_table.specs.Meaning.{TablesView}

@@ -1,4 +1,4 @@
--- What came from a source: bytes, and the job that stands in their first lines; or why none did.
+-- A job that came from a source, or why none did.
 use Rattle.std.specs.Prelude.{◌≡◌, ℕ, ◌+◌, ◌≤◌, true, List, length, drop}
 use Rattle.report_text.specs.Conditions.{HasFewLines}
 use Rattle.session_book.specs.Meaning.{JobView}

@@ -1,4 +1,4 @@
--- What one area is left with after its phase's tasks have run over its plan.
+-- What one finished area adds to what areas tell.
 use Rattle.std.specs.Prelude.{◌≡◌, ℕ, List, [], ◌∷◌, ◌++◌}
 use Rattle.cov_base.specs.Meaning.{Visit}
 use Rattle.module_area.specs.Meaning.{FinalsView, PlanView}

@@ -49,10 +49,10 @@ pub record IsExact (plan : PlanView) (walks : ℕ → Walk) (f : FinalsView) : T
   pub sets : (s p : ℕ) → 0 < s → s ≤ plan.sessions → p < length plan.places → set_at f s p ≡ facts_met plan walks fetches s p plan.tasks
 
 -- The sets of whole sessions are what the trace shows, and those of controlled sessions lie between their bounds; all are
--- exact by what the fetches answered. Where a session isn't over a place its set is empty there. Each place with a window was planted once, and each place of a
--- controlled session where its controller's run opens it; it was closed there where that run closes it. Each visit at a
--- place fetched once. The lifts are no fewer than the places whose whole session's set is full, and no more than the
--- sessions and places whose set is full.
+-- exact by what the fetches answered. Where a session isn't over a place its set is empty there. Each place with a window
+-- was planted once, and each place of a controlled session where its controller's run opens it; it was closed there where
+-- that run closes it. Each visit at a place fetched once. The lifts are no fewer than the places whose whole session's set
+-- is full, and no more than the sessions and places whose set is full.
 pub record EndsArea (plan : PlanView) (walks : ℕ → Walk) (trace : List Visit) (f : FinalsView) (t : Tally) : Type 0 where
   pub places : f.places ≡ length plan.places
   pub size : length f.sets ≡ plan.sessions * length plan.places

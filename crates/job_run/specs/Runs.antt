@@ -1,4 +1,4 @@
--- The run of each task, by the course that tasks take, and what the areas of a job's run are left with.
+-- What the areas of a job's run have gained.
 use Rattle.std.specs.Prelude.{◌≡◌, ℕ, List}
 use Rattle.module_area.specs.Meaning.{FinalsView}
 use Rattle.module_area.specs.declared.areas.Areas as areas

@@ -1,4 +1,4 @@
--- The sets of a job's sessions, in the areas of their phases.
+-- What an outcome keeps of the sets of a job's sessions.
 use Rattle.std.specs.Prelude.{◌≡◌, ℕ, ◌*◌, nat_lt, if◌then◌else◌, List, length, All}
 use Rattle.cov_base.specs.Meaning.{FactSet, no_facts}
 use Rattle.module_area.specs.Meaning.{FinalsView}

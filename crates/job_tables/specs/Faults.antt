@@ -1,4 +1,4 @@
--- The first fault of a job's listings.
+-- What is told where a job has no tables.
 use Rattle.std.specs.Prelude.{◌≡◌, ◌⊎◌, Option, Some}
 use Rattle.job_tables.specs.declared.faults.TablesFault.{TablesFault}
 use Rattle.job_tables.specs.declared.faults.TablesFault.TheVariants as first

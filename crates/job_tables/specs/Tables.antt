@@ -1,4 +1,4 @@
--- The tables of a job whose listings have no fault.
+-- A job that has its tables.
 use Rattle.std.specs.Prelude.{All}
 use Rattle.brk_table.specs.Kept.{AreCodes}
 use Rattle.brk_table.specs.Meaning.{TablesView}

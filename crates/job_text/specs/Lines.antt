@@ -1,4 +1,4 @@
--- The lines of an input, and the text of a listing line.
+-- How many bytes a line takes, and which lines have come with their LFs.
 use Rattle.std.specs.Prelude.{◌≡◌, ℕ, ◌+◌, if◌then◌else◌, List, [], ◌∷◌, length}
 use Rattle.job_text.specs.Meaning.{LineView, lines_of}
 

@@ -16,7 +16,8 @@ fault_line (fault.BadJob n) = n
 fault_line (fault.TooLarge what n) = n
 fault_line fault.NoMemory = 0
 
--- The fault is that of reading these bytes, and its line has come with its LF. No first lines spell a job within the limits.
+-- The fault is that of reading these bytes, and its line has come with its LF. Where first lines spell a job within the
+-- limits it is want of memory.
 pub record IsTold (g : Grammar) (bytes : List ℕ) (e : JobFault) : Type 0 where
   pub refusal : IsRefusal g (lines_of bytes) e
   pub ended : fault_line e ≤ length (ended_lines (lines_of bytes))

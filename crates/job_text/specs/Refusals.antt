@@ -1,4 +1,4 @@
--- What reading a job gives, and when it ends with a refusal.
+-- The job that was read, and that first lines that spell one have no other answer.
 use Rattle.std.specs.Prelude.{◌≡◌, ℕ, ◌≤◌, Result, Ok, Err, List, ◌++◌, length, take, drop}
 use Rattle.session_book.specs.Meaning.{JobView}
 use Rattle.job_text.specs.Meaning.{LineView, lines_of, Present, Spells, IsWithin}

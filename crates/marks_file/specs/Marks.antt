@@ -1,4 +1,4 @@
--- The values of a marks file, and the rule of each of its fields.
+-- The file that is written, and modules whose rows can be read back.
 use Rattle.std.specs.Prelude.{◌≡◌, ℕ, ◌<◌, ◌^◌, Option, List, length}
 use Rattle.cov_base.specs.Meaning.{padded, unpadded}
 use Rattle.marks_file.specs.Meaning.{MarkedView, file_bytes}

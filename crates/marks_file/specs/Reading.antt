@@ -1,4 +1,4 @@
--- What bytes say where a marks file is expected: its fields in their order, and the first of them that is bad.
+-- The marks that bytes say, and what reading them tells.
 use Rattle.std.specs.Prelude.{◌≡◌, ℕ, zero, suc, ◌+◌, ◌*◌, Bool, true, ◌&&◌, nat_le, if◌then◌else◌, Option, Some, None, List, [], ◌∷◌, length, take, drop}
 use Rattle.std.specs.Io.{StartsWith}
 use Rattle.byteorder.specs.Endian.{big_number}

@@ -54,7 +54,7 @@ limit_name limit.Room = codes "ROOM"
 abbrev pub large_job_line : Limit → ℕ → List ℕ
 large_job_line what n = codes "TOO LARGE " ++ limit_name what ++ codes " LINE " ++ decimal n ++ 10 ∷ []
 
--- a line of the input that is no item of its schedule
+-- the line of the input at which its schedule is bad
 abbrev pub bad_schedule_line : ℕ → List ℕ
 bad_schedule_line n = codes "BAD SCHEDULE LINE " ++ decimal n ++ 10 ∷ []
 
@@ -66,7 +66,7 @@ no_session_line name = codes "NO SESSION " ++ unpadded name ++ 10 ∷ []
 abbrev pub controlled_line : List ℕ → List ℕ
 controlled_line name = codes "CONTROLLED " ++ unpadded name ++ 10 ∷ []
 
--- the first bad field, by its offset from the first byte of the first marks file
+-- the first bad field, or the first byte past the last file, by its offset from the first byte of the first marks file
 abbrev pub bad_marks_line : ℕ → List ℕ
 bad_marks_line offset = codes "BAD MARKS OFFSET " ++ decimal offset ++ 10 ∷ []
 

@@ -1,4 +1,4 @@
--- How faults are told: each by a status and a line.
+-- How a source is told that gave no job.
 use Rattle.job_input.specs.declared.faults.InputFault.{InputFault}
 use Rattle.job_input.specs.declared.faults.InputFault.TheVariants.{Source, Job}
 use Rattle.refusals.specs.Meaning.{RefusalView, read_refusal, jobless_refusal}

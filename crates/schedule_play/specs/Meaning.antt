@@ -27,7 +27,7 @@ pub data Play : Type 0 where
   Bad : ℕ → Play
   Whole : Parts → List Played → Play
 
--- the plant of a place for the session that observes it, where one does
+-- the plant of a place for the whole session that observes it, where one does
 abbrev pub plant_at : World → ℕ → List Event
 plant_at w p = if nat_lt 0 (window_at (plan_in w) p) then event.Plant (record { 0 = window_at (plan_in w) p }) (record { 0 = p }) ∷ [] else []
 

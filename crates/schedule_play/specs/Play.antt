@@ -1,4 +1,4 @@
--- A schedule played on a core.
+-- What a schedule and its lines make of a core.
 use Rattle.std.specs.Prelude.{◌≡◌, ℕ, Option, Some, None, List, option_and_then}
 use Rattle.brk_table.specs.Meaning.{TablesView}
 use Rattle.session_book.specs.Meaning.{JobView}

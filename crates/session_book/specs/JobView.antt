@@ -1,4 +1,4 @@
--- A job as lists, wherever memory holds it, and the rules that its values keep.
+-- The rules that a job's values keep.
 use Rattle.std.specs.Prelude.{◌≡◌, ◌≢◌, ℕ, ◌+◌, ◌<◌, ◌≤◌, Bool, false, nat_eq, Option, Some, List, length, get_or, map, All, AllPairs, IfSome}
 use Rattle.std.specs.List.{list_any}
 use Rattle.cov_base.specs.Meaning.{ImageView}

@@ -9,7 +9,7 @@ use Rattle.std.specs.Str.{bytes_eq}
 use Rattle.cov_base.specs.declared.numbers.TaskNo.{TaskNo}
 use Rattle.session_book.specs.declared.services.Service.{Service}
 
--- A job as lists, wherever memory holds it, and the rules that its values keep.
+-- A job as lists, wherever memory holds it.
 
 -- a session: its phase and modules by index, and for a controlled one its controller's index among the tasks
 pub record SessionView : Type 0 where

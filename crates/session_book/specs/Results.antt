@@ -1,4 +1,4 @@
--- What the tasks of a job have come to.
+-- Private storage row by row.
 use Rattle.std.specs.Prelude.{ℕ, ◌+◌, ◌*◌, List, length, slice_range, min}
 
 -- row n of private storage: 16 bytes, or in the last row fewer

@@ -1,4 +1,4 @@
--- Whether two files have the same table, and the union of their sets.
+-- Tables of the same rows, and the first row in which tables differ.
 use Rattle.std.specs.Prelude.{◌≡◌, ℕ, option_map, Option, Some, None, List, [], ◌∷◌, ◌++◌}
 use Rattle.marks_file.specs.Meaning.{MarkedView, place_row, module_row}
 use Rattle.marks_file.specs.declared.marks.MarkedPlace.{MarkedPlace}

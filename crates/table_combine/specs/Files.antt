@@ -1,4 +1,4 @@
--- Marks files one after another, and their union.
+-- Why files are not combined, that they have one answer, and what their union depends on.
 use Rattle.std.specs.Prelude.{◌≡◌, ℕ, Option, None, List, [], ◌∷◌, map, All}
 use Rattle.std.specs.List.{Contains, sum_by}
 use Rattle.marks_file.specs.Meaning.{MarkedView, MarksView}

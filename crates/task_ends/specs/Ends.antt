@@ -1,4 +1,4 @@
--- Where each task of a job ends that runs alone, and how many visits of all tasks are in a module where no place begins.
+-- Ends and counts that were found, and their text.
 use Rattle.std.specs.Prelude.{◌≡◌, ℕ, ◌<◌, Result, length, get_or, slice_index}
 use Rattle.cov_outside.specs.declared.streams.Sink as sink
 use Rattle.report_text.specs.Writes.{PrintsText}

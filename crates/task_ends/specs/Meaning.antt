@@ -19,7 +19,7 @@ abbrev pub unlisted_visits : List Place → ImageView → List Visit → ℕ
 unlisted_visits places image [] = 0
 unlisted_visits places image (v ∷ vs) = (if v.begun && (in_image image v.at && not (is_place places v.at)) then 1 else 0) + unlisted_visits places image vs
 
--- Where each task of a job ends that runs alone, and how many visits of all tasks are in a module where no place begins.
+-- Where each task of a job ends in its own run, and how many visits of all tasks are in a module where no place begins.
 
 -- its run, by its job's services
 abbrev pub run_of : JobView → List Place → ℕ → Tour

@@ -1,4 +1,4 @@
--- What has run where no place begins.
+-- Visits that are added to the counts of modules.
 use Rattle.std.specs.Prelude.{◌≡◌, ℕ, ◌+◌, ◌<◌, if◌then◌else◌, List, length, get_or, slice_index}
 use Rattle.cov_base.specs.Meaning.{ImageView, Visit}
 use Rattle.module_area.specs.declared.places.Place.{Place}
@@ -12,7 +12,7 @@ pub record Adds (places : List Place) (images : List ImageView) (visits : List V
   pub size : length new ≡ length old
   pub each : (m : ℕ) → m < length images → slice_index new m ≡ slice_index old m + unlisted_visits places (get_or images m no_module) visits
 
--- of the run of task t alone
+-- of task t's own run
 abbrev pub AddsTask : JobView → List Place → ℕ → List ℕ → List ℕ → Type 0
 AddsTask j places t old new = Adds places j.images (visits_of (run_of j places t).turns) old new
 
