@@ -1,4 +1,4 @@
-//! Inputs that are jobs of the first form, and inputs that aren't, with the first line that is bad.
+//! A job of one module and one task, and inputs that come near to it, with the first line that is bad.
 mod controlled;
 mod data;
 mod items;

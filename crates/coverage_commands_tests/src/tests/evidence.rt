@@ -118,7 +118,6 @@ VERIFIED S FACTS 0\n\
 @output 0\n\
 VERIFIED T FACTS 1\n";
 
-/// What is refused for the job, its session or the marks file.
 static UNPROVED: &str = "\
 @row prove: no such session\n\
 @words prove X\n\
@@ -211,7 +210,6 @@ ENDJOB\n\
 @output 11\n\
 OTHER TABLE ROW 1 LEFT 0000000004014610 RIGHT 0000000004014620\n";
 
-/// Evidence whose fields are bad, or at their bounds.
 static FIELDS: &str = "\
 @row verify: no evidence\n\
 @words verify S\n\
@@ -334,7 +332,6 @@ ENDJOB\n\
 @output 15\n\
 BAD EVIDENCE OFFSET 28\n";
 
-/// Evidence or marks that the executions refute.
 static REFUTED: &str = "\
 @row verify: a fact is left out\n\
 @words verify S\n\

@@ -166,7 +166,6 @@ ENDJOB\n\
 @output 13\n\
 NO SESSION X\n";
 
-/// A marks file behind a good job that is refused, and why.
 static BAD_SHOWN: &str = "\
 @row show: no file\n\
 @words show S\n\
@@ -320,7 +319,6 @@ OTHER TABLE ROW 3 LEFT 4E20202020202020001000080000000200000000 RIGHT -\n\
 @output 11\n\
 OTHER TABLE ROW 0 LEFT 4F20202020202020001000100000000600000002 RIGHT 4D20202020202020001000000000000600000002\n";
 
-/// Marks files in succession that are refused, and why.
 static BAD_FILES: &str = "\
 @row combine: no bytes\n\
 @words combine\n\
