@@ -9,7 +9,7 @@ use arrayvec::ArrayVec;
 use cov_base::Name;
 use job_text::Grammar;
 
-/// What the words ask for. A command with a grammar reads its job by that, and runs the job's tasks with the job's services.
+/// What the words ask for. A command with a grammar reads its job by that, and runs tasks, if it does, with the job's services.
 #[derive(Clone, Copy)]
 pub enum Command {
     /// `run`: the report of a job.
@@ -141,7 +141,8 @@ fn command_in(grammar: Grammar, words: &[String]) -> Command
     }
 }
 
-/// The command that the words are. Behind `services` stand those of `run`, `marks NAME`, `show NAME`, `table`, `count` or `ends`.
+/// The command that the words are. Behind `services` stand those of `run`, `marks NAME`, `show NAME`, `table`, `count` or
+/// `ends`.
 pub fn command_of(words: &[String]) -> Command
     ensures value { result ≡ command_of (map string_bytes words.now) }
     ensures few { HasFewTasks result }

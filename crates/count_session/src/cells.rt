@@ -8,8 +8,7 @@ use module_area::Plan;
 use std::alloc::Global;
 use std::snapshot::Snapshot;
 
-/// The words of one area, and its plan: a cell and two counts for each place. Each call is one step on one word, through
-/// a shared reference.
+/// The words of one area, and its plan: a cell and two counts for each place.
 #[derive(Drop)]
 pub struct CountCells {
     pub(crate) table: Table<NoSlot, CountView, Snapshot<Plan>, CountRule, Global>,

@@ -152,8 +152,9 @@ fn count_phases<'a, T: Threads + Sync, G: Gate + Sync>(
 
 /// Runs the job with breakpoints that stay, phase after phase, the tasks of a phase at once, each once it has passed the
 /// gate: each task ends as it does with the job's services, alone where it has none, and the counts of each session at its
-/// modules' places are those of its executions. No session of the job has a controller; the tables are those of the job's listings, with the instructions of their modules. All tasks take their
-/// memory before the first phase runs, and a phase takes all but its area's end before it plants.
+/// modules' places are those of its executions. No session of the job has a controller; the tables are those of the job's
+/// listings, with the instructions of their modules. All tasks take their memory before the first phase runs, and a phase
+/// takes all but its area's end before it plants.
 pub fn count_job<'a, T: Threads + Wait + Sync, G: Gate + Sync>(
     rt: &T,
     alloc: Global,

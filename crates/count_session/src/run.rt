@@ -13,10 +13,9 @@ use session_book::Service;
 use task_alone::run_alone;
 use task_run::Task;
 
-/// Runs the task until it ends, with its job's services, if it has any: before each instruction it ends Returned at
-/// X'FFFFFE', else Spent where it has done as many instructions as its budget. Ending, state and count are those of its course
-/// over modules that were never planted, and the pass, which has added nothing before, counts each fact of that run's begun
-/// visits at planted places once for each visit.
+/// Runs the task until it ends, as `run_alone` does. Ending, state and count are those of its course over modules that were
+/// never planted, and the pass, which has added nothing before, counts each fact of that run's begun visits at planted places
+/// once for each visit.
 pub fn run_counted(
     cells: &CountCells,
     pass: &mut CountPass,

@@ -217,7 +217,7 @@ pub fn cover<T: Threads + Wait + Sync, S: Source, K: Sink, A: Areas, G: Gate + S
 
 /// Serves the commands that need no threads:
 /// - `table` reads a job from the source, and writes the places of its modules to the sink;
-/// - `ends` reads a job, runs each of its tasks once, alone, whatever their phases, and writes of each its ending, the
+/// - `ends` reads a job, runs each of its tasks once, whatever their phases, and writes of each its ending, the
 ///   instructions done and the address at which it ended, and of each module with a listing how many visits were begun in it
 ///   where no place begins;
 /// - `replay` reads a job of one phase and a schedule, plays the schedule on the core, and writes what its items have shown

@@ -10,7 +10,7 @@ use session_book::Job;
 use std::alloc::Global;
 use task_ends::{find_ends, write_ends};
 
-/// Runs each task of a job once, alone, and writes where each has ended and what ran where no place begins.
+/// Runs each task of a job once, with the job's services, and writes where each has ended and what ran where no place begins.
 pub fn write_job_ends<K: Sink>(alloc: Global, job: &Job, tables: &Tables, sink: &mut K) -> Status
     requires { IsReadyJob job.now tables.now }
     ensures { Tells K.Sink (IsEnds job.now tables.now) sink.old sink.new result }

@@ -22,7 +22,7 @@ fn given_words(rt: &HostRuntime) -> io::Result<Vec<String>> {
     Ok(words)
 }
 
-/// The words after the program's name; none where one of them isn't text, which no command has.
+/// Those words; none where one of them isn't text, which no command has.
 fn words_of(rt: &HostRuntime) -> Result<Vec<String>, AllocError> {
     match given_words(rt) {
         Ok(words) => Ok(words),

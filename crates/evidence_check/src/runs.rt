@@ -30,8 +30,7 @@ fn add_task(
     Ok(())
 }
 
-/// Runs each task of the phase once, and finds at each place the first visit that shows each fact. Memory is linear in
-/// the places, beside one task's storage at a time.
+/// Runs each task of the phase once, and finds at each place the first visit that shows each fact.
 pub(crate) fn find_firsts(
     alloc: Global,
     job: &Job,

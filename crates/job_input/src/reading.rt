@@ -19,7 +19,7 @@ pub struct Input {
     pub rest: Vec<u8>,
 }
 
-/// Reads the source to its end.
+/// Reads the source to its end. TooLarge where it has more than `INPUT_LIMIT` bytes.
 pub fn read_input<S: Source>(alloc: Global, source: &mut S) -> Result<Vec<u8>, ReadFault>
     ensures bytes { IfOk result (λ v. CameWhole (source_change S.left S.faults source.old source.new) v.items) }
     ensures fault { IfErr result (IsReadFault (source_change S.left S.faults source.old source.new)) }

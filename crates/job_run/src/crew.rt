@@ -175,8 +175,8 @@ fn run_those<'a, T: Threads + Sync, G: Gate + Sync, C: Crew + Sync>(
     run_slots(rt, gate, crew, first, &mut slots[range]);
 }
 
-/// Runs the phase's tasks: splits off a pass for each, runs all at once, each once it has passed the gate, and joins the passes. The slots stand in the order
-/// of the job's tasks.
+/// Runs the phase's tasks: splits off a pass for each, runs all at once, each once it has passed the gate, and joins the
+/// passes. The slots stand in the order of the job's tasks.
 pub fn run_crew<'a, T: Threads + Sync, G: Gate + Sync, C: Crew + Sync>(
     rt: &T,
     gate: &G,

@@ -64,7 +64,7 @@ pub fn range_of(job: &Job, phase: u32) -> Range<usize>
     range
 }
 
-/// A task as its card says, over the modules and tables, which has not run and has no sessions.
+/// A task as its card says, over the modules and tables, which has not run.
 pub fn new_task<'a>(
     alloc: Global,
     job: &'a Job,
@@ -93,7 +93,7 @@ pub fn new_task<'a>(
     Ok(Done { ending: None, task })
 }
 
-/// The job's tasks in job order, without passes, sessions and extras.
+/// The job's tasks in job order, none of which has run, without passes.
 pub fn make_slots<'a, P: Drop, E: Drop>(
     alloc: Global,
     job: &'a Job,

@@ -411,7 +411,7 @@ fn met_of(job: Draft) -> Option<Draft>
     if are_met(&job) { Some(job) } else { None }
 }
 
-/// The job with what was open; none where it isn't whole, or a controller is missing.
+/// The job with what was open; none where neither a phase nor ENDJOB may come.
 pub(crate) fn closed(part: Part, job: Draft) -> Result<Option<Draft>, NoMemory>
     requires { machine.HasRoom part job }
     ensures value { IfOk result (λ o. o ≡ machine.closed Present part job) }

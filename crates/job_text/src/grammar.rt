@@ -1,4 +1,4 @@
-//! Which cards a job may have.
+//! The grammars of jobs.
 
 /// Which cards a job may have.
 #[derive(Clone, Copy, Debug, PartialEq, Eq)]

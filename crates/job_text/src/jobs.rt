@@ -54,8 +54,8 @@ impl From<OutOfMemory> for JobFault {
     }
 }
 
-/// Reads the job that the first lines of the input spell, by this grammar. The bytes after its ENDJOB line are the caller's. The input has
-/// at most `INPUT_LIMIT` bytes; neither `Limit::Input` nor `Limit::Places` is answered.
+/// Reads the job that the first lines of the input, of at most `INPUT_LIMIT` bytes, spell by this grammar. The bytes after
+/// its ENDJOB line are the caller's. Neither `Limit::Input` nor `Limit::Places` is answered.
 pub fn read_job(alloc: Global, grammar: Grammar, input: &[u8]) -> Result<ReadJob, JobFault>
     requires { length input.now ≤ INPUT_LIMIT }
     ensures job { IfOk result (IsRead grammar input.now) }

@@ -50,30 +50,30 @@ impl Model for Draft {
     ghost invariant = { HasNames };
 }
 
-/// What of a job was read in part, or which cards may follow.
+/// What of a job was read in part, or what was read last.
 #[derive(Drop)]
 pub(crate) enum Part {
-    /// COVERJOB.
+    /// Nothing.
     Start,
-    /// Any card behind COVERJOB: no module is open.
+    /// COVERJOB.
     Modules,
-    /// TEXT: `left` bytes of the module are still to come.
+    /// A module, of which `left` bytes are still to come.
     Texts {
         image: Image,
         left: u32,
     },
-    /// `left` lines of the module's listing are still to come.
+    /// A listing, of which `left` lines are still to come.
     Listed {
         image: Image,
         left: u32,
         lines: ListingLines,
     },
-    /// SERVICE: no phase was read.
+    /// SERVICE.
     Services,
-    /// SESSION: no task of the phase was read.
+    /// PHASE or SESSION.
     Sessions,
     /// The open task.
     Task(TaskPart),
-    /// Nothing.
+    /// ENDJOB.
     Done,
 }

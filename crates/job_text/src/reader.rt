@@ -62,7 +62,7 @@ impl JobReader {
     /// line that is bad or passes a limit, and the fault is that of `read_job` at that line; an input that ends early is a
     /// fault of `finish` alone. Else it is `Ended` exactly where the LF of ENDJOB's line stands in this piece; the bytes
     /// behind it are the caller's. No earlier call has answered `Ended`, and the pieces have at most `INPUT_LIMIT` bytes
-    /// together. After a fault each later call answers the same. A line that lies whole in the piece is not copied.
+    /// together. After a fault each later call answers the same.
     pub fn feed(&mut self, alloc: Global, piece: &[u8]) -> Result<Fed, JobFault>
         requires reading { has_ended self.old ≡ false }
         requires room { fed_size self.old + length piece.now ≤ INPUT_LIMIT }

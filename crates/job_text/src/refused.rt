@@ -4,7 +4,6 @@ use crate::limit::Limit;
 use cov_base::NoMemory;
 use std::alloc::{AllocError, AllocFailed};
 
-/// Why a line isn't taken.
 #[derive(Drop)]
 pub(crate) enum LineRefused {
     Bad,

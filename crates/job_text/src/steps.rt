@@ -285,8 +285,7 @@ impl LineReader {
         }
     }
 
-    /// Takes the next line; `ended` where an LF ended it. After a refusal there is nothing more to take. A listing's line
-    /// moves nothing but its own bytes.
+    /// Takes the next line; `ended` where an LF ended it. After a refusal there is nothing more to take.
     pub(crate) fn line(
         &mut self,
         alloc: Global,

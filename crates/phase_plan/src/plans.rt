@@ -127,7 +127,7 @@ fn controlled_of(
 }
 
 /// The plan of a phase of the job, over the tables of the job's listings: every place, the number of the whole
-/// session that observes it in this phase, or 0, and the phase's controlled sessions with their places.
+/// session that observes it in this phase, or 0, the phase's controlled sessions with their places, and its tasks.
 pub fn plan_of(alloc: Global, job: &Job, tables: &Tables, phase: u32) -> Result<Plan, NoMemory>
     requires phase { phase < length job.now.phases }
     ensures { IfOk result (λ plan. plan ≡ plan_view job.now tables.now.places phase) }

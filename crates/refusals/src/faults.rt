@@ -86,7 +86,7 @@ pub fn input_refusal(fault: InputFault) -> Refusal
     }
 }
 
-/// The field at the offset is the first bad one.
+/// The first bad field, or the first byte past the last file, is at the offset.
 pub fn bad_marks(offset: usize) -> Refusal
     ensures { result ≡ refusal 10 (bad_marks_line offset) }
 {

@@ -1,4 +1,4 @@
-//! How a command tells that it has nothing to write: each refusal by its status and a line of at most 160 bytes.
+//! How a command tells that it has nothing to write: each refusal by its status and a line.
 //! Faults come as values from the stages below; which of them comes is decided above.
 #![tactic(auto)]
 

@@ -11,7 +11,7 @@ use job_text::Limit;
 use report_text::add_bytes;
 use table_combine::OtherTable;
 
-/// For words that are none of the table.
+/// For words that are no command.
 pub const USAGE: &[u8] =
     b"USAGE: run | marks NAME | trial NUMBER TASKS | table | replay | combine | show NAME | early | count | exits | prove NAME | verify NAME | ends | services COMMAND\n";
 
@@ -43,7 +43,7 @@ pub fn bad_job_line(n: u32) -> ArrayVec<u8, 160>
     number_line(b"BAD JOB LINE ", u64::from(n))
 }
 
-/// Line n of the input is no item of its schedule, or none that is possible there.
+/// The schedule is bad at line n of the input; at 0 where its job has not one phase.
 pub fn bad_schedule_line(n: u32) -> ArrayVec<u8, 160>
     ensures { result.items ≡ bad_schedule_line n }
 {
@@ -105,7 +105,7 @@ pub fn controlled_line(name: &Name) -> ArrayVec<u8, 160>
     line
 }
 
-/// The field at the offset is the first bad one, counted from the first byte of the first marks file.
+/// The first bad field, or the first byte past the last file, is at the offset from the first byte of the first marks file.
 pub fn bad_marks_line(offset: usize) -> ArrayVec<u8, 160>
     ensures { result.items ≡ bad_marks_line offset }
 {

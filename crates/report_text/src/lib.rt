@@ -1,4 +1,4 @@
-//! The report's text: what each task has come to, and what each session's executions show of its modules.
+//! The texts of a job that was run: its report, its counts, and the summary of a generated one; and that of its places.
 #![tactic(auto)]
 
 mod counts;

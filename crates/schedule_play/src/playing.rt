@@ -131,7 +131,7 @@ fn play_item<'a>(
     }
 }
 
-/// Plants the place for the session that observes it, where one does.
+/// Plants the place for the whole session that observes it, where one does.
 fn plant<'a>(core: &mut Core<'a>, s: u32, p: u32)
     requires window { s ≡ window_at (plan_in core.old.world) p }
     requires place { p < length core.old.world.places }
@@ -149,7 +149,7 @@ fn plant<'a>(core: &mut Core<'a>, s: u32, p: u32)
     };
 }
 
-/// Plants the places that a session observes, each for its session.
+/// Plants the places that a whole session observes, each for its session.
 fn plant_all<'a>(core: &mut Core<'a>, windows: &[u32])
     requires windows { windows.now ≡ (plan_in core.old.world).windows }
     requires is_world { IsWorld core.old.world }
@@ -162,7 +162,7 @@ fn plant_all<'a>(core: &mut Core<'a>, windows: &[u32])
     }
 }
 
-/// The core of a job of one phase, in which the places that a session observes are planted.
+/// The core of a job of one phase, in which the places that a whole session observes are planted.
 fn begin<'a>(alloc: Global, job: &'a Job, tables: &'a Tables) -> Result<Core<'a>, NoMemory>
     requires phase { length job.now.phases ≡ 1 }
     requires places { All (IsIn job.now.images) tables.now.places }

@@ -62,7 +62,7 @@ impl JobNames {
         }
     }
 
-    /// With the name of a module more, behind those of the others.
+    /// With the name of a module behind those of the others, where they lack it.
     pub fn with_module(self, name: Name) -> Result<JobNames, NoMemory>
         ensures { IfOk result (λ names. names ≡ spell.with_module self name) }
     {
@@ -81,7 +81,7 @@ impl JobNames {
         })
     }
 
-    /// With the name of a phase more, behind those of the others.
+    /// With the name of a phase behind those of the others, where they lack it.
     pub fn with_phase(self, name: Name) -> Result<JobNames, NoMemory>
         ensures { IfOk result (λ names. names ≡ spell.with_phase self name) }
     {
@@ -100,7 +100,7 @@ impl JobNames {
         })
     }
 
-    /// With the name of a session more, behind those of the others.
+    /// With the name of a session behind those of the others, where they lack it.
     pub fn with_session(self, name: Name) -> Result<JobNames, NoMemory>
         ensures { IfOk result (λ names. names ≡ spell.with_session self name) }
     {
@@ -119,7 +119,7 @@ impl JobNames {
         })
     }
 
-    /// With the name of a task more, behind those of the others.
+    /// With the name of a task behind those of the others, where they lack it.
     pub fn with_task(self, name: Name) -> Result<JobNames, NoMemory>
         ensures { IfOk result (λ names. names ≡ spell.with_task self name) }
     {

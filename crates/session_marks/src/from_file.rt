@@ -137,8 +137,7 @@ fn session_sets(
 }
 
 /// The sets that the file has for session s of the job, whose tables these are; its name and runs may be any. Other comes
-/// exactly where the file's table isn't the session's, NoMemory only for want of memory. Time and memory are linear in the
-/// places of the tables; memory is taken once a module, and once for the sets.
+/// exactly where the file's table isn't the session's. Time and memory are linear in the places of the tables.
 pub fn file_sets(
     alloc: Global,
     job: &Job,

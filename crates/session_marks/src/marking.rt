@@ -162,8 +162,8 @@ fn session_name(job: &Job, s: SessNo) -> Name
 
 /// The marks of session s of the job: its name, one run, its modules in the order of its card, a module without a
 /// listing too, and each with the places of its table and the session's set at each. The tables are those of the job's
-/// listings, and each set has facts of its place's kind alone. Refused only for want of memory. Time is linear in the
-/// places of the session's modules, and so is memory, which is taken once a module.
+/// listings, and each set has facts of its place's kind alone. Time and memory are linear in the places of the session's
+/// modules.
 pub fn marks_of<R: FactSets>(
     alloc: Global,
     job: &Job,

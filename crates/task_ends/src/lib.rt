@@ -1,4 +1,4 @@
-//! Where each task of a job ends that runs alone, and what ran where no place begins.
+//! Where each task of a job ends in its own run, and what ran where no place begins.
 #![tactic(auto)]
 
 mod running;

@@ -66,8 +66,8 @@ fn add_task(
     Ok(())
 }
 
-/// Runs each task of the job once, whatever its phase, with the job's services, if it has any. The tables are those of the job's listings. Memory is linear in the
-/// tasks and modules, beside one task's storage at a time.
+/// Runs each task of the job once, whatever its phase, with the job's services, if it has any. The tables are those of the
+/// job's listings. Memory is linear in the tasks and modules, beside one task's storage at a time.
 pub fn find_ends(alloc: Global, job: &Job, tables: &Tables) -> Result<Ends, NoMemory>
     requires tables { AreCodes job.now.images tables.now }
     ensures { IfOk result (AreEnds job.now (end_of job.now tables.now.places) (unlisted_of job.now tables.now.places)) }
