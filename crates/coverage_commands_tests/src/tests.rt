@@ -78,7 +78,7 @@ static FIRST: [Tallied; 1] = [Tallied {
     tallies: &[(3, 3, 3, 3)],
 }];
 
-/// What came of a job: the status, the bytes written, the ledger's one tally, and the areas made.
+/// What came of a job: the status, the bytes written, the ledger's tallies, and how many areas were made.
 #[derive(Drop)]
 struct Came {
     status: Status,

@@ -34,7 +34,7 @@ fn drained_at(text: &[u8], counts: &[u8]) -> u8 {
     }
 }
 
-/// Whether both sessions were drained at a later instruction than they were closed at, or not at all.
+/// Whether both sessions were drained at the instruction that closed them or a later one, or not at all.
 fn are_drained(came: &Came) -> bool {
     let second = from_words(&came.text, b"SESSION S2 ");
     came.status.0 == 0 && drained_at(&came.text, b"2345") < 255 && drained_at(second, b"45") < 255

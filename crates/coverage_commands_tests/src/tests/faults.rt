@@ -193,7 +193,7 @@ GO A\n\
 @output 9\n\
 BAD SCHEDULE LINE 15\n";
 
-/// Words of each command, and words that are none.
+/// Words of each command that reads, and words that are none.
 static WORDS: [&[&str]; 14] = [
     &["run"],
     &["services", "run"],

@@ -1,4 +1,4 @@
-//! Jobs of several tasks, sessions and phases, with their text and tallies: those of the rules' examples.
+//! Jobs of several tasks, sessions and phases, with their text and tallies.
 
 use super::notation::{Case, LOAD, Tallied};
 use job_input::Form;

@@ -1,4 +1,4 @@
-//! Programs that show the machine, with their text and tally: those of the rules' examples.
+//! Programs that show the machine, with their text and tally.
 
 use super::notation::{ALONE, COUNT, Case, LOAD, Tallied};
 
