@@ -191,6 +191,9 @@ fn answer<T: Threads + Wait + Sync, S: Source, K: Sink, A: Areas, G: Gate + Sync
 ///   summary;
 /// - all other words are answered as `cover_one` answers them.
 ///
+/// `services` may stand before the words of `run`, `count`, `marks`, `table`, `ends` and `show`: the job may then have SERVICE
+/// cards, and its tasks run with its services.
+///
 /// Each refusal has its status and its line. Status 6 comes only where the sink's count of faults rose; the sink has then
 /// taken a first part of the text, or nothing. Where no fault of source or sink was counted, and the source tells its
 /// bytes, the status is that of the words and bytes, or 7; that of `trial` is 0 or 7, and that of words that are no
@@ -217,9 +220,9 @@ pub fn cover<T: Threads + Wait + Sync, S: Source, K: Sink, A: Areas, G: Gate + S
 
 /// Serves the commands that need no threads:
 /// - `table` reads a job from the source, and writes the places of its modules to the sink;
-/// - `ends` reads a job, runs each of its tasks once, whatever their phases, and writes of each its ending, the
-///   instructions done and the address at which it ended, and of each module with a listing how many visits were begun in it
-///   where no place begins;
+/// - `ends` reads a job, runs each of its tasks once, whatever their phases, and writes of each its ending, the instructions
+///   done and the address at which it ended, and of each module with a listing how many visits were begun in it where no place
+///   begins;
 /// - `replay` reads a job of one phase and a schedule, plays the schedule on the core, and writes what its items have shown
 ///   and the report of what they come to;
 /// - `combine` reads marks files in succession, and writes the file of their union;
@@ -230,8 +233,8 @@ pub fn cover<T: Threads + Wait + Sync, S: Source, K: Sink, A: Areas, G: Gate + S
 ///   they are true of the session of the name, which has no controller, and else the first cause why they are not.
 ///
 /// `prove` and `verify` run each task of the session's phase once, alone. All other words, `run`, `exits`, `early`, `count`,
-/// `marks` and `trial` too, are answered as words that are no command. What `cover` says of statuses is so here too. It
-/// always returns.
+/// `marks` and `trial` too, are answered as words that are no command. What `cover` says of `services` and of statuses is
+/// so here too. It always returns.
 pub fn cover_one<S: Source, K: Sink>(
     alloc: Global,
     words: &[String],
