@@ -160,7 +160,8 @@ pub record ReadyView : Type 0 where
   pub lines : ℕ
   pub rest : List ℕ
 
--- the bytes have this job, its sessions are as the command asks, and its listings match
+-- the bytes have this job, its sessions are as the command asks, and its listings match; no two texts have the same lines, so
+-- `rest` is what stands behind it
 pub record IsReady (c : Command) (bytes : List ℕ) (r : ReadyView) : Type 0 where
   pub reads : (way_of c).reads_job ≡ true
   pub has : HasJob (way_of c).form (lines_of bytes) r.job
@@ -253,7 +254,7 @@ other_tasks j places by s = others (plan_view j places (session_of j s).phase).t
 
 -- By the count at which a session is closed, the other tasks of its phase and its controller's last count: the session was
 -- drained at a count from the first to the last, at the first one where there is no other task, or it wasn't drained, as it isn't
--- closed or there is another task.
+-- closed or there is another task. No more is claimed of the count.
 abbrev pub IsDrained : Option ℕ → List TaskNo → ℕ → Option ℕ → Type 0
 IsDrained None others last drained = drained ≡ None
 IsDrained (Some closing) others last None = others ≢ []
@@ -391,7 +392,7 @@ pub record Answers (c : Command) (s : SourceChange) (a : AreasChange) (k : SinkC
 -- The status that the words and bytes have, leaving out faults of the source and the sink, and want of memory; and when the
 -- areas are as they were.
 
--- that of `trial` doesn't depend on bytes
+-- of a job behind which nothing may stand it is 0, where that is ready; that of `trial` doesn't depend on bytes
 pub data HasStatus (c : Command) (bytes : List ℕ) (n : ℕ) : Type 0 where
   ToUsage : c ≡ Unknown → n ≡ 1 → HasStatus c bytes n
   ToLarge : (way_of c).reads_input ≡ true → input_limit < length bytes → n ≡ 4 → HasStatus c bytes n
