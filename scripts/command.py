@@ -7,6 +7,8 @@ import sys
 from typing import Callable, Optional
 
 USAGE, BAD_INPUT, READ_FAULT, WRITE_FAULT, INTERRUPTED = 1, 2, 5, 6, 130
+# How the command is called, in a checkout and in an installed copy.
+CALLED = "./coverage" if os.path.exists(f"{os.path.dirname(os.path.realpath(__file__))}/../crates.txt") else "coverage"
 
 
 class Fault(Exception):
@@ -114,7 +116,7 @@ def call_meant(usage: str, words: list[str]) -> str:
     if not reads or not words or not os.path.isfile(words[-1]):
         return ""
     own = [call.split(" ")[0], *words[:-1]] if words[:-1] else [call]
-    return f"\n\ncoverage: did you mean ./coverage {' '.join(own)} < {words[-1]} ?"
+    return f"\n\ncoverage: did you mean {CALLED} {' '.join(own)} < {words[-1]} ?"
 
 
 def complain(text: str) -> None:

@@ -117,6 +117,8 @@ def of_scripts(command: str, env: dict[str, str], at: str) -> None:
         equal(job, file.read())
     page = well(run([command, "page"], well(run([command, "run"], job, env=env)).output, env=env)).output
     assert page.startswith(b"<!DOCTYPE html>"), page[:80]
+    said = run([command, "page", f"{examples}/orders.job"], env=env).error
+    assert said.endswith(f"\ncoverage: did you mean coverage page < {examples}/orders.job ?\n"), said[-200:]
     equal([name for name in files_below(at) if "__pycache__" in name], [])
 
 
