@@ -9,6 +9,7 @@ from typing import Iterable
 
 from harness import COVERAGE, TOP, Ran, Tally, equal, folder, refused, run, run_checks, well
 from jobs import Program
+from services_rows import CARD, CODE, Row
 
 MANY = f"{TOP}/examples/many"
 PLACES = 200
@@ -77,9 +78,9 @@ def holds(out: str, numbers: Iterable[int], failing: Iterable[int] = (), missing
 
 
 def noting(at: str) -> dict[str, str]:
-    """An environment in which the command notes each call in the file `calls`."""
+    """An environment in which the command notes each call in the file `calls`, of one behind `services` that."""
     with open(f"{at}/command", "w", encoding="utf-8") as file:
-        file.write(f'#!/bin/sh\necho "$1" >> {at}/calls\nexec {COVERAGE} "$@"\n')
+        file.write(f'#!/bin/sh\n[ "$1" = services ] && it=$2 || it=$1\necho "$it" >> {at}/calls\nexec {COVERAGE} "$@"\n')
     os.chmod(f"{at}/command", 0o755)
     return {**os.environ, "COVERAGE": f"{at}/command"}
 
@@ -215,6 +216,18 @@ def one_again() -> None:
         equal((ran.status, read(f"{at}/out/J020.marks.failed").splitlines()[0].rstrip()), (127, b"STATUS 127"))
 
 
+def with_services() -> None:
+    """examples/many/one: a job with SERVICE cards has its marks too"""
+    with folder() as at:
+        row = Row(CODE, [CARD])
+        os.makedirs(f"{at}/jobs")
+        os.mkdir(f"{at}/out")
+        with open(f"{at}/jobs/J001.job", "wb") as file:
+            file.write(row.job())
+        well(one(at, 1))
+        equal(read(f"{at}/out/J001.marks"), row.program().marks_file(1, 1, 1, 1))
+
+
 def killed() -> None:
     """examples/many/one: where it is killed in between no marks are there, and a second run makes them"""
     with folder() as at:
@@ -235,7 +248,7 @@ def killed() -> None:
 
 def run_all(tally: Tally) -> None:
     """Runs those of make where that is installed, and the others."""
-    run_checks(tally, [one_again, killed, gathers])
+    run_checks(tally, [one_again, with_services, killed, gathers])
     if shutil.which("make"):
         run_checks(tally, [by_make, failing_by_make])
     else:
