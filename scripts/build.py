@@ -24,7 +24,7 @@ from proving import LINKED, CrateFailed, make_table, prove_all
 OUT = f"{TOP}/out"
 PROGRAM, STAMP, SEEN, LOCK = (f"{OUT}/{it}" for it in ("coverage_program", "built", "seen", "lock"))
 HOW_LONG = "some twenty minutes on four processors"
-MEANWHILE = "./coverage try COMMAND .. answers at once, without proof"
+MEANWHILE = "./coverage try COMMAND .. answers within a minute or so, without proof"
 FAILED = 70
 
 

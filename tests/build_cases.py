@@ -144,7 +144,7 @@ def builds_once() -> None:
     with copy() as it:
         status, output, error = it.run("marks", "S")
         equal((status, output), (77, "one: marks S\ninput\n"))
-        assert "./coverage try COMMAND .. answers at once, without proof" in error.splitlines()[0], error
+        assert "./coverage try COMMAND .. answers within a minute or so, without proof" in error.splitlines()[0], error
         assert error.index(LIBRARY) < error.index(PROGRAM) < error.index("built: 2 crates"), error
         equal(it.calls(), ["lib low", "run coverage_program"])
         equal(it.run("table"), (77, "one: table\ninput\n", ""))
