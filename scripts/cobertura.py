@@ -23,8 +23,8 @@ server shows the listings too:
 Each instruction line is a line; each line of a conditional branch has a condition with two ways, taken and not taken;
 each label at an instruction is a method, of the instructions up to the next. Where the counts of the same job (of
 count) stand behind the report, lines have these as hits, and else 0 or 1. Rates are rounded down, so that 1 is all.
-The timestamp is that of the call, or the variable SOURCE_DATE_EPOCH, in milliseconds. The places that FILE names count
-nowhere (docs/SUMMARY.md).
+The timestamp, in milliseconds, is that of the call, or of the variable SOURCE_DATE_EPOCH, which is in seconds. The places
+that FILE names count nowhere (docs/SUMMARY.md).
 
 What is no report is refused by its line on standard error; then the status is 2, and nothing is written. This script
 is not proved.
