@@ -98,7 +98,7 @@ class UsageError(Exception):
 
 def take_options(words: list[str], valued: tuple[str, ...], bare: tuple[str, ...] = ()) -> tuple[dict[str, str], list[str]]:
     """The options among the words, each once at most and before all other words, those that have a value with the word
-    behind them; and the words that are left. A word that looks like an option is none of these."""
+    behind them; and the words that are left. Another option before those is none of the command's."""
     found: dict[str, str] = {}
     left = list(words)
     while left and left[0].startswith("--"):
