@@ -20,7 +20,7 @@ fits() {
   run | exits | early | count | table | ends | replay | combine) [ $# = 1 ] ;;
   marks | show | prove | verify) [[ $# = 2 && $2 =~ $name ]] ;;
   services) [ $# -gt 1 ] && [[ $2 =~ ^(run|count|table|ends|marks|show)$ ]] && fits "${@:2}" ;;
-  trial) [[ $# = 3 && $2 =~ ^(0|[1-9][0-9]{0,9})$ && $3 =~ ^[1-9][0-9]?$ ]] ;;
+  trial) [[ $# = 3 && $2 =~ ^(0|[1-9][0-9]{0,9})$ && $3 =~ ^[1-9][0-9]?$ && $2 -le 4294967295 && $3 -le 64 ]] ;;
   *) return 2 ;;
   esac
 }

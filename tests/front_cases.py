@@ -522,7 +522,7 @@ def unbuilt_words() -> None:
             ran = subprocess.run([f"{at}/coverage", *words], capture_output=True, text=True, env=it.env, cwd=at, check=False)
             equal((ran.returncode, ran.stdout, ran.stderr.splitlines()), (1, "", [f"coverage: {text}" for text in said]))
         for words in (["marks", "s"], ["show", "ABCDEFGHI"], ["prove", "2ND"], ["verify", ""], ["trial", "07", "8"],
-                      ["trial", "7", "0"], ["trial", "7", "100"], ["marks", "S", "T"], ["run", "--must-return", "x"], ["marks", "S", "--must-return"], [""]):
+                      ["trial", "7", "0"], ["trial", "7", "65"], ["trial", "4294967296", "8"], ["marks", "S", "T"], ["run", "--must-return", "x"], ["marks", "S", "--must-return"], [""]):
             equal((words, it.run(*words)[0]), (words, 1))
         equal(it.calls(), [])
         for words in (["marks", "@$#9ABCD"], ["trial", "0", "64"], ["trial", "4294967295", "1"]):
