@@ -233,7 +233,7 @@ def bad_job(line: str, data: Optional[bytes], words: list[str]) -> list[str]:
         return []
     if not data:
         return ["the input is empty"]
-    number, lines = int(found[1]), data.split(b"\n")
+    number, lines, has_services = int(found[1]), data.split(b"\n"), words[0] == "services"
     for start, what in OTHER_TEXTS:
         if data.startswith(start):
             return [f"the input is {what}, and no job"]
@@ -242,8 +242,9 @@ def bad_job(line: str, data: Optional[bytes], words: list[str]) -> list[str]:
     if number > len(lines) - (not lines[-1]):
         return [f"the input ends with line {number - 1}, before ENDJOB"]
     if b"ENDJOB" in lines[: number - 1]:
-        return [f"line {number} stands behind ENDJOB, where {words[0]} takes nothing: {shown(lines[number - 1])}"]
-    return [f"line {number} of the input is {shown(lines[number - 1])}", *card_fault(data, number, words[0] == "services")]
+        command = " ".join(words[: 1 + has_services])
+        return [f"line {number} stands behind ENDJOB, where {command} takes nothing: {shown(lines[number - 1])}"]
+    return [f"line {number} of the input is {shown(lines[number - 1])}", *card_fault(data, number, has_services)]
 
 
 def card_fault(data: bytes, number: int, has_services: bool) -> list[str]:

@@ -125,6 +125,8 @@ def cards_refused() -> list[Row]:
             "SVC 3 is a call of the task's own, and no service answers it; those of services are 0 and 6 to 254", words=["services", "run"]),
         bad("a job without its end", "\n".join(lines[:-1]).encode() + b"\n", 12, "the input ends with line 11, before ENDJOB"),
         bad("a line behind the job", job + b"GO A\n", 13, "line 13 stands behind ENDJOB, where run takes nothing: 'GO A'"),
+        bad("a line behind a job with services", job + b"GO A\n", 13, "line 13 stands behind ENDJOB, where services marks takes nothing: 'GO A'",
+            words=["services", "marks", "S"]),
         of_job("a limit", ["run"], job.replace(b" 16 100 0", b" 16 50000001 0"), 4, "TOO LARGE BUDGET LINE 11",
                'the input passes a limit: docs/JOB.md, "Limits"'),
         of_job("a session's name that is nearly one", ["marks", "ORDER"], job.replace(b"SESSION S M", b"SESSION ORDERS M"), 13,
