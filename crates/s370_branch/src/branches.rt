@@ -16,7 +16,7 @@ fn is_selected(mask: u8, code: u8) -> bool
     requires code { code ≤ 3 }
     ensures { result ≡ is_selected mask code }
 {
-    mask % (16 >> code) >= 8 >> code
+    (mask >> (3 - code)) % 2 == 1
 }
 
 /// R1 less 1.

@@ -1,7 +1,9 @@
 -- The recursions of several registers, one register on, and halfwords by their bytes.
-use Rattle.std.proofs.Common.{◌≡◌, ℕ, ◌+◌, ◌*◌, ◌/◌, ◌%◌, List, slice_index, slice_set, refl, add-one, zero-add, add-zero}
+use Rattle.std.proofs.Common.{◌≡◌, ℕ, ◌+◌, ◌*◌, ◌/◌, ◌%◌, ◌<◌, ◌∙◌, arith, List, slice_index, slice_set, refl, add-one, zero-add, add-zero, add_assoc}
 use Rattle.cov_base.specs.Meaning.{Memory, byte_at, wrap}
+use Rattle.s370_state.specs.Fields.{AreBytes}
 use Rattle.s370_state.specs.Meaning.{number_at, store_number}
+use Rattle.s370_state.proofs.Laws.{word_of_bytes}
 use Rattle.s370_fixed.specs.Meaning.{loaded, stored}
 
 pub loaded_none : (m : Memory) (bytes regs : List ℕ) (r a : ℕ) → loaded m bytes regs r a 0 ≡ regs
@@ -11,6 +13,13 @@ loaded_none m bytes regs r a = refl
 pub loaded_more : (m : Memory) (bytes regs : List ℕ) (r a n : ℕ) → loaded m bytes regs r a (n + 1) ≡ slice_set (loaded m bytes regs r a n) ((r + n) % 16) (number_at m bytes (a + 4 * n) 4)
 unfolding loaded
 loaded_more m bytes regs r a n = rw add-one refl
+
+-- a word of a row, by its bytes
+pub word_in_row : (m : Memory) (bytes s : List ℕ) (a n i : ℕ) → AreBytes m bytes a (4 * n) s → i < n →
+    number_at m bytes (a + 4 * i) 4 ≡ ((slice_index s (4 * i) * 256 + slice_index s (4 * i + 1)) * 256 + slice_index s (4 * i + 2)) * 256 + slice_index s (4 * i + 3)
+word_in_row m bytes s a n i h below =
+    word_of_bytes m bytes (a + 4 * i)
+    ∙ rw (add_assoc a (4 * i) 1, add_assoc a (4 * i) 2, add_assoc a (4 * i) 3, h.each (4 * i) (omega arith), h.each (4 * i + 1) (omega arith), h.each (4 * i + 2) (omega arith), h.each (4 * i + 3) (omega arith)) refl
 
 pub stored_none : (bytes regs : List ℕ) (r a : ℕ) → stored bytes regs r a 0 ≡ bytes
 unfolding stored

@@ -3,6 +3,8 @@
 
 ghost use Rattle.std.specs.Prelude.{◌≡◌, ◌+◌, ◌-◌, ◌*◌, ◌%◌, ◌<◌, ◌≤◌, true};
 ghost use Rattle.cov_base.specs.Meaning.{can_reach, can_store};
+ghost use Rattle.s370_state.specs.Fields.{AreBytes};
+ghost use Rattle.s370_state.specs.Meaning.{number_at};
 ghost use Rattle.s370_state.specs.Row.{Performs};
 ghost use Rattle.s370_fixed.specs.Meaning.{many, loaded, stored, fixed_row};
 
@@ -18,7 +20,35 @@ fn count(code: &Code) -> u8
     (code.r3() + 16 - code.r1()) % 16 + 1
 }
 
+/// Word i of n that stand in a row.
+#[inline(always)]
+fn word_in_row<P: Space>(_space: &P, at: Addr, n: u8, row: &[u8], i: u8) -> u32
+    requires n { n ≤ 16 }
+    requires row { AreBytes (P.memory _space.now) (P.bytes _space.now) at (4 * n) row.now }
+    requires below { i < n }
+    ensures { result ≡ number_at (P.memory _space.now) (P.bytes _space.now) (at + 4 * i) 4 }
+{
+    let k = 4 * i as usize;
+    u32::from_be_bytes([row[k], row[k + 1], row[k + 2], row[k + 3]])
+}
+
+/// Loads n registers, r and on, from words that stand in a row.
+#[inline(always)]
+#[tactic(auto, using(crate::proofs::Registers::loaded_none, crate::proofs::Registers::loaded_more))]
+fn load_row<P: Space>(cpu: &mut Cpu, _space: &P, r: u8, at: Addr, n: u8, row: &[u8])
+    requires r { r < 16 }
+    requires n { n ≤ 16 }
+    requires row { AreBytes (P.memory _space.now) (P.bytes _space.now) at (4 * n) row.now }
+    ensures { cpu.new ≡ record cpu.old { regs = loaded (P.memory _space.now) (P.bytes _space.now) cpu.old.regs r at n } }
+{
+    for i in 0..n {
+        cpu.set_reg((r + i) % 16, word_in_row(_space, at, n, row, i));
+    }
+}
+
 /// Loads n registers, r and on.
+#[cold]
+#[inline(never)]
 #[tactic(auto, using(crate::proofs::Registers::loaded_none, crate::proofs::Registers::loaded_more))]
 fn load_words<P: Space>(cpu: &mut Cpu, space: &P, r: u8, at: Addr, n: u8)
     requires r { r < 16 }
@@ -55,6 +85,7 @@ fn store_words<P: Space>(cpu: &Cpu, space: &mut P, r: u8, at: Addr, n: u8)
 }
 
 /// LM: loads the registers from R1 to R3 from as many words.
+#[inline(always)]
 pub fn load_multiple<P: Space>(cpu: &mut Cpu, space: &mut P, code: &Code) -> Next
     ensures { Performs P.memory P.bytes (fixed_row Op.LM code.now) cpu.old space.old cpu.new space.new result }
 {
@@ -63,11 +94,15 @@ pub fn load_multiple<P: Space>(cpu: &mut Cpu, space: &mut P, code: &Code) -> Nex
     if let Err(e) = test_read(space, at, 4 * u32::from(n)) {
         return Next::Ended(e);
     }
-    load_words(cpu, space, code.r1(), at, n);
+    match space.slice(at, 4 * u32::from(n)) {
+        Some(row) => load_row(cpu, space, code.r1(), at, n, row),
+        None => load_words(cpu, space, code.r1(), at, n),
+    }
     Next::On
 }
 
 /// STM: stores the registers from R1 to R3 in as many words.
+#[inline(always)]
 pub fn store_multiple<P: Space>(cpu: &mut Cpu, space: &mut P, code: &Code) -> Next
     ensures { Performs P.memory P.bytes (fixed_row Op.STM code.now) cpu.old space.old cpu.new space.new result }
 {

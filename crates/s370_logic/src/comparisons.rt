@@ -61,6 +61,7 @@ fn compare_bytes<P: Space>(space: &P, a: Addr, b: Addr, n: u32) -> u8
 }
 
 /// Compares n bytes, where they stand in rows by these.
+#[inline(always)]
 fn compare_operands<P: Space>(space: &P, a: Addr, b: Addr, n: u32) -> u8
     requires reach { can_reach (P.memory space.now) a n ≡ true }
     requires reach_second { can_reach (P.memory space.now) b n ≡ true }
@@ -94,6 +95,7 @@ pub fn compare_word<P: Space>(cpu: &mut Cpu, space: &mut P, code: &Code) -> Next
 }
 
 /// CLI: compares a byte with I2.
+#[inline(always)]
 pub fn compare_immediate<P: Space>(cpu: &mut Cpu, space: &mut P, code: &Code) -> Next
     ensures { Performs P.memory P.bytes (logic_row Op.CLI code.now) cpu.old space.old cpu.new space.new result }
 {
@@ -107,6 +109,7 @@ pub fn compare_immediate<P: Space>(cpu: &mut Cpu, space: &mut P, code: &Code) ->
 }
 
 /// CLC: compares the operands, left to right.
+#[inline(always)]
 pub fn compare_fields<P: Space>(cpu: &mut Cpu, space: &mut P, code: &Code) -> Next
     ensures { Performs P.memory P.bytes (logic_row Op.CLC code.now) cpu.old space.old cpu.new space.new result }
 {

@@ -10,6 +10,7 @@ use s370_decode::{Code, Op};
 use s370_state::{Cpu, Next, Space, byte_of, put_into, test_read, test_store};
 
 /// Stores one byte.
+#[inline(always)]
 fn store_byte<P: Space>(cpu: &Cpu, space: &mut P, at: Addr, v: u8) -> Next
     ensures { Performs P.memory P.bytes (stores_byte at v) cpu.now space.old cpu.now space.new result }
 {
@@ -21,6 +22,7 @@ fn store_byte<P: Space>(cpu: &Cpu, space: &mut P, at: Addr, v: u8) -> Next
 }
 
 /// IC: loads bits 24-31 of R1 from a byte.
+#[inline(always)]
 pub fn insert_character<P: Space>(cpu: &mut Cpu, space: &mut P, code: &Code) -> Next
     ensures { Performs P.memory P.bytes (logic_row Op.IC code.now) cpu.old space.old cpu.new space.new result }
 {
@@ -34,6 +36,7 @@ pub fn insert_character<P: Space>(cpu: &mut Cpu, space: &mut P, code: &Code) -> 
 }
 
 /// STC: stores bits 24-31 of R1 in a byte.
+#[inline(always)]
 pub fn store_character<P: Space>(cpu: &mut Cpu, space: &mut P, code: &Code) -> Next
     ensures { Performs P.memory P.bytes (logic_row Op.STC code.now) cpu.old space.old cpu.new space.new result }
 {
@@ -42,6 +45,7 @@ pub fn store_character<P: Space>(cpu: &mut Cpu, space: &mut P, code: &Code) -> N
 }
 
 /// MVI: stores I2 in a byte.
+#[inline(always)]
 pub fn move_immediate<P: Space>(cpu: &mut Cpu, space: &mut P, code: &Code) -> Next
     ensures { Performs P.memory P.bytes (logic_row Op.MVI code.now) cpu.old space.old cpu.new space.new result }
 {
@@ -50,6 +54,7 @@ pub fn move_immediate<P: Space>(cpu: &mut Cpu, space: &mut P, code: &Code) -> Ne
 }
 
 /// TM: tests the bits of a byte that I2 selects.
+#[inline(always)]
 pub fn test_under_mask<P: Space>(cpu: &mut Cpu, space: &mut P, code: &Code) -> Next
     ensures { Performs P.memory P.bytes (logic_row Op.TM code.now) cpu.old space.old cpu.new space.new result }
 {

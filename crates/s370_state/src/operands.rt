@@ -93,6 +93,7 @@ pub fn test_store_read<P: Space>(space: &P, a: Addr, n: u32, b: Addr, k: u32) ->
 }
 
 /// Tests two operands that are read: code 5 by either, then touch by the first, then by the second.
+#[inline(always)]
 #[tactic(auto, unfolding(crate::specs::Meaning::use_tests, crate::specs::Meaning::all_reached, crate::specs::Meaning::all_stored, crate::specs::Meaning::touched))]
 pub fn test_read_both<P: Space>(space: &P, a: Addr, n: u32, b: Addr, k: u32) -> Result<(), Ending>
     ensures tested { Tested (P.memory space.now) (reads a n ∷ (reads b k ∷ [])) result }

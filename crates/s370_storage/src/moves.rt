@@ -66,6 +66,7 @@ fn move_parts<P: Space>(part: Part, cpu: &Cpu, space: &mut P, code: &Code) -> Ne
 }
 
 /// MVC: moves bytes, left to right.
+#[inline(always)]
 pub fn move_characters<P: Space>(cpu: &mut Cpu, space: &mut P, code: &Code) -> Next
     ensures { Performs P.memory P.bytes (storage_row Op.MVC code.now) cpu.old space.old cpu.new space.new result }
 {
