@@ -2,10 +2,11 @@
 from __future__ import annotations
 
 import re
+import resource
 from functools import lru_cache
 
 from harness import PROGRAM, equal, run
-from jobs import Program, Result, task
+from jobs import FIRST, Program, Result, task
 
 PLACES, TASKS = 65_536, 64
 # How many places each task runs through.
@@ -109,4 +110,37 @@ def lists() -> None:
     gives(["ends"], job(), f"COVERAGE ENDS\n{ended}UNLISTED M 0\nEND\n".encode())
 
 
-CHECKS = [runs, early, files, lists]
+ENDLESS = "".join(task("DATA 0 47F00000", f"TASK T{it} 000000 16 50000000 0\n") for it in range(TASKS))
+# The first program with tasks that run for half a minute of a processor; with a session that one of them controls, a line
+# behind its end, and another module behind a listing.
+LONG = FIRST.job(ENDLESS)
+CONTROLLED = LONG.replace(b"SESSION S M\n", b"SESSION S BY T1 M\n")
+LONGER = FIRST.job(ENDLESS, more="\n")
+OTHER = LONG.replace(b"TEXT 4110", b"TEXT 4120")
+FILE, OTHER_FILE = FIRST.marks_file(0, 0, 0), FIRST.marks_file(0, 0, 1).replace(b"\x1a\x11", b"\x1a\x12")
+RUNLESS = [
+    *((word.split(), LONGER, 2) for word in ("run", "exits", "early", "count", "marks S", "ends", "prove S")),
+    *((word.split(), OTHER, 3) for word in ("run", "exits", "early", "count", "marks S", "ends", "prove S", "replay")),
+    *((word.split(), LONG, 13) for word in ("marks X", "show X", "prove X", "verify X")),
+    *((word.split(), CONTROLLED, 14) for word in ("count", "prove S", "verify S")),
+    (["replay"], LONG + b"GO T\n", 9),
+    *((word.split(), LONG + FILE[:-1], 10) for word in ("show S", "verify S")),
+    *((word.split(), LONG + OTHER_FILE, 11) for word in ("show S", "verify S")),
+    (["verify", "S"], LONG + FILE, 15),
+    (["table"], LONG, 0),
+    (["show", "S"], LONG + FILE, 0),
+    (["replay"], LONG + b"ENDSCHED\n", 0),
+]
+
+
+def runless() -> None:
+    """limits: no task is run of a job of 64 endless tasks that is refused, or of which a command runs none"""
+    for words, data, status in RUNLESS:
+        before = resource.getrusage(resource.RUSAGE_CHILDREN)
+        equal((words, run([PROGRAM, *words], data).status), (words, status))
+        after = resource.getrusage(resource.RUSAGE_CHILDREN)
+        # Some hundredth of a second of a processor.
+        assert after.ru_utime - before.ru_utime < 4, (words, after.ru_utime - before.ru_utime)
+
+
+CHECKS = [runs, early, files, lists, runless]
