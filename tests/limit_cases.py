@@ -1,14 +1,15 @@
-"""Each command at the limits of places and tasks: no memory is wanting there, and nothing is lost."""
+"""Each command at the limits of cards, places and input: no memory is wanting there, and nothing is lost or run in vain."""
 from __future__ import annotations
 
 import re
 import resource
 from functools import lru_cache
 
+from answers import answer
 from harness import PROGRAM, equal, run
 from jobs import FIRST, Program, Result, task
 
-PLACES, TASKS = 65_536, 64
+PLACES, TASKS, INPUT = 65_536, 64, 16_777_216
 # How many places each task runs through.
 STRETCH = PLACES // TASKS // 2
 RAN = TASKS * STRETCH
@@ -143,4 +144,50 @@ def runless() -> None:
         assert after.ru_utime - before.ru_utime < 4, (words, after.ru_utime - before.ru_utime)
 
 
-CHECKS = [runs, early, files, lists, runless]
+@lru_cache(None)
+def most_cards() -> bytes:
+    """16 modules with a listing each, 16 phases with a session and four tasks each, with the most private storage and room."""
+    module = FIRST.job().partition(b"PHASE")[0].partition(b"\n")[2]
+    modules = [module.replace(b"M 100000", f"M{it} {0x100000 + 8 * it:06X}".encode(), 1) for it in range(16)]
+    phases = [f"PHASE P{it}\nSESSION S{it} M{it}\n" + "".join(
+        f"TASK T{4 * it + n} {0x100000 + 8 * it:06X} 1048576 {n} 65536\n" for n in range(1, 5)) for it in range(16)]
+    return b"COVERJOB 1\n" + b"".join(modules) + "".join(phases).encode() + b"ENDJOB\n"
+
+
+def cards() -> None:
+    """limits: each command of a job of 16 modules, phases and sessions, and 64 tasks"""
+    job, session = most_cards(), ["S15"]
+    marks, proved = (run([PROGRAM, word, *session], job).output for word in ("marks", "prove"))
+    named = (("marks", b""), ("prove", b""), ("show", marks), ("verify", marks + proved))
+    alone = [([it], b"") for it in ("run", "exits", "early", "count", "table", "ends")]
+    for words, behind in [*alone, *(([it, *session], behind) for it, behind in named)]:
+        ran, wanted = run([PROGRAM, *words], job + behind), answer(words, job + behind)
+        equal((words, ran.status, wanted.fault(ran.status, ran.output)), (words, 0, None))
+
+
+def services() -> None:
+    """limits: a service for each number that may have one, of which the last is called"""
+    served = "".join(f"SERVICE {it} 100004\n" for it in (0, *range(6, 255)))
+    called = Program.of("0 0AFE SVC, 2 07FE BR, 4 41100007 LA, 8 07FE BR")
+    job = called.job().replace(b"PHASE P", f"{served}PHASE P".encode())
+    done = [Result("RETURNED", 4, registers={1: 7, 15: 0x100004})]
+    gives(["services", "run"], job, called.report(done, "::::", 4))
+    gives(["services", "count"], job, called.counted(done, *[(1,)] * 4))
+    gives(["services", "ends"], job, b"COVERAGE ENDS\nTASK A RETURNED COUNT 4 AT FFFFFE\nUNLISTED M 0\nEND\n")
+
+
+def inputs() -> None:
+    """limits: combine of 16 MB of files, and replay of 16 MB of items"""
+    file = FIRST.marks_file(1, 0, 1)
+    count = INPUT // len(file)
+    gives(["combine"], file * count, FIRST.marks_file(1, 0, 1, runs=count))
+    job = FIRST.job(task("DATA 0 47F00000", "TASK A 000000 16 3000000 0\n"))
+    # The last DO ends the task, which has done all of its budget.
+    count = 3_000_001
+    events = "".join(f"\nEVENT {it} DO A" for it in range(1, count + 1))
+    spent = [Result("SPENT", count - 1, entry=0)]
+    wanted = FIRST.report(spent, "^^^", 3, "000000-000007", title=f"COVERAGE REPLAY{events}")
+    gives(["replay"], job + b"DO A\n" * count + b"ENDSCHED\n", wanted)
+
+
+CHECKS = [runs, early, files, lists, cards, services, inputs, runless]
