@@ -197,6 +197,17 @@ name_at w = if is_name w then Some (padded w) else None
 abbrev pub is_filled : List ℕ → Bool
 is_filled field = is_name (unpadded field) && bytes_eq (padded (unpadded field)) field
 
+-- A text's words.
+
+abbrev pub put_first : ℕ → List (List ℕ) → List (List ℕ)
+put_first b [] = (b ∷ []) ∷ []
+put_first b (w ∷ ws) = (b ∷ w) ∷ ws
+
+-- the parts of a text between its blanks
+abbrev pub words : List ℕ → List (List ℕ)
+words [] = [] ∷ []
+words (b ∷ bs) = if nat_eq b 32 then [] ∷ words bs else put_first b (words bs)
+
 -- The state of a task, and what its run visits.
 
 -- registers, instruction address, condition code and program mask

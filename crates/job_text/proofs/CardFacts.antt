@@ -4,12 +4,12 @@ use Rattle.std.proofs.lemmas.Bool.Decides.{nat_tests}
 use Rattle.std.proofs.lemmas.List.{length-append}
 use Rattle.std.specs.Str.{bytes_eq}
 use Rattle.std.proofs.lemmas.Option.{same_Some, cond_some}
-use Rattle.cov_base.specs.Meaning.{is_name, name_at, padded, unpadded}
+use Rattle.cov_base.specs.Meaning.{is_name, name_at, padded, unpadded, words}
 use Rattle.cov_base.proofs.Laws.{unpadded-padded}
 use Rattle.hex.specs.Hex.{decode_sized}
 use Rattle.hex.specs.declared.error.FromHexError.{FromHexError}
 use Rattle.hex.proofs.HexLemmas.{decode_sized-ok, decode_sized-twice, decode_of-ok}
-use Rattle.job_text.specs.Meaning.{CardView, Cover, Module, Text, Listing, Phase, Session, Task, Reg, Data, Input, End, words, card_number, bytes_at, ok_of, address_in, address_at, card_word, put_name, names_on, names_at, may_stand, as_module, as_session, as_controlled, controlled_card, session_card, as_task, as_reg, as_data, short_card, pair_card, long_card, card_of, card_at, Serve, as_service}
+use Rattle.job_text.specs.Meaning.{CardView, Cover, Module, Text, Listing, Phase, Session, Task, Reg, Data, Input, End, card_number, bytes_at, ok_of, address_in, address_at, card_word, put_name, names_on, names_at, may_stand, as_module, as_session, as_controlled, controlled_card, session_card, as_task, as_reg, as_data, short_card, pair_card, long_card, card_of, card_at, Serve, as_service}
 use Rattle.job_text.proofs.Guards.{guard_more}
 
 -- a name filled with blanks

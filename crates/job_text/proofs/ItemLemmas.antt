@@ -4,9 +4,9 @@ use Rattle.std.proofs.lemmas.Bool.Decides.{nat_tests}
 use Rattle.std.proofs.lemmas.List.Folds.{list_all_at}
 use Rattle.std.proofs.lemmas.List.Quantifiers.{position-Some}
 use Rattle.std.specs.List.{list_all, position}
-use Rattle.cov_base.specs.Meaning.{is_letter, is_name_byte, padded, name_at}
+use Rattle.cov_base.specs.Meaning.{is_letter, is_name_byte, padded, name_at, words, put_first}
 use Rattle.session_book.specs.Meaning.{JobView}
-use Rattle.job_text.specs.Meaning.{words, put_first, task_item, item_of}
+use Rattle.job_text.specs.Meaning.{task_item, item_of}
 use Rattle.job_text.proofs.WordLemmas.{Cut, cut_at, no_cut, tail_whole}
 
 -- words are never none

@@ -5,8 +5,8 @@ use Rattle.std.proofs.Math.Seq.{take-length}
 use Rattle.std.proofs.lemmas.Bool.Decides.{nat_tests}
 use Rattle.std.specs.List.{position, position_or_len}
 use Rattle.std.proofs.lemmas.Option.{cond_some}
-use Rattle.job_text.specs.Meaning.{words, names_at, names_on, as_controlled, controlled_card, long_card}
-use Rattle.cov_base.specs.Meaning.{name_at}
+use Rattle.cov_base.specs.Meaning.{words, name_at}
+use Rattle.job_text.specs.Meaning.{names_at, names_on, as_controlled, controlled_card, long_card}
 
 abbrev pub end_of : List ℕ → ℕ
 end_of s = position_or_len (λ b. nat_eq b 32) s

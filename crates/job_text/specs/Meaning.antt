@@ -2,7 +2,7 @@
 use Rattle.std.specs.Prelude.{ℕ, Bool, true, ◌&&◌, nat_eq, Option, Some, None, List, map, option_and_then, position, ◌+◌, ◌-◌, false, not, ◌||◌, nat_le, nat_lt, if◌then◌else◌, [], ◌∷◌, ◌++◌, length, option_map, take, slice_index, ◌*◌, Result, Ok, Err, ◌≡◌, ◌%◌, codes, ◌≤◌, slice_set, ◌⊎◌, ◌<◌, All, AllPairs}
 use Rattle.std.specs.List.{list_any, list_all, concat}
 use Rattle.std.specs.Str.{bytes_eq}
-use Rattle.cov_base.specs.Meaning.{ImageView, is_digit_byte, name_at}
+use Rattle.cov_base.specs.Meaning.{ImageView, is_digit_byte, name_at, words}
 use Rattle.session_book.specs.Meaning.{JobView, SessionView, TaskView, first_regs, task_named}
 use Rattle.module_area.specs.Meaning.{DataView}
 use Rattle.hex.specs.Hex.{decode_of, decode_sized}
@@ -200,16 +200,7 @@ has_cr l = l.ended && nat_le 1 (length l.bytes) && nat_eq (slice_index l.bytes (
 abbrev pub listing_text : LineView → List ℕ
 listing_text l = if has_cr l then take (length l.bytes - 1) l.bytes else l.bytes
 
--- How a card is parted into words, and how numbers, bytes and addresses are spelled.
-
-abbrev pub put_first : ℕ → List (List ℕ) → List (List ℕ)
-put_first b [] = (b ∷ []) ∷ []
-put_first b (w ∷ ws) = (b ∷ w) ∷ ws
-
--- the parts of a card between its blanks
-abbrev pub words : List ℕ → List (List ℕ)
-words [] = [] ∷ []
-words (b ∷ bs) = if nat_eq b 32 then [] ∷ words bs else put_first b (words bs)
+-- How numbers, bytes and addresses are spelled.
 
 -- the number that the digits make behind those that made n
 abbrev pub decimal_value : ℕ → List ℕ → ℕ

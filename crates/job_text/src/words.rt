@@ -3,6 +3,7 @@ ghost use Rattle.std.specs.Prelude.{◌≡◌, ◌+◌, ◌*◌, ◌<◌, map, I
 ghost use Rattle.std.specs.Str.{bytes_eq};
 ghost use Rattle.std.specs.List.{list_all};
 ghost use Rattle.cov_base.specs.Meaning.{is_digit_byte};
+ghost use Rattle.cov_base.specs.Meaning as text;
 ghost use Rattle.job_text.specs.Meaning as spell;
 
 use cov_base::{Addr, Name};
@@ -17,7 +18,7 @@ pub(crate) fn first_blank(rest: &[u8]) -> Option<usize>
 
 /// The parts of the card between its blanks.
 pub(crate) fn split(alloc: Global, line: &[u8]) -> Result<Vec<&[u8]>, AllocError>
-    ensures { IfOk result (λ v. map (λ w. w.now) v.items ≡ spell.words line.now) }
+    ensures { IfOk result (λ v. map (λ w. w.now) v.items ≡ text.words line.now) }
 {
     let mut words = Vec::new(alloc);
     let mut rest = line;

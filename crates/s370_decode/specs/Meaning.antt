@@ -1,6 +1,6 @@
 -- What the claim of the program says by this crate's clauses.
-use Rattle.std.specs.Prelude.{ℕ, ◌+◌, ◌*◌, ◌/◌, ◌%◌, ◌==◌, if◌then◌else◌, slice_index, Bool, List, [], ◌∷◌, codes}
-use Rattle.cov_base.specs.Meaning.{CpuView, address}
+use Rattle.std.specs.Prelude.{ℕ, ◌+◌, ◌*◌, ◌/◌, ◌%◌, ◌==◌, if◌then◌else◌, slice_index, Bool, List, [], ◌∷◌, ◌++◌, codes}
+use Rattle.cov_base.specs.Meaning.{CpuView, address, words}
 use Rattle.s370_decode.specs.declared.code.Code.{Code}
 use Rattle.std.specs.List.{list_any}
 use Rattle.std.specs.Str.{bytes_eq}
@@ -65,30 +65,11 @@ ex s c = address s (b2 c) (r2 c) (d2 c)
 
 unfoldable pub mnemonics : List (List ℕ)
 mnemonics =
-    codes "A" ∷ codes "B" ∷ codes "C" ∷ codes "D" ∷ codes "L" ∷ codes "M" ∷
-    codes "N" ∷ codes "O" ∷ codes "S" ∷ codes "X" ∷
-    codes "AH" ∷ codes "AL" ∷ codes "AP" ∷ codes "AR" ∷ codes "BC" ∷ codes "BE" ∷
-    codes "BH" ∷ codes "BL" ∷ codes "BM" ∷ codes "BO" ∷ codes "BP" ∷ codes "BR" ∷
-    codes "BZ" ∷ codes "CH" ∷ codes "CL" ∷ codes "CP" ∷ codes "CR" ∷ codes "CS" ∷
-    codes "DP" ∷ codes "DR" ∷ codes "ED" ∷ codes "EX" ∷ codes "IC" ∷ codes "LA" ∷
-    codes "LH" ∷ codes "LM" ∷ codes "LR" ∷ codes "MH" ∷ codes "MP" ∷ codes "MR" ∷
-    codes "NC" ∷ codes "NI" ∷ codes "NR" ∷ codes "OC" ∷ codes "OI" ∷ codes "OR" ∷
-    codes "SH" ∷ codes "SL" ∷ codes "SP" ∷ codes "SR" ∷ codes "ST" ∷ codes "TM" ∷
-    codes "TR" ∷ codes "TS" ∷ codes "XC" ∷ codes "XI" ∷ codes "XR" ∷
-    codes "ALR" ∷ codes "BAL" ∷ codes "BAS" ∷ codes "BCR" ∷ codes "BCT" ∷ codes "BER" ∷
-    codes "BHR" ∷ codes "BLR" ∷ codes "BMR" ∷ codes "BNE" ∷ codes "BNH" ∷ codes "BNL" ∷
-    codes "BNM" ∷ codes "BNO" ∷ codes "BNP" ∷ codes "BNZ" ∷ codes "BOR" ∷ codes "BPR" ∷
-    codes "BXH" ∷ codes "BZR" ∷ codes "CDS" ∷ codes "CLC" ∷ codes "CLI" ∷ codes "CLM" ∷
-    codes "CLR" ∷ codes "CVB" ∷ codes "CVD" ∷ codes "ICM" ∷ codes "LCR" ∷ codes "LNR" ∷
-    codes "LPR" ∷ codes "LTR" ∷ codes "MVC" ∷ codes "MVI" ∷ codes "MVN" ∷ codes "MVO" ∷
-    codes "MVZ" ∷ codes "NOP" ∷ codes "SLA" ∷ codes "SLL" ∷ codes "SLR" ∷ codes "SPM" ∷
-    codes "SRA" ∷ codes "SRL" ∷ codes "SRP" ∷ codes "STC" ∷ codes "STH" ∷ codes "STM" ∷
-    codes "SVC" ∷ codes "TRT" ∷ codes "ZAP" ∷
-    codes "BALR" ∷ codes "BASR" ∷ codes "BCTR" ∷ codes "BNER" ∷ codes "BNHR" ∷ codes "BNLR" ∷
-    codes "BNMR" ∷ codes "BNOR" ∷ codes "BNPR" ∷ codes "BNZR" ∷ codes "BXLE" ∷ codes "CLCL" ∷
-    codes "EDMK" ∷ codes "MVCL" ∷ codes "NOPR" ∷ codes "PACK" ∷ codes "SLDA" ∷ codes "SLDL" ∷
-    codes "SRDA" ∷ codes "SRDL" ∷ codes "STCM" ∷ codes "UNPK" ∷
-    codes "MVCIN" ∷ []
+    words (codes "A B C D L M N O S X AH AL AP AR BC BE BH BL BM BO BP BR BZ CH CL CP CR CS DP DR ED EX IC LA LH LM LR MH"
+    ++ codes " MP MR NC NI NR OC OI OR SH SL SP SR ST TM TR TS XC XI XR ALR BAL BAS BCR BCT BER BHR BLR BMR BNE BNH BNL"
+    ++ codes " BNM BNO BNP BNZ BOR BPR BXH BZR CDS CLC CLI CLM CLR CVB CVD ICM LCR LNR LPR LTR MVC MVI MVN MVO MVZ NOP"
+    ++ codes " SLA SLL SLR SPM SRA SRL SRP STC STH STM SVC TRT ZAP BALR BASR BCTR BNER BNHR BNLR BNMR BNOR BNPR BNZR"
+    ++ codes " BXLE CLCL EDMK MVCL NOPR PACK SLDA SLDL SRDA SRDL STCM UNPK MVCIN")
 
 -- the word is one of them
 unfoldable pub is_mnemonic : List ℕ → Bool
