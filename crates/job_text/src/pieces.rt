@@ -48,28 +48,27 @@ impl Pieces {
     }
 
     /// Takes the lines that end in the piece, up to ENDJOB's, and keeps the bytes behind the last LF.
-    pub(crate) fn feed(self, alloc: Global, piece: &[u8]) -> Result<(Pieces, Fed), JobFault>
-        requires taken { (before : List ℕ) × HasTaken before self }
-        requires reading { is_done self.taken.reader.part ≡ false }
-        requires room { size_of self + length piece.now ≤ INPUT_LIMIT }
-        ensures taken { (old : List ℕ) → HasTaken old self → IfOk result (λ r. HasTaken (old ++ used_of piece.now r.1) r.0) }
-        ensures fed { (old : List ℕ) → HasTaken old self → IfOk result (λ r. Feeds self.taken.grammar old piece.now r.1) }
-        ensures grammar { IfOk result (λ r. r.0.taken.grammar ≡ self.taken.grammar) }
-        ensures used { IfOk result (λ r. used_count piece.now r.1 ≤ length piece.now) }
-        ensures ended { IfOk result (λ r. is_done r.0.taken.reader.part ≡ is_end r.1) }
-        ensures fault { (old : List ℕ) → HasTaken old self → IfErr result (IsTold self.taken.grammar (old ++ piece.now)) }
+    pub(crate) fn feed(&mut self, alloc: Global, piece: &[u8]) -> Result<Fed, JobFault>
+        requires taken { (before : List ℕ) × HasTaken before self.old }
+        requires reading { is_done self.old.taken.reader.part ≡ false }
+        requires room { size_of self.old + length piece.now ≤ INPUT_LIMIT }
+        ensures taken { (old : List ℕ) → HasTaken old self.old → IfOk result (λ f. HasTaken (old ++ used_of piece.now f) self.new) }
+        ensures fed { (old : List ℕ) → HasTaken old self.old → IfOk result (Feeds self.old.taken.grammar old piece.now) }
+        ensures grammar { IfOk result (λ _. self.new.taken.grammar ≡ self.old.taken.grammar) }
+        ensures used { IfOk result (λ f. used_count piece.now f ≤ length piece.now) }
+        ensures ended { IfOk result (λ f. is_done self.new.taken.reader.part ≡ is_end f) }
+        ensures fault { (old : List ℕ) → HasTaken old self.old → IfErr result (IsTold self.old.taken.grammar (old ++ piece.now)) }
     {
-        let mut pieces = self;
         let mut used = 0;
         while let Some(size) = first_end(&piece[used..]) {
-            pieces.ended_line(alloc, &piece[used..used + size])?;
+            self.ended_line(alloc, &piece[used..used + size])?;
             used += size + 1;
-            if pieces.taken.reader.is_done() {
-                return Ok((pieces, Fed::Ended { used }));
+            if self.taken.reader.is_done() {
+                return Ok(Fed::Ended { used });
             }
         }
-        pieces.cut.extend_from_slice(&piece[used..])?;
-        Ok((pieces, Fed::More))
+        self.cut.extend_from_slice(&piece[used..])?;
+        Ok(Fed::More)
     }
 
     /// The job of all that was taken; what was kept is the last line.

@@ -14,7 +14,6 @@ use crate::taken::Taken;
 use cov_base::NoMemory;
 use std::alloc::Global;
 use std::marker::Model;
-use std::mem;
 
 /// How far a reader has come.
 #[derive(Drop)]
@@ -78,22 +77,12 @@ impl JobReader {
         ensures ended { IfOk result (λ f. has_ended self.new ≡ is_end f) }
         ensures size { fed_size self.new ≤ fed_size self.old + length piece.now }
     {
-        let empty = Stage::Failed {
-            grammar: Grammar::Plain,
-            fault: JobFault::NoMemory,
-        };
-        match mem::replace(&mut self.stage, empty) {
-            Stage::Failed { grammar, fault } => {
-                self.stage = Stage::Failed { grammar, fault };
-                Err(fault)
-            }
+        match &mut self.stage {
+            Stage::Failed { grammar: _, fault } => Err(*fault),
             Stage::Reading(pieces) => {
                 let grammar = pieces.taken.grammar;
                 match pieces.feed(alloc, piece) {
-                    Ok((pieces, fed)) => {
-                        self.stage = Stage::Reading(pieces);
-                        Ok(fed)
-                    }
+                    Ok(fed) => Ok(fed),
                     Err(fault) => {
                         self.stage = Stage::Failed { grammar, fault };
                         Err(fault)

@@ -14,14 +14,14 @@ use Rattle.job_text.proofs.pieces.Pieces.feed.Goals as goal
 pub ended_line-requires-clause-few : goal.ended_line-requires-clause-few
 ended_line-requires-clause-few c =
     let t = c.loop-size.invariant.taken c.requires.taken.0 c.requires.taken.1 in
-    let few = taken_few _ c.loop-size.pieces t in
-    let on = taken_on c.requires.taken.0 (take c.loop-size.used c.args.piece.now) c.args.self c.loop-size.pieces c.requires.taken.1 t in
+    let few = taken_few _ c.loop-size.self t in
+    let on = taken_on c.requires.taken.0 (take c.loop-size.used c.args.piece.now) c.args.self.now c.loop-size.self c.requires.taken.1 t in
     omega (arith, few, on, length-take c.loop-size.used c.args.piece.now, c.requires.room)
 
 pub ended_line-requires-clause-room : goal.ended_line-requires-clause-room
 ended_line-requires-clause-room c =
     let t = c.loop-size.invariant.taken c.requires.taken.0 c.requires.taken.1 in
-    let on = taken_on c.requires.taken.0 (take c.loop-size.used c.args.piece.now) c.args.self c.loop-size.pieces c.requires.taken.1 t in
+    let on = taken_on c.requires.taken.0 (take c.loop-size.used c.args.piece.now) c.args.self.now c.loop-size.self c.requires.taken.1 t in
     omega (
       arith,
       on,
@@ -45,7 +45,7 @@ pub returns-in_err-ended_line-clause-fault : goal.returns-in_err-ended_line-clau
 returns-in_err-ended_line-clause-fault c = λ before h.
     let p = err_from_is_err_and c.from_residual.result c.from_residual.ensures.1 in
     let n = lf_next c.args.piece.now c.loop-size.used c.in-Some.size c.loop-size.invariant.inside (sym c.in-Some.ensures) in
-    rw (p.1, p.2, ← c.loop-size.invariant.grammar) (told_at before c.args.piece.now c.loop-size.used c.in-Some.size c.loop-size.pieces _ n (c.loop-size.invariant.taken before h) c.loop-size.invariant.reading c.in_err-ended_line.ensures.fault)
+    rw (p.1, p.2, ← c.loop-size.invariant.grammar) (told_at before c.args.piece.now c.loop-size.used c.in-Some.size c.loop-size.self _ n (c.loop-size.invariant.taken before h) c.loop-size.invariant.reading c.in_err-ended_line.ensures.fault)
 
 pub overflow_add-used-in-Some-2 : goal.overflow_add-used-in-Some-2
 overflow_add-used-in-Some-2 c =
@@ -63,12 +63,12 @@ taken_at before piece used size p q n t next none =
 pub returns-then-is_done-clause-taken : goal.returns-then-is_done-clause-taken
 returns-then-is_done-clause-taken c = λ before h.
     let n = lf_next c.args.piece.now c.loop-size.used c.in-Some.size c.loop-size.invariant.inside (sym c.in-Some.ensures) in
-    taken_at before c.args.piece.now c.loop-size.used c.in-Some.size c.loop-size.pieces c.ended_line.new.self n (c.loop-size.invariant.taken before h) c.in_ok-ended_line.ensures.next c.in_ok-ended_line.ensures.none
+    taken_at before c.args.piece.now c.loop-size.used c.in-Some.size c.loop-size.self c.ended_line.new.self n (c.loop-size.invariant.taken before h) c.in_ok-ended_line.ensures.next c.in_ok-ended_line.ensures.none
 
 pub returns-then-is_done-clause-fed : goal.returns-then-is_done-clause-fed
 returns-then-is_done-clause-fed c = λ before h.
     let n = lf_next c.args.piece.now c.loop-size.used c.in-Some.size c.loop-size.invariant.inside (sym c.in-Some.ensures) in
-    let t = taken_at before c.args.piece.now c.loop-size.used c.in-Some.size c.loop-size.pieces c.ended_line.new.self n (c.loop-size.invariant.taken before h) c.in_ok-ended_line.ensures.next c.in_ok-ended_line.ensures.none in
+    let t = taken_at before c.args.piece.now c.loop-size.used c.in-Some.size c.loop-size.self c.ended_line.new.self n (c.loop-size.invariant.taken before h) c.in_ok-ended_line.ensures.next c.in_ok-ended_line.ensures.none in
     let grammar = c.in_ok-ended_line.ensures.next.grammar ∙ c.loop-size.invariant.grammar in
     rw (← grammar) (is_ended before c.args.piece.now (c.loop-size.used + (c.in-Some.size + 1)) c.ended_line.new.self (omega arith) (omega (arith, n.inside)) t (sym c.is_done.ensures ∙ c.if-is_done.true))
 
@@ -82,7 +82,7 @@ loop-size-preserved c =
     let n = lf_next c.args.piece.now c.loop-size.used c.in-Some.size c.loop-size.invariant.inside (sym c.in-Some.ensures) in
     record {
       inside = omega (arith, n.inside);
-      taken = λ before h. taken_at before c.args.piece.now c.loop-size.used c.in-Some.size c.loop-size.pieces c.ended_line.new.self n (c.loop-size.invariant.taken before h) c.in_ok-ended_line.ensures.next c.in_ok-ended_line.ensures.none;
+      taken = λ before h. taken_at before c.args.piece.now c.loop-size.used c.in-Some.size c.loop-size.self c.ended_line.new.self n (c.loop-size.invariant.taken before h) c.in_ok-ended_line.ensures.next c.in_ok-ended_line.ensures.none;
       grammar = c.in_ok-ended_line.ensures.next.grammar ∙ c.loop-size.invariant.grammar;
       reading = sym c.is_done.ensures ∙ c.if-is_done.false;
     }
@@ -96,10 +96,10 @@ rest_at before piece used p q none t reading same cut =
     subst (λ (x : List ℕ). HasTaken x q) (used_all before piece used) (rest_taken (before ++ take used piece) (take (length piece - used) (drop used piece)) p q (lf_none piece used none) t same cut still)
 
 pub returns-clause-taken : goal.returns-clause-taken
-returns-clause-taken c = λ before h. rest_at before c.args.piece.now c.loop-size.used c.loop-size.pieces (record { taken = c.loop-size.pieces.taken; cut = c.extend_from_slice.new.self }) (sym c.in_default.ensures) (c.loop-size.invariant.taken before h) c.loop-size.invariant.reading refl c.in_ok-extend_from_slice.ensures.items
+returns-clause-taken c = λ before h. rest_at before c.args.piece.now c.loop-size.used c.loop-size.self (record { taken = c.loop-size.self.taken; cut = c.extend_from_slice.new.self }) (sym c.in_default.ensures) (c.loop-size.invariant.taken before h) c.loop-size.invariant.reading refl c.in_ok-extend_from_slice.ensures.items
 
 pub returns-clause-fed : goal.returns-clause-fed
 returns-clause-fed c = λ before h.
-    rw (← c.loop-size.invariant.grammar) (is_open (before ++ c.args.piece.now) (record { taken = c.loop-size.pieces.taken; cut = c.extend_from_slice.new.self })
-    (rest_at before c.args.piece.now c.loop-size.used c.loop-size.pieces (record { taken = c.loop-size.pieces.taken; cut = c.extend_from_slice.new.self }) (sym c.in_default.ensures) (c.loop-size.invariant.taken before h) c.loop-size.invariant.reading refl c.in_ok-extend_from_slice.ensures.items)
+    rw (← c.loop-size.invariant.grammar) (is_open (before ++ c.args.piece.now) (record { taken = c.loop-size.self.taken; cut = c.extend_from_slice.new.self })
+    (rest_at before c.args.piece.now c.loop-size.used c.loop-size.self (record { taken = c.loop-size.self.taken; cut = c.extend_from_slice.new.self }) (sym c.in_default.ensures) (c.loop-size.invariant.taken before h) c.loop-size.invariant.reading refl c.in_ok-extend_from_slice.ensures.items)
     c.loop-size.invariant.reading)

@@ -6,9 +6,9 @@ use Rattle.job_text.proofs.pieces.Pieces.feed.Given as goal
 abbrev pub invariant-loop-size : goal.invariant-loop-size
 invariant-loop-size l = record {
   inside : l.used ≤ length l.piece;
-  taken : (before : List ℕ) → HasTaken before l.fn.self → HasTaken (before ++ take l.used l.piece) l.pieces;
-  grammar : l.pieces.taken.grammar ≡ l.fn.self.taken.grammar;
-  reading : is_done l.pieces.taken.reader.part ≡ false;
+  taken : (before : List ℕ) → HasTaken before l.fn.self → HasTaken (before ++ take l.used l.piece) l.self;
+  grammar : l.self.taken.grammar ≡ l.fn.self.taken.grammar;
+  reading : is_done l.self.taken.reader.part ≡ false;
 }
 
 abbrev pub decreases-loop-size : goal.decreases-loop-size
