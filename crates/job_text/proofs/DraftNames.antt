@@ -23,6 +23,9 @@ module _ (d : Inside) (n : List ℕ) (h : HasNames d) where
   pub module_index : index_of d.names.modules n ≡ adding.image_index (draft_view d) n
   module_index = ap (λ (x : JobNames). index_of x.modules n) h ∙ index_of-map (λ (i : ImageView). i.name) d.images.items n
 
+  pub phase_found : has d.names.phases n ≡ list_any (λ p. bytes_eq p n) (draft_view d).phases
+  phase_found = ap (λ (x : JobNames). has x.phases n) h
+
   pub session_found : has d.names.sessions n ≡ list_any (λ s. bytes_eq s.name n) (draft_view d).sessions
   session_found = ap (λ (x : JobNames). has x.sessions n) h ∙ has-map (λ (s : SessionDraft). s.name) d.sessions.items n
 

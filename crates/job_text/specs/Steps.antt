@@ -22,6 +22,10 @@ pub record State : Type 0 where
 abbrev pub state : Part → DraftView → Option Limit → State
 state p j over = record { part = p; job = j; over = over }
 
+-- where SESSION cards may come
+abbrev pub at_sessions : DraftView → State
+at_sessions j = state part.Sessions j None
+
 abbrev pub plain : State → State
 plain st = state st.part st.job None
 

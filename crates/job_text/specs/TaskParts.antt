@@ -54,8 +54,8 @@ task_more p (Data c) = after_data p c
 task_more p (Input bytes) = Some (after_input p bytes)
 task_more p card = None
 
--- how a card behind TASK is refused: none passes a limit
-abbrev pub IsOut : Option TaskPart → LineRefused → Type 0
+-- how a card is refused that passes no limit
+abbrev pub IsOut : {A : Type 0} → Option A → LineRefused → Type 0
 IsOut o refused.Bad = o ≡ None
 IsOut o (refused.TooLarge what) = ⊥
 IsOut o refused.NoMemory = Unit {0}

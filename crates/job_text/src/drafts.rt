@@ -1,20 +1,23 @@
 //! Adds to a job what its cards say.
-ghost use Rattle.std.specs.Prelude.{◌≡◌, ◌+◌, ◌≤◌, ◌<◌, ◌&&◌, [], Option, Some, None, IfOk, IfSome, false, nat_eq, nat_lt, length, option_map};
+ghost use Rattle.std.specs.Prelude.{◌≡◌, ◌+◌, ◌≤◌, ◌<◌, ◌&&◌, ◌++◌, ◌∷◌, [], Option, Some, None, IfOk, IfErr, IfSome, false, nat_eq, nat_lt, length, option_map};
 ghost use Rattle.std.specs.List.{list_any, list_all};
 ghost use Rattle.std.specs.Str.{bytes_eq};
 ghost use Rattle.cov_base.specs.declared.limits.TheConstants.{MODULE_LIMIT, PHASE_LIMIT};
+ghost use Rattle.session_book.specs.Names as naming;
 ghost use Rattle.job_text.specs.Meaning.{Present};
 ghost use Rattle.job_text.specs.Meaning as adding;
 ghost use Rattle.job_text.specs.Steps as machine;
+ghost use Rattle.job_text.specs.TaskParts as parts;
 ghost use Rattle.job_text.specs.declared.parts.Part.TheVariants as kind;
 
 use crate::binding::are_met;
 use crate::grammar::Grammar;
 use crate::parts::{Draft, Part, SessionDraft};
+use crate::refused::LineRefused;
 use cov_base::{Name, NoMemory};
 use listing_lines::ListingLines;
 use module_area::Image;
-use session_book::{Service, TaskCard};
+use session_book::{JobNames, Service, TaskCard};
 use std::alloc::Global;
 
 fn has_module(job: &Draft, name: &Name) -> bool
@@ -151,63 +154,71 @@ fn indices(
     Ok(Some(used))
 }
 
-fn put_module(job: Draft, image: Image, listing: Option<ListingLines>) -> Result<Draft, NoMemory>
-    requires { adding.has_module job image.name ≡ false }
-    ensures { IfOk result (λ d. d ≡ adding.with_module job image listing) }
+fn add_module(names: &mut JobNames, name: Name) -> Result<(), NoMemory>
+    ensures names { IfOk result (λ _. names.new ≡ naming.with_module names.old name) }
+    ensures kept { IfErr result (λ _. names.new ≡ names.old) }
 {
-    let Draft {
-        grammar,
-        mut images,
-        mut listings,
-        services,
-        phases,
-        sessions,
-        tasks,
-        names,
-    } = job;
-    let names = names.with_module(image.name)?;
-    images.push(image)?;
-    listings.push(listing)?;
-    Ok(Draft {
-        grammar,
-        images,
-        listings,
-        services,
-        phases,
-        sessions,
-        tasks,
-        names,
-    })
+    names.modules.add(name)?;
+    Ok(())
 }
 
-fn put_task(job: Draft, task: TaskCard) -> Result<Draft, NoMemory>
-    requires phases { length job.phases ≤ PHASE_LIMIT }
-    requires new { adding.has_task job task.name ≡ false }
-    ensures { IfOk result (λ d. d ≡ adding.with_task job task) }
+fn add_phase(names: &mut JobNames, name: Name) -> Result<(), NoMemory>
+    ensures names { IfOk result (λ _. names.new ≡ naming.with_phase names.old name) }
+    ensures kept { IfErr result (λ _. names.new ≡ names.old) }
 {
-    let phase = this_phase(&job);
-    let Draft {
-        grammar,
-        images,
-        listings,
-        services,
-        phases,
-        sessions,
-        mut tasks,
-        names,
-    } = job;
-    let names = names.with_task(task.name)?;
-    tasks.push(TaskCard { phase, ..task })?;
-    Ok(Draft {
-        grammar,
-        images,
-        listings,
-        services,
-        phases,
-        sessions,
-        tasks,
-        names,
-    })
+    names.phases.add(name)?;
+    Ok(())
+}
+
+fn add_session(names: &mut JobNames, name: Name) -> Result<(), NoMemory>
+    ensures names { IfOk result (λ _. names.new ≡ naming.with_session names.old name) }
+    ensures kept { IfErr result (λ _. names.new ≡ names.old) }
+{
+    names.sessions.add(name)?;
+    Ok(())
+}
+
+fn add_task(names: &mut JobNames, name: Name) -> Result<(), NoMemory>
+    ensures names { IfOk result (λ _. names.new ≡ naming.with_task names.old name) }
+    ensures kept { IfErr result (λ _. names.new ≡ names.old) }
+{
+    names.tasks.add(name)?;
+    Ok(())
+}
+
+fn put_module(job: &mut Draft, image: Image, listing: Option<ListingLines>) -> Result<(), NoMemory>
+    requires new { adding.has_module job.old image.name ≡ false }
+    requires room { length job.old.images + 1 ≤ MODULE_LIMIT }
+    requires phases { length job.old.phases ≤ PHASE_LIMIT }
+    ensures value { IfOk result (λ _. job.new ≡ adding.with_module job.old image listing) }
+    ensures room { machine.HasRoom kind.Modules job.new }
+{
+    let name = image.name;
+    let count = job.images.len();
+    job.listings.push(listing)?;
+    job.images.push(image)?;
+    if let Err(shortage) = add_module(&mut job.names, name) {
+        job.images.truncate(count);
+        return Err(shortage);
+    }
+    Ok(())
+}
+
+fn put_task(job: &mut Draft, task: TaskCard) -> Result<(), NoMemory>
+    requires new { adding.has_task job.old task.name ≡ false }
+    requires room { machine.HasRoom kind.Modules job.old }
+    ensures value { IfOk result (λ _. job.new ≡ adding.with_task job.old task) }
+    ensures room { machine.HasRoom kind.Modules job.new }
+{
+    let phase = this_phase(job);
+    let name = task.name;
+    let count = job.tasks.len();
+    job.tasks.push(TaskCard { phase, ..task })?;
+    if let Err(shortage) = add_task(&mut job.names, name) {
+        job.tasks.truncate(count);
+        return Err(shortage);
+    }
+    Ok(())
 }
 
 fn are_below(services: &[Service], number: u8) -> bool
@@ -225,65 +236,40 @@ fn has_services(grammar: Grammar) -> bool
     }
 }
 
-/// The job with a service more; none where it can't have one, or the number isn't above those of the others.
-pub(crate) fn with_service(job: Draft, service: Service) -> Result<Option<Draft>, NoMemory>
-    ensures { IfOk result (λ o. o ≡ adding.with_service job service) }
+/// Adds a service; bad where the job can't have one, or the number isn't above those of the others.
+pub(crate) fn with_service(job: &mut Draft, service: Service) -> Result<(), LineRefused>
+    requires room { machine.HasRoom kind.Modules job.old }
+    ensures ok { IfOk result (λ _. adding.with_service job.old service ≡ Some job.new) }
+    ensures err { IfErr result (parts.IsOut (adding.with_service job.old service)) }
+    ensures room { machine.HasRoom kind.Modules job.new }
 {
     if !has_services(job.grammar) || !are_below(&job.services, service.number) {
-        return Ok(None);
+        return Err(LineRefused::Bad);
     }
-    let Draft {
-        grammar,
-        images,
-        listings,
-        mut services,
-        phases,
-        sessions,
-        tasks,
-        names,
-    } = job;
-    services.push(service)?;
-    Ok(Some(Draft {
-        grammar,
-        images,
-        listings,
-        services,
-        phases,
-        sessions,
-        tasks,
-        names,
-    }))
+    job.services.push(service)?;
+    Ok(())
 }
 
-/// The job with a phase more; none where a phase has the name.
-pub(crate) fn with_phase(job: Draft, name: Name) -> Result<Option<Draft>, NoMemory>
-    ensures { IfOk result (λ o. o ≡ adding.with_phase job name) }
+pub(crate) fn has_phase(job: &Draft, name: &Name) -> bool
+    ensures { result ≡ list_any (λ n. bytes_eq n name.now) job.now.phases }
 {
-    let Draft {
-        grammar,
-        images,
-        listings,
-        services,
-        mut phases,
-        sessions,
-        tasks,
-        names,
-    } = job;
-    if names.phases.has(&name) {
-        return Ok(None);
+    job.names.phases.has(name)
+}
+
+pub(crate) fn put_phase(job: &mut Draft, name: Name) -> Result<(), NoMemory>
+    requires new { list_any (λ n. bytes_eq n name) job.old.phases ≡ false }
+    requires modules { length job.old.images ≤ MODULE_LIMIT }
+    requires phases { length job.old.phases + 1 ≤ PHASE_LIMIT }
+    ensures value { IfOk result (λ _. job.new ≡ record job.old { phases = job.old.phases ++ name ∷ [] }) }
+    ensures room { machine.HasRoom kind.Modules job.new }
+{
+    let count = job.phases.len();
+    job.phases.push(name)?;
+    if let Err(shortage) = add_phase(&mut job.names, name) {
+        job.phases.truncate(count);
+        return Err(shortage);
     }
-    let names = names.with_phase(name)?;
-    phases.push(name)?;
-    Ok(Some(Draft {
-        grammar,
-        images,
-        listings,
-        services,
-        phases,
-        sessions,
-        tasks,
-        names,
-    }))
+    Ok(())
 }
 
 /// Whether a session may have this controller.
@@ -296,130 +282,130 @@ fn may_have(job: &Draft, by: &Option<Name>) -> bool
     }
 }
 
-fn put_session(job: Draft, session: SessionDraft) -> Result<Draft, NoMemory>
-    requires { list_any (λ s. bytes_eq s.name session.name) job.sessions ≡ false }
-    ensures { IfOk result (λ d. d ≡ adding.with_draft job session) }
+fn put_session(job: &mut Draft, session: SessionDraft) -> Result<(), NoMemory>
+    requires new { list_any (λ s. bytes_eq s.name session.name) job.old.sessions ≡ false }
+    requires room { machine.HasRoom kind.Modules job.old }
+    ensures value { IfOk result (λ _. job.new ≡ adding.with_draft job.old session) }
+    ensures room { machine.HasRoom kind.Modules job.new }
 {
-    let Draft {
-        grammar,
-        images,
-        listings,
-        services,
-        phases,
-        mut sessions,
-        tasks,
-        names,
-    } = job;
-    let names = names.with_session(session.name)?;
-    sessions.push(session)?;
-    Ok(Draft {
-        grammar,
-        images,
-        listings,
-        services,
-        phases,
-        sessions,
-        tasks,
-        names,
-    })
+    let name = session.name;
+    let count = job.sessions.len();
+    job.sessions.push(session)?;
+    if let Err(shortage) = add_session(&mut job.names, name) {
+        job.sessions.truncate(count);
+        return Err(shortage);
+    }
+    Ok(())
 }
 
-/// The job with a session more; none where a session has the name, it may not have the controller, or a module
-/// isn't free.
+/// Adds a session; bad where a session has the name, it may not have the controller, or a module isn't free.
 pub(crate) fn with_session(
     alloc: Global,
-    job: Draft,
+    job: &mut Draft,
     name: Name,
     by: Option<Name>,
     names: &[Name],
-) -> Result<Option<Draft>, NoMemory>
-    requires modules { length job.images ≤ MODULE_LIMIT }
-    requires phases { length job.phases ≤ PHASE_LIMIT }
-    ensures { IfOk result (λ o. o ≡ adding.with_new_session job name by names.now) }
+) -> Result<(), LineRefused>
+    requires room { machine.HasRoom kind.Modules job.old }
+    ensures ok { IfOk result (λ _. adding.with_new_session job.old name by names.now ≡ Some job.new) }
+    ensures err { IfErr result (parts.IsOut (adding.with_new_session job.old name by names.now)) }
+    ensures room { machine.HasRoom kind.Modules job.new }
 {
-    if has_session(&job, &name) || !may_have(&job, &by) {
-        return Ok(None);
+    if has_session(job, &name) || !may_have(job, &by) {
+        return Err(LineRefused::Bad);
     }
-    match indices(alloc, &job, &by, names)? {
-        None => Ok(None),
+    match indices(alloc, job, &by, names)? {
+        None => Err(LineRefused::Bad),
         Some(modules) => {
-            let phase = this_phase(&job);
+            let phase = this_phase(job);
             let session = SessionDraft {
                 name,
                 phase,
                 modules,
                 by,
             };
-            Ok(Some(put_session(job, session)?))
+            Ok(put_session(job, session)?)
         }
     }
 }
 
-/// The job with the module that was open; none where no module may come.
-pub(crate) fn closed_module(part: Part, job: Draft) -> Result<Option<Draft>, NoMemory>
-    requires { machine.HasRoom part job }
-    ensures value { IfOk result (λ o. o ≡ machine.closed_module part job) }
-    ensures room { IfOk result (λ o. IfSome o (machine.HasRoom kind.Modules)) }
+/// Adds the module that was open; bad where no module may come.
+pub(crate) fn closed_module(part: Part, job: &mut Draft) -> Result<(), LineRefused>
+    requires { machine.HasRoom part job.old }
+    ensures ok { IfOk result (λ _. machine.closed_module part job.old ≡ Some job.new) }
+    ensures err { IfErr result (parts.IsOut (machine.closed_module part job.old)) }
+    ensures room { machine.HasRoom kind.Modules job.new }
 {
     match part {
-        Part::Modules => Ok(Some(job)),
+        Part::Modules => Ok(()),
         Part::Texts { image, left } => {
             if left != 0 {
-                return Ok(None);
+                return Err(LineRefused::Bad);
             }
-            Ok(Some(put_module(job, image, None)?))
+            Ok(put_module(job, image, None)?)
         }
         Part::Listed { image, left, lines } => {
             if left != 0 {
-                return Ok(None);
+                return Err(LineRefused::Bad);
             }
-            Ok(Some(put_module(job, image, Some(lines))?))
+            Ok(put_module(job, image, Some(lines))?)
         }
-        _ => Ok(None),
+        _ => Err(LineRefused::Bad),
     }
 }
 
-/// The job with the module that was open; none where no service may come.
-pub(crate) fn closed_service(part: Part, job: Draft) -> Result<Option<Draft>, NoMemory>
-    requires { machine.HasRoom part job }
-    ensures value { IfOk result (λ o. o ≡ machine.closed_service part job) }
-    ensures room { IfOk result (λ o. IfSome o (machine.HasRoom kind.Modules)) }
+/// Adds the module that was open; bad where no service may come.
+pub(crate) fn closed_service(part: Part, job: &mut Draft) -> Result<(), LineRefused>
+    requires { machine.HasRoom part job.old }
+    ensures ok { IfOk result (λ _. machine.closed_service part job.old ≡ Some job.new) }
+    ensures err { IfErr result (parts.IsOut (machine.closed_service part job.old)) }
+    ensures room { machine.HasRoom kind.Modules job.new }
 {
     match part {
-        Part::Services => Ok(Some(job)),
+        Part::Services => Ok(()),
         _ => closed_module(part, job),
     }
 }
 
-/// The job with the task that was open; none where no task may come.
-pub(crate) fn closed_task(part: Part, job: Draft) -> Result<Option<Draft>, NoMemory>
-    requires { machine.HasRoom part job }
-    ensures value { IfOk result (λ o. o ≡ machine.closed_task part job) }
-    ensures room { IfOk result (λ o. IfSome o (machine.HasRoom kind.Modules)) }
+/// Adds the task that was open; bad where no task may come.
+pub(crate) fn closed_task(part: Part, job: &mut Draft) -> Result<(), LineRefused>
+    requires { machine.HasRoom part job.old }
+    ensures ok { IfOk result (λ _. machine.closed_task part job.old ≡ Some job.new) }
+    ensures err { IfErr result (parts.IsOut (machine.closed_task part job.old)) }
+    ensures room { machine.HasRoom kind.Modules job.new }
 {
     match part {
-        Part::Sessions => Ok(Some(job)),
-        Part::Task(task) => Ok(Some(put_task(job, task.task)?)),
-        _ => Ok(None),
+        Part::Sessions => Ok(()),
+        Part::Task(task) => Ok(put_task(job, task.task)?),
+        _ => Err(LineRefused::Bad),
     }
 }
 
-/// The job; none where a controller is missing.
-fn met_of(job: Draft) -> Option<Draft>
-    ensures { result ≡ machine.met_of Present job }
+/// Bad where a controller is missing.
+fn met(job: &Draft) -> Result<(), LineRefused>
+    ensures ok { IfOk result (λ _. machine.met_of Present job.now ≡ Some job.now) }
+    ensures err { IfErr result (parts.IsOut (machine.met_of Present job.now)) }
 {
-    if are_met(&job) { Some(job) } else { None }
+    if are_met(job) {
+        Ok(())
+    } else {
+        Err(LineRefused::Bad)
+    }
 }
 
-/// The job with what was open; none where neither a phase nor ENDJOB may come.
-pub(crate) fn closed(part: Part, job: Draft) -> Result<Option<Draft>, NoMemory>
-    requires { machine.HasRoom part job }
-    ensures value { IfOk result (λ o. o ≡ machine.closed Present part job) }
-    ensures room { IfOk result (λ o. IfSome o (machine.HasRoom kind.Modules)) }
+/// Adds what was open; bad where neither a phase nor ENDJOB may come.
+pub(crate) fn closed(part: Part, job: &mut Draft) -> Result<(), LineRefused>
+    requires { machine.HasRoom part job.old }
+    ensures ok { IfOk result (λ _. machine.closed Present part job.old ≡ Some job.new) }
+    ensures err { IfErr result (parts.IsOut (machine.closed Present part job.old)) }
+    ensures room { machine.HasRoom kind.Modules job.new }
 {
     match part {
-        Part::Sessions => Ok(met_of(job)),
-        Part::Task(task) => Ok(met_of(put_task(job, task.task)?)),
+        Part::Sessions => met(job),
+        Part::Task(task) => {
+            put_task(job, task.task)?;
+            met(job)
+        }
         _ => closed_service(part, job),
     }
 }

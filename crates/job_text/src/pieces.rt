@@ -52,12 +52,12 @@ impl Pieces {
         requires taken { (before : List ℕ) × HasTaken before self.old }
         requires reading { is_done self.old.taken.reader.part ≡ false }
         requires room { size_of self.old + length piece.now ≤ INPUT_LIMIT }
-        ensures taken { (old : List ℕ) → HasTaken old self.old → IfOk result (λ f. HasTaken (old ++ used_of piece.now f) self.new) }
-        ensures fed { (old : List ℕ) → HasTaken old self.old → IfOk result (Feeds self.old.taken.grammar old piece.now) }
+        ensures taken { (b : List ℕ) → HasTaken b self.old → IfOk result (λ f. HasTaken (b ++ used_of piece.now f) self.new) }
+        ensures fed { (b : List ℕ) → HasTaken b self.old → IfOk result (Feeds self.old.taken.grammar b piece.now) }
         ensures grammar { IfOk result (λ _. self.new.taken.grammar ≡ self.old.taken.grammar) }
         ensures used { IfOk result (λ f. used_count piece.now f ≤ length piece.now) }
         ensures ended { IfOk result (λ f. is_done self.new.taken.reader.part ≡ is_end f) }
-        ensures fault { (old : List ℕ) → HasTaken old self.old → IfErr result (IsTold self.old.taken.grammar (old ++ piece.now)) }
+        ensures fault { (b : List ℕ) → HasTaken b self.old → IfErr result (IsTold self.old.taken.grammar (b ++ piece.now)) }
     {
         let mut used = 0;
         while let Some(size) = first_end(&piece[used..]) {

@@ -1,10 +1,11 @@
 //! Takes a job line by line.
-ghost use Rattle.std.specs.Prelude.{◌≡◌, ℕ, ◌<◌, ◌≤◌, true, Option, Some, None, IfOk, IfErr, length};
+ghost use Rattle.std.specs.Prelude.{◌≡◌, ℕ, ◌<◌, ◌≤◌, true, Option, Some, IfOk, IfErr, length};
 ghost use Rattle.cov_base.specs.declared.limits.TheConstants.{PHASE_LIMIT};
 ghost use Rattle.session_book.specs.JobView.{IsJob};
 ghost use Rattle.job_text.specs.Meaning as says;
 ghost use Rattle.job_text.specs.Meaning.{Present, as_line, bound};
 ghost use Rattle.job_text.specs.Steps as machine;
+ghost use Rattle.job_text.specs.Steps.{Gives};
 ghost use Rattle.job_text.specs.declared.parts.Part.TheVariants as kind;
 ghost use Rattle.job_text.specs.Views.{view};
 
@@ -12,8 +13,8 @@ use crate::binding::bound_job;
 use crate::card::Card;
 use crate::cards::read_card;
 use crate::drafts::{
-    closed, closed_module, closed_service, closed_task, fits, has_task, with_phase, with_service,
-    with_session,
+    closed, closed_module, closed_service, closed_task, fits, has_phase, has_task, put_phase,
+    with_service, with_session,
 };
 use crate::grammar::Grammar;
 use crate::limit::Limit;
@@ -70,165 +71,208 @@ impl LineReader {
         }
     }
 
-    fn cover_card(self) -> Result<LineReader, LineRefused>
-        ensures ok { IfOk result (machine.Gives (machine.take_cover self)) }
-        ensures err { IfErr result (machine.Refuses (machine.take_cover self)) }
+    fn cover_card(&mut self) -> Result<(), LineRefused>
+        ensures ok { IfOk result (λ _. Gives (machine.take_cover self.old) self.new) }
+        ensures err { IfErr result (machine.Refuses (machine.take_cover self.old)) }
     {
-        match self.part {
-            Part::Start => Ok(LineReader {
-                part: Part::Modules,
-                job: self.job,
-            }),
-            _ => Err(LineRefused::Bad),
-        }
-    }
-
-    fn module_card(
-        self,
-        alloc: Global,
-        name: Name,
-        base: Addr,
-        size: u32,
-    ) -> Result<LineReader, LineRefused>
-        ensures ok { IfOk result (machine.Gives (machine.take_module self name base size)) }
-        ensures err { IfErr result (machine.Refuses (machine.take_module self name base size)) }
-    {
-        match closed_module(self.part, self.job)? {
-            None => Err(LineRefused::Bad),
-            Some(job) => open_module(alloc, job, name, base, size),
-        }
-    }
-
-    fn text_card(self, more: &[u8]) -> Result<LineReader, LineRefused>
-        ensures ok { IfOk result (machine.Gives (machine.take_text self.part self.job more.now)) }
-        ensures err { IfErr result (machine.Refuses (machine.take_text self.part self.job more.now)) }
-    {
-        let LineReader { part, job } = self;
-        match part {
-            Part::Texts { mut image, left } => {
-                if more.len() > left as usize {
-                    return Err(LineRefused::Bad);
-                }
-                image.bytes.extend_from_slice(more)?;
-                let left = left - more.len() as u32;
-                Ok(LineReader {
-                    part: Part::Texts { image, left },
-                    job,
-                })
+        match &self.part {
+            Part::Start => {
+                put_part(&mut self.part, Part::Modules);
+                Ok(())
             }
             _ => Err(LineRefused::Bad),
         }
     }
 
-    fn listing_card(self, alloc: Global, n: u32) -> Result<LineReader, LineRefused>
-        ensures ok { IfOk result (machine.Gives (machine.take_listing self.part self.job n)) }
-        ensures err { IfErr result (machine.Refuses (machine.take_listing self.part self.job n)) }
+    fn open_module(
+        &mut self,
+        alloc: Global,
+        name: Name,
+        base: Addr,
+        size: u32,
+    ) -> Result<(), LineRefused>
+        ensures ok { IfOk result (λ _. Gives (machine.open_module name base size self.old.job) self.new) }
+        ensures err { IfErr result (machine.Refuses (machine.open_module name base size self.old.job)) }
     {
-        let LineReader { part, job } = self;
-        match part {
+        if !fits(&self.job, &name, base.get(), size) {
+            return Err(LineRefused::Bad);
+        }
+        if self.job.images.len() >= MODULE_LIMIT {
+            return Err(LineRefused::TooLarge(Limit::Modules));
+        }
+        if size > SIZE_LIMIT {
+            return Err(LineRefused::TooLarge(Limit::Size));
+        }
+        let image = Image {
+            name,
+            base,
+            bytes: Vec::new(alloc),
+        };
+        put_part(&mut self.part, Part::Texts { image, left: size });
+        Ok(())
+    }
+
+    fn module_card(
+        &mut self,
+        alloc: Global,
+        name: Name,
+        base: Addr,
+        size: u32,
+    ) -> Result<(), LineRefused>
+        ensures ok { IfOk result (λ _. Gives (machine.take_module self.old name base size) self.new) }
+        ensures err { IfErr result (machine.Refuses (machine.take_module self.old name base size)) }
+    {
+        let part = mem::replace(&mut self.part, Part::Modules);
+        closed_module(part, &mut self.job)?;
+        self.open_module(alloc, name, base, size)
+    }
+
+    fn text_card(&mut self, more: &[u8]) -> Result<(), LineRefused>
+        ensures ok { IfOk result (λ _. Gives (machine.take_text self.old.part self.old.job more.now) self.new) }
+        ensures err { IfErr result (machine.Refuses (machine.take_text self.old.part self.old.job more.now)) }
+    {
+        match &mut self.part {
+            Part::Texts { image, left } => {
+                if more.len() > *left as usize {
+                    return Err(LineRefused::Bad);
+                }
+                image.bytes.extend_from_slice(more)?;
+                *left -= more.len() as u32;
+                Ok(())
+            }
+            _ => Err(LineRefused::Bad),
+        }
+    }
+
+    fn listing_card(&mut self, alloc: Global, n: u32) -> Result<(), LineRefused>
+        ensures ok { IfOk result (λ _. Gives (machine.take_listing self.old.part self.old.job n) self.new) }
+        ensures err { IfErr result (machine.Refuses (machine.take_listing self.old.part self.old.job n)) }
+    {
+        match mem::replace(&mut self.part, Part::Modules) {
             Part::Texts { image, left } => {
                 if left != 0 {
                     return Err(LineRefused::Bad);
                 }
                 let lines = ListingLines::new(alloc);
-                Ok(LineReader {
-                    part: Part::Listed {
+                put_part(
+                    &mut self.part,
+                    Part::Listed {
                         image,
                         left: n,
                         lines,
                     },
-                    job,
-                })
+                );
+                Ok(())
             }
             _ => Err(LineRefused::Bad),
         }
     }
 
-    fn service_card(self, service: Service) -> Result<LineReader, LineRefused>
-        ensures ok { IfOk result (machine.Gives (machine.take_service self service)) }
-        ensures err { IfErr result (machine.Refuses (machine.take_service self service)) }
+    fn service_card(&mut self, service: Service) -> Result<(), LineRefused>
+        ensures ok { IfOk result (λ _. Gives (machine.take_service self.old service) self.new) }
+        ensures err { IfErr result (machine.Refuses (machine.take_service self.old service)) }
     {
-        match closed_service(self.part, self.job)? {
-            None => Err(LineRefused::Bad),
-            Some(job) => add_service(job, service),
-        }
+        let part = mem::replace(&mut self.part, Part::Services);
+        closed_service(part, &mut self.job)?;
+        with_service(&mut self.job, service)
     }
 
-    fn phase_card(self, name: Name) -> Result<LineReader, LineRefused>
-        ensures ok { IfOk result (machine.Gives (machine.take_card Present self (says.Phase name))) }
-        ensures err { IfErr result (machine.Refuses (machine.take_card Present self (says.Phase name))) }
+    fn phase_card(&mut self, name: Name) -> Result<(), LineRefused>
+        ensures ok { IfOk result (λ _. Gives (machine.take_card Present self.old (says.Phase name)) self.new) }
+        ensures err { IfErr result (machine.Refuses (machine.take_card Present self.old (says.Phase name))) }
     {
-        match closed(self.part, self.job)? {
-            None => Err(LineRefused::Bad),
-            Some(job) => open_phase(job, name),
-        }
+        let part = mem::replace(&mut self.part, Part::Sessions);
+        closed(part, &mut self.job)?;
+        open_phase(&mut self.job, name)
     }
 
     fn session_card(
-        self,
+        &mut self,
         alloc: Global,
         name: Name,
         by: Option<Name>,
         names: &[Name],
-    ) -> Result<LineReader, LineRefused>
-        ensures ok { IfOk result (machine.Gives (machine.take_card Present self (says.Session name by names.now))) }
-        ensures err { IfErr result (machine.Refuses (machine.take_card Present self (says.Session name by names.now))) }
+    ) -> Result<(), LineRefused>
+        ensures ok { IfOk result (λ _. Gives (machine.take_card Present self.old (says.Session name by names.now)) self.new) }
+        ensures err { IfErr result (machine.Refuses (machine.take_card Present self.old (says.Session name by names.now))) }
     {
-        match self.part {
-            Part::Sessions => add_session(alloc, self.job, name, by, names),
+        match &self.part {
+            Part::Sessions => add_session(alloc, &mut self.job, name, by, names),
             _ => Err(LineRefused::Bad),
         }
     }
 
-    fn task_card(
-        self,
+    fn open_task(
+        &mut self,
         alloc: Global,
         name: Name,
         entry: Addr,
         private: u32,
         budget: u32,
         room: u32,
-    ) -> Result<LineReader, LineRefused>
-        ensures ok { IfOk result (machine.Gives (machine.take_task self name entry private budget room)) }
-        ensures err { IfErr result (machine.Refuses (machine.take_task self name entry private budget room)) }
+    ) -> Result<(), LineRefused>
+        ensures ok { IfOk result (λ _. Gives (machine.open_task name entry private budget room self.old.job) self.new) }
+        ensures err { IfErr result (machine.Refuses (machine.open_task name entry private budget room self.old.job)) }
     {
-        match closed_task(self.part, self.job)? {
-            None => Err(LineRefused::Bad),
-            Some(job) => open_task(alloc, job, name, entry, private, budget, room),
+        if has_task(&self.job, &name) {
+            return Err(LineRefused::Bad);
         }
+        if self.job.tasks.len() >= TASK_LIMIT {
+            return Err(LineRefused::TooLarge(Limit::Tasks));
+        }
+        if private > PRIVATE_LIMIT {
+            return Err(LineRefused::TooLarge(Limit::Private));
+        }
+        if budget > BUDGET_LIMIT {
+            return Err(LineRefused::TooLarge(Limit::Budget));
+        }
+        if room > ROOM_LIMIT {
+            return Err(LineRefused::TooLarge(Limit::Room));
+        }
+        let task = fresh_task(alloc, name, entry, private, budget, room);
+        put_part(&mut self.part, Part::Task(task));
+        Ok(())
     }
 
-    fn end_card(self) -> Result<LineReader, LineRefused>
-        ensures ok { IfOk result (machine.Gives (machine.take_card Present self says.End)) }
-        ensures err { IfErr result (machine.Refuses (machine.take_card Present self says.End)) }
+    fn task_card(
+        &mut self,
+        alloc: Global,
+        name: Name,
+        entry: Addr,
+        private: u32,
+        budget: u32,
+        room: u32,
+    ) -> Result<(), LineRefused>
+        ensures ok { IfOk result (λ _. Gives (machine.take_task self.old name entry private budget room) self.new) }
+        ensures err { IfErr result (machine.Refuses (machine.take_task self.old name entry private budget room)) }
     {
-        match closed(self.part, self.job)? {
-            None => Err(LineRefused::Bad),
-            Some(job) => Ok(LineReader {
-                part: Part::Done,
-                job,
-            }),
-        }
+        let part = mem::replace(&mut self.part, Part::Sessions);
+        closed_task(part, &mut self.job)?;
+        self.open_task(alloc, name, entry, private, budget, room)
+    }
+
+    fn end_card(&mut self) -> Result<(), LineRefused>
+        ensures ok { IfOk result (λ _. Gives (machine.take_card Present self.old says.End) self.new) }
+        ensures err { IfErr result (machine.Refuses (machine.take_card Present self.old says.End)) }
+    {
+        let part = mem::replace(&mut self.part, Part::Done);
+        closed(part, &mut self.job)
     }
 
     /// Takes a further card of the open task.
-    fn more_card(self, card: Card) -> Result<LineReader, LineRefused>
-        ensures ok { IfOk result (machine.Gives (machine.take_more self.part self.job (view card))) }
-        ensures err { IfErr result (machine.Refuses (machine.take_more self.part self.job (view card))) }
+    fn more_card(&mut self, card: Card) -> Result<(), LineRefused>
+        ensures ok { IfOk result (λ _. Gives (machine.take_more self.old.part self.old.job (view card)) self.new) }
+        ensures err { IfErr result (machine.Refuses (machine.take_more self.old.part self.old.job (view card))) }
     {
-        let LineReader { part, job } = self;
-        match part {
-            Part::Task(task) => Ok(LineReader {
-                part: Part::Task(task.card(card)?),
-                job,
-            }),
+        match &mut self.part {
+            Part::Task(task) => task.card(card),
             _ => Err(LineRefused::Bad),
         }
     }
 
-    fn card(self, alloc: Global, card: Card) -> Result<LineReader, LineRefused>
-        ensures ok { IfOk result (machine.Gives (machine.take_card Present self (view card))) }
-        ensures err { IfErr result (machine.Refuses (machine.take_card Present self (view card))) }
+    fn card(&mut self, alloc: Global, card: Card) -> Result<(), LineRefused>
+        ensures ok { IfOk result (λ _. Gives (machine.take_card Present self.old (view card)) self.new) }
+        ensures err { IfErr result (machine.Refuses (machine.take_card Present self.old (view card))) }
     {
         match card {
             Card::Cover => self.cover_card(),
@@ -265,7 +309,7 @@ impl LineReader {
 
     fn listing_line(&mut self, text: &[u8]) -> Result<(), LineRefused>
         requires { machine.takes_raw self.old.part ≡ true }
-        ensures ok { IfOk result (λ _. machine.Gives (machine.take_raw self.old.part self.old.job text.now) self.new) }
+        ensures ok { IfOk result (λ _. Gives (machine.take_raw self.old.part self.old.job text.now) self.new) }
         ensures err { IfErr result (machine.Refuses (machine.take_raw self.old.part self.old.job text.now)) }
     {
         match &mut self.part {
@@ -292,7 +336,7 @@ impl LineReader {
         bytes: &[u8],
         ended: bool,
     ) -> Result<(), LineRefused>
-        ensures ok { IfOk result (λ _. machine.Gives (machine.step Present self.old (as_line bytes.now ended)) self.new) }
+        ensures ok { IfOk result (λ _. Gives (machine.step Present self.old (as_line bytes.now ended)) self.new) }
         ensures err { IfErr result (machine.Refuses (machine.step Present self.old (as_line bytes.now ended))) }
     {
         if self.takes_raw() {
@@ -300,11 +344,7 @@ impl LineReader {
         }
         match read_card(alloc, bytes)? {
             None => Err(LineRefused::Bad),
-            Some(card) => {
-                let before = mem::replace(self, LineReader::new(alloc, Grammar::Plain));
-                *self = before.card(alloc, card)?;
-                Ok(())
-            }
+            Some(card) => self.card(alloc, card),
         }
     }
 
@@ -327,127 +367,44 @@ impl LineReader {
     }
 }
 
-fn open_module(
-    alloc: Global,
-    job: Draft,
-    name: Name,
-    base: Addr,
-    size: u32,
-) -> Result<LineReader, LineRefused>
-    requires { length job.phases ≤ PHASE_LIMIT }
-    ensures ok { IfOk result (machine.Gives (machine.open_module name base size job)) }
-    ensures err { IfErr result (machine.Refuses (machine.open_module name base size job)) }
+/// Puts what is open now in the place of what was.
+fn put_part(part: &mut Part, now: Part)
+    ensures { part.new ≡ now }
 {
-    if !fits(&job, &name, base.get(), size) {
+    *part = now;
+}
+
+fn open_phase(job: &mut Draft, name: Name) -> Result<(), LineRefused>
+    requires { machine.HasRoom kind.Modules job.old }
+    ensures ok { IfOk result (λ _. Gives (machine.open_phase name job.old) (machine.at_sessions job.new)) }
+    ensures err { IfErr result (machine.Refuses (machine.open_phase name job.old)) }
+    ensures room { machine.HasRoom kind.Modules job.new }
+{
+    if has_phase(job, &name) {
         return Err(LineRefused::Bad);
     }
-    if job.images.len() >= MODULE_LIMIT {
-        return Err(LineRefused::TooLarge(Limit::Modules));
+    if job.phases.len() >= PHASE_LIMIT {
+        return Err(LineRefused::TooLarge(Limit::Phases));
     }
-    if size > SIZE_LIMIT {
-        return Err(LineRefused::TooLarge(Limit::Size));
-    }
-    let image = Image {
-        name,
-        base,
-        bytes: Vec::new(alloc),
-    };
-    Ok(LineReader {
-        part: Part::Texts { image, left: size },
-        job,
-    })
-}
-
-fn add_service(job: Draft, service: Service) -> Result<LineReader, LineRefused>
-    requires { machine.HasRoom kind.Modules job }
-    ensures ok { IfOk result (machine.Gives (machine.add_service service job)) }
-    ensures err { IfErr result (machine.Refuses (machine.add_service service job)) }
-{
-    match with_service(job, service)? {
-        None => Err(LineRefused::Bad),
-        Some(job) => Ok(LineReader {
-            part: Part::Services,
-            job,
-        }),
-    }
-}
-
-fn open_phase(job: Draft, name: Name) -> Result<LineReader, LineRefused>
-    requires { machine.HasRoom kind.Modules job }
-    ensures ok { IfOk result (machine.Gives (machine.open_phase name job)) }
-    ensures err { IfErr result (machine.Refuses (machine.open_phase name job)) }
-{
-    let count = job.phases.len();
-    match with_phase(job, name)? {
-        None => Err(LineRefused::Bad),
-        Some(job) => {
-            if count >= PHASE_LIMIT {
-                return Err(LineRefused::TooLarge(Limit::Phases));
-            }
-            Ok(LineReader {
-                part: Part::Sessions,
-                job,
-            })
-        }
-    }
+    Ok(put_phase(job, name)?)
 }
 
 fn add_session(
     alloc: Global,
-    job: Draft,
+    job: &mut Draft,
     name: Name,
     by: Option<Name>,
     names: &[Name],
-) -> Result<LineReader, LineRefused>
-    requires { machine.HasRoom kind.Modules job }
-    ensures ok { IfOk result (machine.Gives (machine.add_session job name by names.now)) }
-    ensures err { IfErr result (machine.Refuses (machine.add_session job name by names.now)) }
+) -> Result<(), LineRefused>
+    requires { machine.HasRoom kind.Modules job.old }
+    ensures ok { IfOk result (λ _. Gives (machine.add_session job.old name by names.now) (machine.at_sessions job.new)) }
+    ensures err { IfErr result (machine.Refuses (machine.add_session job.old name by names.now)) }
+    ensures room { machine.HasRoom kind.Modules job.new }
 {
     let count = job.sessions.len();
-    match with_session(alloc, job, name, by, names)? {
-        None => Err(LineRefused::Bad),
-        Some(job) => {
-            if count >= SESSION_LIMIT {
-                return Err(LineRefused::TooLarge(Limit::Sessions));
-            }
-            Ok(LineReader {
-                part: Part::Sessions,
-                job,
-            })
-        }
+    with_session(alloc, job, name, by, names)?;
+    if count >= SESSION_LIMIT {
+        return Err(LineRefused::TooLarge(Limit::Sessions));
     }
-}
-
-fn open_task(
-    alloc: Global,
-    job: Draft,
-    name: Name,
-    entry: Addr,
-    private: u32,
-    budget: u32,
-    room: u32,
-) -> Result<LineReader, LineRefused>
-    requires { machine.HasRoom kind.Modules job }
-    ensures ok { IfOk result (machine.Gives (machine.open_task name entry private budget room job)) }
-    ensures err { IfErr result (machine.Refuses (machine.open_task name entry private budget room job)) }
-{
-    if has_task(&job, &name) {
-        return Err(LineRefused::Bad);
-    }
-    if job.tasks.len() >= TASK_LIMIT {
-        return Err(LineRefused::TooLarge(Limit::Tasks));
-    }
-    if private > PRIVATE_LIMIT {
-        return Err(LineRefused::TooLarge(Limit::Private));
-    }
-    if budget > BUDGET_LIMIT {
-        return Err(LineRefused::TooLarge(Limit::Budget));
-    }
-    if room > ROOM_LIMIT {
-        return Err(LineRefused::TooLarge(Limit::Room));
-    }
-    Ok(LineReader {
-        part: Part::Task(fresh_task(alloc, name, entry, private, budget, room)),
-        job,
-    })
+    Ok(())
 }

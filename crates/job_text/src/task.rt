@@ -87,57 +87,48 @@ fn is_inside(private: u32, card: &DataCard) -> bool
 }
 
 impl TaskPart {
-    fn reg(self, reg: RegCard) -> Result<TaskPart, LineRefused>
-        ensures name { IfOk result (λ p. p.task.name ≡ self.task.name) }
-        ensures ok { IfOk result (λ p. parts.after_reg self reg.number reg.value ≡ Some p) }
-        ensures err { IfErr result (parts.IsOut (parts.after_reg self reg.number reg.value)) }
+    fn reg(&mut self, reg: RegCard) -> Result<(), LineRefused>
+        ensures name { self.new.task.name ≡ self.old.task.name }
+        ensures ok { IfOk result (λ _. parts.after_reg self.old reg.number reg.value ≡ Some self.new) }
+        ensures err { IfErr result (parts.IsOut (parts.after_reg self.old reg.number reg.value)) }
     {
         if !self.stage.takes_reg(reg.number) {
             return Err(LineRefused::Bad);
         }
-        let mut task = self.task;
-        task.regs[reg.number as usize] = reg.value;
-        Ok(TaskPart {
-            task,
-            stage: TaskStage::Regs {
-                least: reg.number + 1,
-            },
-        })
+        self.task.regs[reg.number as usize] = reg.value;
+        self.stage = TaskStage::Regs {
+            least: reg.number + 1,
+        };
+        Ok(())
     }
 
-    fn data(self, card: DataCard) -> Result<TaskPart, LineRefused>
-        ensures name { IfOk result (λ p. p.task.name ≡ self.task.name) }
-        ensures ok { IfOk result (λ p. parts.after_data self card ≡ Some p) }
-        ensures err { IfErr result (parts.IsOut (parts.after_data self card)) }
+    fn data(&mut self, card: DataCard) -> Result<(), LineRefused>
+        ensures name { self.new.task.name ≡ self.old.task.name }
+        ensures ok { IfOk result (λ _. parts.after_data self.old card ≡ Some self.new) }
+        ensures err { IfErr result (parts.IsOut (parts.after_data self.old card)) }
     {
         if !(self.stage.takes_data() && is_inside(self.task.private, &card)) {
             return Err(LineRefused::Bad);
         }
-        let mut task = self.task;
-        task.cards.push(card)?;
-        Ok(TaskPart {
-            task,
-            stage: TaskStage::Data,
-        })
+        self.task.cards.push(card)?;
+        self.stage = TaskStage::Data;
+        Ok(())
     }
 
-    fn input(self, bytes: &[u8]) -> Result<TaskPart, AllocError>
-        ensures name { IfOk result (λ p. p.task.name ≡ self.task.name) }
-        ensures value { IfOk result (λ p. p ≡ parts.after_input self bytes.now) }
+    fn input(&mut self, bytes: &[u8]) -> Result<(), AllocError>
+        ensures name { self.new.task.name ≡ self.old.task.name }
+        ensures value { IfOk result (λ _. self.new ≡ parts.after_input self.old bytes.now) }
     {
-        let mut task = self.task;
-        task.input.extend_from_slice(bytes)?;
-        Ok(TaskPart {
-            task,
-            stage: TaskStage::Inputs,
-        })
+        self.task.input.extend_from_slice(bytes)?;
+        self.stage = TaskStage::Inputs;
+        Ok(())
     }
 
     /// Takes a further card of the task.
-    pub(crate) fn card(self, card: Card) -> Result<TaskPart, LineRefused>
-        ensures name { IfOk result (λ p. p.task.name ≡ self.task.name) }
-        ensures ok { IfOk result (λ p. parts.task_more self (view card) ≡ Some p) }
-        ensures err { IfErr result (parts.IsOut (parts.task_more self (view card))) }
+    pub(crate) fn card(&mut self, card: Card) -> Result<(), LineRefused>
+        ensures name { self.new.task.name ≡ self.old.task.name }
+        ensures ok { IfOk result (λ _. parts.task_more self.old (view card) ≡ Some self.new) }
+        ensures err { IfErr result (parts.IsOut (parts.task_more self.old (view card))) }
     {
         match card {
             Card::Reg(reg) => self.reg(reg),

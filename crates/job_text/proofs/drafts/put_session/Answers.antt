@@ -7,9 +7,9 @@ use Rattle.job_text.specs.DraftInside.{names_in, draft_view}
 use Rattle.job_text.proofs.DraftNames.{with_session_named}
 use Rattle.job_text.proofs.drafts.put_session.Goals as goal
 
-pub invariant_of-result : goal.invariant_of-result
-invariant_of-result c =
-    let new : list_any (λ s. bytes_eq s.name c.args.session.name) (draft_view c.job.inside).sessions ≡ false = subst (λ (j : DraftView). list_any (λ s. bytes_eq s.name c.args.session.name) j.sessions ≡ false) (sym c.job.view_is) c.requires in
-    let named : c.in_ok-names.names ≡ naming.with_session c.job.inside.names c.args.session.name = search rules in
+pub invariant_of-job-in_default : goal.invariant_of-job-in_default
+invariant_of-job-in_default c =
+    let new : list_any (λ s. bytes_eq s.name c.args.session.name) (draft_view c.job.inside).sessions ≡ false = subst (λ (j : DraftView). list_any (λ s. bytes_eq s.name c.args.session.name) j.sessions ≡ false) (sym c.job.view_is) c.requires.new in
+    let named : c.add_session.new.names ≡ naming.with_session c.job.inside.names c.args.session.name = search rules in
     let items : c.push.new.self.items ≡ c.job.inside.sessions.items ++ c.args.session ∷ [] = search rules in
     named ∙ (with_session_named c.job.inside c.job.invariant c.args.session new ∙ sym (ap (λ (ss : List SessionDraft). names_in (record (draft_view c.job.inside) { sessions = ss })) items))
