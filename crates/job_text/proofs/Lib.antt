@@ -11,7 +11,6 @@ mod Joined
 mod LineLemmas
 mod Named
 mod Numbers
-mod Opened
 mod Readings
 mod Rests
 mod Shortest

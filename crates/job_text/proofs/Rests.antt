@@ -4,7 +4,7 @@ use Rattle.std.proofs.lemmas.Bool.Decides.{nat_tests}
 use Rattle.std.proofs.lemmas.Option.{same_Some, cond_some}
 use Rattle.std.specs.List.{concat}
 use Rattle.cov_base.specs.Meaning.{ImageView}
-use Rattle.session_book.specs.Meaning.{TaskView, first_regs}
+use Rattle.session_book.specs.Meaning.{TaskView}
 use Rattle.job_text.specs.Meaning.{DraftView, Controllers, are_met, bound, LineView, listing_text, CardView, Cover, Module, Text, Listing, Phase, Session, Task, Reg, Data, Input, End, IsCard, card_at, no_job, fits, with_module, with_phase, with_new_session, has_task, with_task, joined, AreCards, IsListed, Spells, Lead, IsModule, IsServiceCard, IsSessionCard, IsTaskBlock, IsPhase, Serve, with_service}
 use Rattle.session_book.specs.declared.services.Service.{Service}
 use Rattle.job_text.specs.declared.grammar.Grammar.{Grammar}

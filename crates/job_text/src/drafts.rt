@@ -204,16 +204,16 @@ fn put_module(job: &mut Draft, image: Image, listing: Option<ListingLines>) -> R
     Ok(())
 }
 
-fn put_task(job: &mut Draft, task: TaskCard) -> Result<(), NoMemory>
+fn put_task(job: &mut Draft, mut task: TaskCard) -> Result<(), NoMemory>
     requires new { adding.has_task job.old task.name ≡ false }
     requires room { machine.HasRoom kind.Modules job.old }
     ensures value { IfOk result (λ _. job.new ≡ adding.with_task job.old task) }
     ensures room { machine.HasRoom kind.Modules job.new }
 {
-    let phase = this_phase(job);
+    task.phase = this_phase(job);
     let name = task.name;
     let count = job.tasks.len();
-    job.tasks.push(TaskCard { phase, ..task })?;
+    job.tasks.push(task)?;
     if let Err(shortage) = add_task(&mut job.names, name) {
         job.tasks.truncate(count);
         return Err(shortage);
