@@ -15,7 +15,7 @@ USAGE = """\
 usage: coverage diff [--leave-out FILE] OLD NEW > DIFFERENCE
 
 Says what the report in the file NEW has lost and gained against that in OLD, both of run, early, exits, replay or show,
-or what of several runs combine and show have made; - is standard input. The listings may differ: a line is found again
+or what of several runs combine and show have made; - is standard input. The listings may differ: a place is found again
 by its source statement, as diff finds it, wherever it stands now.
 
 Each module of a session that has changed has a line with its facts before and now, and below it a line for each change:

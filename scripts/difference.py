@@ -5,8 +5,8 @@ from dataclasses import dataclass, field
 from typing import Iterable, Optional
 
 from command import Fault
-from in_common import in_common
-from labels import Spot, spots_of
+from in_common import Pairs, in_common
+from labels import Spot, number_of, spots_of
 from leave_out import Rule, leave_out, recount
 from listing import Heading, heading_of
 from markup import count_of
@@ -19,6 +19,9 @@ SOURCE = 72
 LOST, GAINED, FRESH = "lost", "gained", "new"
 # What each mark of a branch that went one way has shown.
 WAYS = {">": "branched", "V": "fell through"}
+# By what a line is found again: whether and how it is a place, and its source statement; and lines by their numbers with it.
+Key = tuple[Optional[bool], bytes]
+Keyed = list[tuple[int, Key]]
 
 
 @dataclass
@@ -91,31 +94,51 @@ def source_of(line: Line, heading: Optional[Heading]) -> bytes:
     return line.text[heading.shift + heading.columns.source :][:SOURCE].rstrip(b" ")
 
 
-def key_of(line: Line, heading: Optional[Heading]) -> tuple[Optional[bool], bytes]:
-    """By what a line is found again: its source statement, and whether and how it is a place."""
+def key_of(line: Line, heading: Optional[Heading]) -> Key:
+    """By what a line is found again."""
     return None if line.mark == " " else line.is_conditional, source_of(line, heading)
 
 
-def keys_of(lines: list[Line]) -> list[tuple[int, tuple[Optional[bool], bytes]]]:
-    """The lines that can be found again, by their numbers from 0, with what they are found by: places, and others that have
-    a text."""
+def keys_of(lines: list[Line]) -> Keyed:
+    """The lines that can be found again, by their numbers from 0, with what they are found by: places, and others that are
+    numbered statements with a text. What comes again at each page has no number, and would be found in place of these."""
     heading = heading_of([it.text for it in lines])
     keys = [(at, key_of(it, heading)) for at, it in enumerate(lines)]
-    return [(at, key) for at, key in keys if key[0] is not None or key[1]]
+    return [(at, key) for at, key in keys if key[0] is not None or key[1] and heading and number_of(lines[at], heading) is not None]
 
 
 def pairs_of(old: list[Line], new: list[Line]) -> dict[int, int]:
-    """For each line of the new listing that the old one has its number there: of the pairs of lines that are alike as many
-    as stand in one order in both."""
+    """For each place of the new listing that the old one has its line's number there: of the pairs of places that are alike
+    as many as stand in one order in both. Where there is a choice, text lines that both have decide it."""
     olds, news = keys_of(old), keys_of(new)
+    places = [[it for it in found if it[1][0] is not None] for found in (olds, news)]
+    helped = [(was, at) for was, at in matched(olds, news) if new[at].mark != " "]
+    if len(helped) < min(map(len, places)):
+        helped = at_least(helped, matched(*places))
+    return {at: was for was, at in helped}
+
+
+def matched(olds: Keyed, news: Keyed) -> Pairs:
+    """The longest row of pairs of lines that are alike, by their numbers."""
     one, other = [key for _, key in olds], [key for _, key in news]
     # What is alike at both ends is paired at once, so that it costs nothing.
     begin = alike(zip(one, other))
     end = alike(zip(reversed(one[begin:]), reversed(other[begin:])))
     stop, other_stop = len(one) - end, len(other) - end
-    found = [(it, it) for it in range(begin)] + [(stop + it, other_stop + it) for it in range(end)]
+    found = [(it, it) for it in range(begin)]
     found += [(begin + was, begin + at) for was, at in in_common(one[begin:stop], other[begin:other_stop])]
-    return {news[at][0]: olds[was][0] for was, at in found}
+    found += [(stop + it, other_stop + it) for it in range(end)]
+    return [(olds[was][0], news[at][0]) for was, at in found]
+
+
+def at_least(helped: Pairs, most: Pairs) -> Pairs:
+    """As many pairs as the second row has, which is the longest: the first, but the second's from a pair that both have to the
+    next wherever that has more."""
+    both, rows = set(helped) & set(most), []
+    for pairs in (helped, most):
+        cuts = [0, *(at for at, it in enumerate(pairs, 1) if it in both), len(pairs)]
+        rows.append([pairs[begin:end] for begin, end in zip(cuts, cuts[1:])])
+    return [it for parts in zip(*rows) for it in max(parts, key=len)]
 
 
 def alike(pairs: Iterable[tuple[object, object]]) -> int:

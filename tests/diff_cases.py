@@ -180,6 +180,54 @@ def refusals() -> None:
         refused(coverage("diff", "a", "-", data=b"x", cwd=at), 2, "coverage: standard input: line 1: no report")
 
 
+def paged(lines: list[tuple[str, str, str]], page: int) -> bytes:
+    """The report over a listing of so many lines a page, each page with its title and its heading."""
+    report = written(lines).decode().splitlines(True)
+    at = next(at for at, it in enumerate(report) if HEADING in it)
+    end = at + 1 + len(lines)
+    pages = [report[it : min(it + page, end)] for it in range(at + 1, end, page)]
+    found = [[f"  TITLE{'':98}Page {number:4}\n", report[at], *part] for number, part in enumerate(pages, 1)]
+    return "".join([*report[:at], *itertools.chain(*found), *report[end:]]).encode()
+
+
+def pages_that_move() -> None:
+    """diff: remarks that move the pages, and statements that are no places, cost no place, whatever comes again"""
+    draw = random.Random(6)
+    nothing = "0 facts lost, 0 gained; 0 facts of new places not shown.\n"
+    for _ in range(12):
+        lines = drawn(draw, draw.randrange(1, 60))
+        now = lines[:]
+        for _ in range(draw.randrange(1, 20)):
+            at = draw.randrange(len(now) + 1)
+            now[at:at] = [(draw.choice(["* one remark", "* another", "NAME     EQU   *"]), "", " ")] * draw.randrange(1, 9)
+        equal(told(paged(lines, 5), paged(now, 5)), nothing)
+        equal(told(paged(now, 3), paged(lines, 7)), nothing)
+    with folder() as at:
+        with open(f"{at}/old", "wb") as file:
+            file.write(paged(lines, 5))
+        page = well(coverage("page", "--against", "old", data=paged(now, 5), cwd=at)).output.decode()
+        assert f"Against old: {nothing.strip()}" in page, page[-2000:]
+    # A block that has moved behind one place: so its remarks would be found rather than that.
+    remarks = [(f"* remark {it}", "", " ") for it in range(9)]
+    one, two = ("         LR    1,1", "1811", ":"), ("         LR    2,2", "1822", ":")
+    equal(told(written([one, two, *remarks]), written([one, *remarks, two])), nothing)
+    text = told(written([one, *remarks, two, two]), written([*remarks, one, two]))
+    equal(text.splitlines()[-1], "0 facts lost, 0 gained; 0 facts of new places not shown; 1 place gone.")
+
+
+def text_decides() -> None:
+    """diff: of places that are alike that is found again which stands behind the same remark, at either end of a page"""
+    def routine(number: int, mark: str) -> list[tuple[str, str, str]]:
+        return [(f"* routine {number}", "", " "), ("         LR    5,5", "1855", mark), ("         BR    14", "07FE", mark)]
+
+    def text(old: list[tuple[str, str, str]], new: list[tuple[str, str, str]]) -> list[str]:
+        return [" ".join(it.split()[:2]) for it in told(paged(old, 4), paged(new, 4)).splitlines()[1:-1]]
+
+    equal(text([*routine(1, ":"), *routine(3, ":")], [*routine(1, ":"), *routine(2, "^"), *routine(3, ":")]), ["new 000004-000007"])
+    equal(text(routine(1, ":"), [*routine(0, "^"), *routine(1, ":")]), ["new 000000-000003"])
+    equal(text(routine(1, ":"), [*routine(1, ":"), *routine(2, "^")]), ["new 000004-000007"])
+
+
 def drawn(draw: random.Random, count: int) -> list[tuple[str, str, str]]:
     """Statements of few kinds, many of them alike, with marks."""
     kinds = [(f"         LR    {it},{it}", f"18{it}{it}", "^:") for it in range(4)]
@@ -199,19 +247,27 @@ def edited(draw: random.Random, lines: list[tuple[str, str, str]]) -> list[tuple
     return found
 
 
+def with_remarks(draw: random.Random, lines: list[tuple[str, str, str]]) -> list[tuple[str, str, str]]:
+    """The same with remarks of few kinds put in."""
+    found = lines[:]
+    for _ in range(draw.randrange(20)):
+        found.insert(draw.randrange(len(found) + 1), (f"* remark {draw.randrange(4)}", "", " "))
+    return found
+
+
 def sums_agree() -> None:
-    """diff: over random edits as many lines are found in order by their statements as can be; the sums are the facts'"""
+    """diff: over random edits as many places are found in order by their statements as can be; the sums are the facts'"""
     draw = random.Random(4)
     for _ in range(150):
-        lines = drawn(draw, draw.randrange(1, 60))
-        now = edited(draw, lines) or drawn(draw, 1)
+        lines = with_remarks(draw, drawn(draw, draw.randrange(1, 60)))
+        now = with_remarks(draw, edited(draw, [it for it in lines if it[2] != " "]) or drawn(draw, 1))
         old, new = (read_report("", written(it)) for it in (lines, now))
         one, other = (it.sessions[0].modules[0] for it in (old, new))
         pairs = difference.pairs_of(one.lines, other.lines)
         places = sorted(pairs)
         equal([pairs[it] for it in places], sorted(set(pairs.values())))
         equal([source_of(other.lines[it]) for it in places], [source_of(one.lines[pairs[it]]) for it in places])
-        equal(len(pairs), longest([source_of(it) for it in one.lines], [source_of(it) for it in other.lines]))
+        equal(len(pairs), longest(*([source_of(it) for it in module.lines if it.mark != " "] for module in (one, other))))
         found = difference.compare("S", "M", one, other)
         lost, gained, fresh = (found.facts(it) for it in (difference.LOST, difference.GAINED, difference.FRESH))
         kept, had = set(places), set(pairs.values())
@@ -250,7 +306,7 @@ def longest(one: list[bytes], other: list[bytes]) -> int:
 
 
 def source_of(line: Line) -> bytes:
-    """A narrow line's source statement; that of the heading is none."""
+    """A narrow line's source statement."""
     return line.text[40:].rstrip()
 
 
@@ -262,7 +318,7 @@ def labels_stand() -> None:
 
 
 def as_diff_finds() -> None:
-    """diff: as many lines are found again as the program diff finds by its smallest difference"""
+    """diff: as many places are found again as the program diff finds by its smallest difference"""
     draw = random.Random(9)
     with folder() as at:
         for _ in range(60):
@@ -271,9 +327,9 @@ def as_diff_finds() -> None:
             one, other = (read_report("", written(it)).sessions[0].modules[0].lines for it in (lines, now))
             for name, found in (("one", one), ("other", other)):
                 with open(f"{at}/{name}", "wb") as file:
-                    file.write(b"".join(source_of(it) + b"\n" for it in found))
+                    file.write(b"".join(source_of(it) + b"\n" for it in found if it.mark != " "))
             ran = run(["diff", "--minimal", "one", "other"], cwd=at)
-            kept = len(one) - sum(it.startswith(b"<") for it in ran.output.splitlines())
+            kept = sum(it.mark != " " for it in one) - sum(it.startswith(b"<") for it in ran.output.splitlines())
             equal(len(difference.pairs_of(one, other)), kept)
 
 
@@ -285,4 +341,7 @@ def tools(tally: Tally) -> None:
         tally.left_out.append("the program diff over listings, since it isn't there")
 
 
-CHECKS = [each_change, a_changed_listing, modules_of_one, left_out, refusals, sums_agree, rows_as_pairs, labels_stand]
+CHECKS = [
+    each_change, a_changed_listing, modules_of_one, left_out, refusals, pages_that_move, text_decides, sums_agree, rows_as_pairs,
+    labels_stand,
+]
