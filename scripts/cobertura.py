@@ -6,7 +6,7 @@ import sys
 import time
 from xml.sax.saxutils import quoteattr
 
-from command import UsageError, read_input, run, take_options, write_output
+from command import read_input, refuse_more, run, take_options, write_output
 from lcov import branch_hits, file_of, hits, labels_of, listings_of
 from leave_out import OPTION, leave_out, read_rules, tell_idle
 from report import Line, Module, Session, read_report
@@ -116,8 +116,7 @@ def xml(sessions: list[Session]) -> str:
 
 def main(words: list[str]) -> None:
     options, left = take_options(words, (OPTION,))
-    if left:
-        raise UsageError
+    refuse_more(left)
     rules = read_rules(options.get(OPTION))
     report = read_report("standard input", read_input())
     listed = {session.name for session, _ in listings_of(report)}

@@ -4,7 +4,7 @@ from __future__ import annotations
 import os
 import re
 import sys
-from typing import Callable, Optional
+from typing import Callable, Optional, Sequence
 
 USAGE, BAD_INPUT, READ_FAULT, WRITE_FAULT, INTERRUPTED = 1, 2, 5, 6, 130
 # How the command is called, in a checkout and in an installed copy.
@@ -84,8 +84,9 @@ def run(usage: str, main: Callable[[list[str]], Optional[int]]) -> int:
         return 0
     except KeyboardInterrupt:
         return INTERRUPTED
-    except UsageError:
-        complain(usage.rstrip("\n") + call_meant(usage, words))
+    except UsageError as error:
+        said = [f"coverage: {error}: {CALLED} {name_in(usage)} --help says which words it has"] if error.args else [usage.rstrip("\n")]
+        complain("\n".join([*said, *call_meant(usage, words)]))
         return USAGE
     except Fault as fault:
         complain(f"coverage: {fault}")
@@ -93,7 +94,7 @@ def run(usage: str, main: Callable[[list[str]], Optional[int]]) -> int:
 
 
 class UsageError(Exception):
-    """The words are not those of the command."""
+    """The words are not those of the command; where it says why, that is told in place of the usage."""
 
 
 def take_options(words: list[str], valued: tuple[str, ...], bare: tuple[str, ...] = ()) -> tuple[dict[str, str], list[str]]:
@@ -102,21 +103,53 @@ def take_options(words: list[str], valued: tuple[str, ...], bare: tuple[str, ...
     found: dict[str, str] = {}
     left = list(words)
     while left and left[0].startswith("--"):
-        option = left.pop(0)
-        if option in found or option not in valued + bare or option in valued and not left:
-            raise UsageError
+        option = take_word(left, valued)
+        if option not in valued + bare:
+            raise UsageError(f"{option} is none of its options")
+        if option in found or option in valued and not left:
+            raise UsageError(f"{option} {'stands twice' if option in found else 'lacks the word behind it'}")
         found[option] = left.pop(0) if option in valued else ""
+    late = [it for it in left if it.partition("=")[0] in valued + bare]
+    if late:
+        raise UsageError(f"{late[0]} stands behind {left[0]}, and not before it")
     return found, left
 
 
-def call_meant(usage: str, words: list[str]) -> str:
-    """A line with the call that was meant, where the last word is a file and the command wants one on standard input."""
-    first = re.sub(r" \[[^]]*\]", "", usage.partition("\n")[0])
-    call, reads, _ = first.removeprefix("usage: coverage ").partition(" < ")
+def take_word(words: list[str], valued: Sequence[str]) -> str:
+    """Takes the first word. Where that is an option with its value, as --leave-out=FILE, the value is the next then."""
+    option, equals, value = words.pop(0).partition("=")
+    if option in valued and equals:
+        words.insert(0, value)
+        return option
+    return option + equals + value
+
+
+def refuse_more(words: list[str], most: int = 0) -> None:
+    """Refuses a word behind so many."""
+    if len(words) > most:
+        raise UsageError(f"{words[most]} is a word too many")
+
+
+def name_in(usage: str) -> str:
+    """The command's name."""
+    return usage.split()[2]
+
+
+def call_meant(usage: str, words: list[str]) -> list[str]:
+    """A line with the call that was meant, where the last word is a file, and all before it are those of a command that wants
+    one on standard input."""
+    first = usage.partition("\n")[0]
+    call, reads, _ = re.sub(r" \[[^]]*\]", "", first).removeprefix("usage: coverage ").partition(" < ")
     if not reads or not words or not os.path.isfile(words[-1]):
-        return ""
-    own = [call.split(" ")[0], *words[:-1]] if words[:-1] else [call]
-    return f"\n\ncoverage: did you mean {CALLED} {' '.join(own)} < {words[-1]} ?"
+        return []
+    try:
+        valued, bare = (tuple(re.findall(rf"\[(--[a-z-]+){it}", first)) for it in (" [A-Z]", "]"))
+        _, left = take_options(words[:-1], valued, bare)
+    except UsageError:
+        return []
+    if len(left) != len(call.split()) - 1:
+        return []
+    return [f"coverage: did you mean {CALLED} {' '.join([name_in(usage), *words[:-1]])} < {words[-1]} ?"]
 
 
 def complain(text: str) -> None:

@@ -4,7 +4,7 @@ from __future__ import annotations
 import sys
 from typing import Optional
 
-from command import UsageError, read_file, run, take_options, write_output
+from command import UsageError, read_file, refuse_more, run, take_options, write_output
 from difference import Change, Difference, differences, source_of, sums
 from leave_out import OPTION, read_rules, tell_idle
 from listing import Heading, heading_of
@@ -61,7 +61,8 @@ def text(found: list[Difference]) -> str:
 
 def main(words: list[str]) -> None:
     options, files = take_options(words, (OPTION,))
-    if len(files) != 2 or not all(files):
+    refuse_more(files, 2)
+    if len(files) < 2 or not all(files):
         raise UsageError
     rules = read_rules(options.get(OPTION))
     old, new = (read_report("standard input" if it == "-" else it, read_file(it)) for it in files)

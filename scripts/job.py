@@ -7,7 +7,7 @@ import sys
 from typing import Any, Iterator, Optional
 
 from cards import LIMITS, MOST_BYTES, Broken, number_of
-from command import Fault, UsageError, read_file, run, take_options, write_output
+from command import Fault, UsageError, read_file, refuse_more, run, take_options, write_output
 from data_forms import CARD as FORM
 from data_forms import bytes_of, data_cards, input_cards
 from job_rules import FIELDS, Place, Reader
@@ -290,7 +290,14 @@ def check_form(place: Place, line: bytes) -> None:
 def main(words: list[str]) -> None:
     options, words = take_options(words, (), ("--check", "--services"))
     is_check = "--check" in options
-    if (not is_check and (options or not words)) or (is_check and len(words) > 1) or any(it.startswith("--") for it in words):
+    for it in words:
+        if it.startswith("--"):
+            raise UsageError(f"{it} is none of its options")
+    if options and not is_check:
+        raise UsageError("--services stands behind --check alone")
+    if is_check:
+        refuse_more(words, 1)
+    elif not words:
         raise UsageError
     try:
         if is_check:

@@ -4,7 +4,7 @@ from __future__ import annotations
 import os
 import sys
 
-from command import Fault, UsageError, WRITE_FAULT, read_input, reason, run, take_options, write_file
+from command import Fault, UsageError, WRITE_FAULT, read_input, reason, refuse_more, run, take_options, write_file
 from labels import spots_of
 from leave_out import OPTION, leave_out, read_rules, tell_idle
 from report import Line, Module, Report, Session, read_report
@@ -121,7 +121,8 @@ def make_folder(path: str) -> None:
 def main(words: list[str]) -> None:
     options, folders = take_options(words, (OPTION,))
     # A word like -h is meant for an option, which there is none of.
-    if len(folders) != 1 or not folders[0] or folders[0].startswith("-"):
+    refuse_more([it for it in folders if it.startswith("-")] or folders[1:])
+    if not folders or not folders[0]:
         raise UsageError
     folder, rules = folders[0], read_rules(options.get(OPTION))
     report = read_report("standard input", read_input())

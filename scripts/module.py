@@ -46,6 +46,7 @@ The program that reads the cards compares each instruction line with the bytes. 
 
 SERVICE = re.compile("SVC[0-9]{3}")
 GIVEN = re.compile(r"([A-Z@#$_][A-Z@#$_0-9]{0,7})=([0-9A-Fa-f]{6})")
+OPTIONS = {"--strict": "stands before NAME, once", "--services": "stands behind all other words, once"}
 WORDS = "the words are NAME BASE OBJECT LISTING"
 Value = TypeVar("Value")
 
@@ -107,10 +108,13 @@ def listing_from(path: str, data: bytes) -> list[bytes]:
 
 def addresses(words: list[str]) -> dict[str, int]:
     """What the words behind all others give, by name."""
-    found = [GIVEN.fullmatch(it) for it in words]
-    given = {it[1]: int(it[2], 16) for it in found if it is not None}
-    if len(given) < len(words):
-        raise UsageError
+    given: dict[str, int] = {}
+    for it in words:
+        found = GIVEN.fullmatch(it)
+        if found is None or found[1] in given:
+            what = "gives a second address" if found else "is no SYMBOL=ADDRESS, whose address is six hexadecimal digits"
+            raise UsageError(f"{it} {what}")
+        given[found[1]] = int(found[2], 16)
     return given
 
 
@@ -143,7 +147,10 @@ def main(words: list[str]) -> None:
     is_strict = words[:1] == ["--strict"]
     wants_services = words[-1:] == ["--services"]
     words = words[is_strict : len(words) - wants_services]
-    if len(words) < 3 or any(it.startswith("--") for it in words):
+    for it in words:
+        if it.startswith("--"):
+            raise UsageError(f"{it} {OPTIONS.get(it, 'is none of its options')}")
+    if len(words) < 3:
         raise UsageError
     has_listing = len(words) > 3 and not GIVEN.fullmatch(words[3])
     given = addresses(words[4:] if has_listing else words[3:])

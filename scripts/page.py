@@ -5,7 +5,7 @@ import os
 import sys
 from typing import Optional
 
-from command import UsageError, read_file, read_input, run, take_options, write_output
+from command import read_file, read_input, refuse_more, run, take_options, write_output
 from difference import differences
 from leave_out import OPTION, leave_out, read_rules, tell_idle
 from markup import count_of
@@ -111,8 +111,7 @@ def page(report: Report, against: Optional[Against]) -> str:
 
 def main(words: list[str]) -> None:
     options, left = take_options(words, (AGAINST, OPTION))
-    if left:
-        raise UsageError
+    refuse_more(left)
     rules, old = read_rules(options.get(OPTION)), options.get(AGAINST)
     report = read_report("standard input", read_input())
     if old is None:

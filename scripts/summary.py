@@ -7,7 +7,7 @@ import sys
 from fractions import Fraction
 from typing import Optional
 
-from command import Fault, UsageError, complain, read_input, run, take_options, write_output
+from command import Fault, UsageError, complain, read_input, refuse_more, run, take_options, write_output
 from leave_out import OPTION, leave_out, read_rules, tell_idle
 from markup import count_of
 from report import Module, Report, Session, modules_of, read_report
@@ -35,7 +35,7 @@ Row = tuple[Session, Module]
 def share_asked(word: str) -> Fraction:
     """The share of facts that is asked for, of 100."""
     if not re.fullmatch(r"[0-9]{1,3}(\.[0-9]{1,9})?%?", word) or Fraction(word.rstrip("%")) > 100:
-        raise UsageError
+        raise UsageError(f"{FAIL_UNDER} {word} is no share: 0 to 100, as 90, 90% or 90.5")
     return Fraction(word.rstrip("%"))
 
 
@@ -118,8 +118,7 @@ def tell_below(rows: list[Row], totals: Totals, asked: str, share: Fraction) -> 
 
 def main(words: list[str]) -> Optional[int]:
     options, left = take_options(words, (FAIL_UNDER, OPTION), (JSON,))
-    if left:
-        raise UsageError
+    refuse_more(left)
     asked = options.get(FAIL_UNDER)
     share = None if asked is None else share_asked(asked)
     rules = read_rules(options.get(OPTION))

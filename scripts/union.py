@@ -39,6 +39,7 @@ TOP = os.path.dirname(os.path.dirname(os.path.realpath(__file__)))
 # In a checkout, and in an installed copy.
 PROGRAM = f"{TOP}/out/coverage_program" if os.path.exists(f"{TOP}/crates.txt") else f"{TOP}/coverage_program"
 BAD_MARKS, OTHER_TABLE = 10, 11
+VALUED = ("--files-from", "--processes")
 MOST_PROCESSES = 64
 # How many bytes of marks a process gets beside a union: so few that each gets its part soon, and so many that its start
 # costs little. A union has 590,166 bytes at most, and the program reads 16,777,216.
@@ -100,15 +101,17 @@ def read_call(words: Sequence[str]) -> Call:
     """What the words ask for."""
     call, rest = Call(), list(words)
     while rest:
-        word = rest.pop(0)
+        word = take_word(rest, VALUED)
+        if word in VALUED and not rest:
+            raise UsageError(f"{word} lacks the word behind it")
         if word == "-0":
             call.end = b"\0"
-        elif word == "--files-from" and rest:
+        elif word == "--files-from":
             call.sources.append((rest.pop(0), True))
-        elif word == "--processes" and rest and rest[0].isdecimal() and 1 <= int(rest[0]) <= MOST_PROCESSES:
-            call.processes = int(rest.pop(0))
+        elif word == "--processes":
+            call.processes = count_asked(rest.pop(0))
         elif word.startswith("-") and word not in ("-", "--"):
-            raise UsageError
+            raise UsageError(f"{word} is none of its options")
         else:
             names = rest if word == "--" else [word]
             call.sources += [(it, False) for it in names]
@@ -116,6 +119,13 @@ def read_call(words: Sequence[str]) -> Call:
     if not call.sources:
         raise UsageError
     return call
+
+
+def count_asked(word: str) -> int:
+    """The number of processes that is asked for."""
+    if not (word.isascii() and word.isdecimal() and 1 <= int(word) <= MOST_PROCESSES):
+        raise UsageError(f"--processes {word} is no number from 1 to {MOST_PROCESSES}")
+    return int(word)
 
 
 # Reading

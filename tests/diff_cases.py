@@ -6,7 +6,7 @@ import random
 import shutil
 import sys
 
-from harness import TOP, Tally, coverage, equal, folder, refused, run, run_checks, well
+from harness import TOP, Tally, coverage, equal, folder, misused, refused, run, run_checks, well
 from jobs import FACTS, FIRST_REPORT, HEADING, WIDE_HEADING, Program
 from report_cases import COUNTS, ENDED, ENDS, MARKED, NO_LISTING, RETURNED, labelled
 
@@ -166,9 +166,13 @@ def refusals() -> None:
         for name, data in (("a", FIRST_REPORT), ("b", b"BAD JOB LINE 1\n"), ("c", COUNTS), ("d", other), ("e", NO_LISTING)):
             with open(f"{at}/{name}", "wb") as file:
                 file.write(data)
-        late = ["a", "a", "--leave-out", "a"]
-        for words in ([], ["a"], ["a", "a", "a"], ["", "a"], ["--x", "a", "a"], late, ["--leave-out", "a"]):
+        for words in ([], ["a"], ["", "a"], ["--leave-out", "a"]):
             refused(coverage("diff", *words, cwd=at), 1, "usage: coverage diff")
+        for words, said in (
+            (["a", "b", "c"], "c is a word too many"), (["--x", "a", "a"], "--x is none of its options"),
+            (["a", "a", "--leave-out", "a"], "--leave-out stands behind a, and not before it"),
+        ):
+            misused(coverage("diff", *words, cwd=at), "diff", said)
         for words, text in (
             (["a", "b"], "b: line 1: no report"), (["b", "a"], "b: line 1: no report"),
             (["none", "a"], "none: No such file"),

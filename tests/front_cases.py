@@ -17,7 +17,7 @@ from functools import partial
 from typing import Callable, Optional
 
 from build_cases import RT, Copy, ended, wait_for
-from harness import COVERAGE, SECONDS, coverage, equal, folder, interruptible, run
+from harness import COVERAGE, SECONDS, coverage, equal, folder, interruptible, misused, run
 from jobs import COUNTED, FIRST, FIRST_REPORT, FIRST_RESULT, HEADING, TASK, USAGE, Program, Result, listing_of, task
 
 NOT_RETURNED = 80
@@ -302,12 +302,17 @@ def script_words() -> None:
     with folder() as at:
         with open(f"{at}/orders.report", "wb"):
             pass
-        for words in (["page"], ["summary"], ["cobertura"], ["lcov", "f"], ["summary", "--json"]):
-            ran = coverage(*words, "orders.report", cwd=at)
-            equal((ran.status, ran.output), (1, b""))
-            assert ran.error.endswith(f"\ncoverage: did you mean ./coverage {' '.join(words)} < orders.report ?\n"), ran.error
-        ran = coverage("page", "none", cwd=at)
-        assert ran.status == 1 and "did you mean" not in ran.error, ran.error
+        own = ["--leave-out", "orders.report"]
+        for words in (["page"], ["summary"], ["cobertura"], ["lcov", "f"], ["summary", "--json"], ["lcov", *own, "f"], ["page", *own]):
+            misused(coverage(*words, "orders.report", cwd=at), words[0], "orders.report is a word too many", f"{' '.join(words)} < orders.report")
+        # Of these no call comes by another '<'.
+        for words, said in (
+            (["page", "none"], "none is a word too many"), (["page", "none", "orders.report"], "none is a word too many"),
+            (["lcov", "f", *own], "--leave-out stands behind f, and not before it"),
+            (["lcov", "f", *own, "orders.report"], "--leave-out stands behind f, and not before it"),
+            (["summary", "--jsn", "orders.report"], "--jsn is none of its options"),
+        ):
+            misused(coverage(*words, cwd=at), words[0], said)
 
 
 # A program that waits for as long as its input says, and writes what is left of it; it tells the signals that it gets.

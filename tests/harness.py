@@ -153,6 +153,12 @@ def refused(ran: Ran, status: int, *texts: str) -> None:
     assert "Traceback" not in ran.error, ran.error
 
 
+def misused(ran: Ran, command: str, said: str, *meant: str) -> None:
+    """Fails unless a script refused a word with a line that names it, and with the call that was meant behind it where one is given."""
+    lines = [f"{said}: ./coverage {command} --help says which words it has", *(f"did you mean ./coverage {it} ?" for it in meant)]
+    equal((ran.status, ran.output, ran.error), (1, b"", "".join(f"coverage: {it}\n" for it in lines)))
+
+
 def folder() -> tempfile.TemporaryDirectory[str]:
     """A folder that is removed in the end."""
     return tempfile.TemporaryDirectory(prefix="coverage-test-")

@@ -8,7 +8,7 @@ import re
 
 import browser
 from diff_cases import of_rows
-from harness import Tally, coverage, equal, folder, refused, run_checks, well
+from harness import Tally, coverage, equal, folder, misused, refused, run_checks, well
 from jobs import COUNTED, FIRST_REPORT, Program
 from page_cases import Page, browse, folded, size_of
 from report_cases import COUNTS, ENDED, MARKED, RETURNED, ends, labelled
@@ -139,8 +139,11 @@ def against_others() -> None:
             ("other", "coverage: standard input: no listing is of a session and a module that other has too"),
         ):
             refused(coverage("page", "--against", name, data=FIRST_REPORT, cwd=at), 2, text)
-    for words in (["--against"], ["--against", "a", "b"], ["--against", "a", "--against", "a"], ["--new"]):
-        refused(coverage("page", *words, data=FIRST_REPORT), 1, "usage: coverage page")
+    for words, said in (
+        (["--against"], "--against lacks the word behind it"), (["--against", "a", "b"], "b is a word too many"),
+        (["--against", "a", "--against", "a"], "--against stands twice"), (["--new"], "--new is none of its options"),
+    ):
+        misused(coverage("page", *words, data=FIRST_REPORT), "page", said)
 
 
 def left_out() -> None:

@@ -11,7 +11,7 @@ from concurrent.futures import ThreadPoolExecutor
 from typing import Callable, Iterator
 
 import model
-from harness import PROGRAM, SECONDS, TOP, coverage, equal, folder, refused, well
+from harness import PROGRAM, SECONDS, TOP, coverage, equal, folder, misused, refused, well
 from jobs import FIRST, HEADING
 
 sys.path.insert(0, f"{TOP}/scripts")
@@ -261,11 +261,15 @@ def files_of_a_job() -> None:
         refused(coverage("job", "a.cards", "empty", cwd=at), 2, "empty: No such file")
     refused(coverage("job", "-"), 2, "-: is empty")
     refused(coverage("job", "/no/such/file"), 2, "/no/such/file")
-    for words in (
-        [], ["--check", "a", "b"], ["--checks", "a"], ["a", "--check"], ["--help", "a"], ["--services"], ["--services", "a"],
-        ["--check", "a", "--services"], ["--check", "--check"], ["--check", "--services", "--services"],
+    refused(coverage("job"), 1, "usage: coverage job")
+    for words, told in (
+        ("--check a b", "b is a word too many"), ("--checks a", "--checks is none of its options"), ("--help a", "--help is none of its options"),
+        ("a --check", "--check stands behind a, and not before it"), ("--services", "--services stands behind --check alone"),
+        ("--services a", "--services stands behind --check alone"), ("--check a --services", "--services stands behind a, and not before it"),
+        ("--check --check", "--check stands twice"), ("--check --services --services", "--services stands twice"),
+        ("a --x", "--x is none of its options"),
     ):
-        refused(coverage("job", *words), 1, "usage: coverage job")
+        misused(coverage("job", *words.split(" ")), "job", told)
     refused(coverage("job", "-", redirect="</"), 5, "standard input")
     refused(coverage("job", "-", redirect="<&-"), 5, "standard input")
 

@@ -2,7 +2,7 @@
 from __future__ import annotations
 
 from decks import END, ebcdic, esd, item, record, rld, txt
-from harness import TOP, Ran, coverage, equal, folder, refused, well
+from harness import TOP, Ran, coverage, equal, folder, misused, refused, well
 from jobs import FIRST, WIDE_HEADING, Program
 
 SD, LD, ER, CM, WX = 0, 1, 2, 5, 10
@@ -167,8 +167,12 @@ def given_addresses() -> None:
     refused(module_of(deck, given=("SUB=180000", "OTHER=180000")), 2, "OTHER=180000", "no external reference OTHER")
     refused(module_of(deck, given=("SUB=180000", "A=180000")), 2, "A=180000", "no external reference A")
     refused(module_of(bytes(8), given=("SUB=180000",)), 2, "object", "no object deck")
-    for bad in (("SUB=180000", "SUB=180000"), ("SUB=180000", "listing"), ("SUB=180000", "SUB2=18000"), ("listing", "SUB=1800000")):
-        refused(module_of(deck, given=bad), 1, "usage: coverage module")
+    what = "is no SYMBOL=ADDRESS, whose address is six hexadecimal digits"
+    for bad, said in (
+        (("SUB=180000", "SUB=180000"), "SUB=180000 gives a second address"), (("SUB=180000", "listing"), f"listing {what}"),
+        (("SUB=180000", "SUB2=18000"), f"SUB2=18000 {what}"), (("listing", "SUB=1800000"), f"SUB=1800000 {what}"),
+    ):
+        misused(module_of(deck, given=bad), "module", said)
 
 
 def constants() -> None:
@@ -209,8 +213,8 @@ def services() -> None:
     equal(lines[2:], ["SERVICE 0 180017", "SERVICE 35 180012", "SERVICE 254 180000"])
     plain = well(module_of(deck, "180000", None, given[:1])).output.decode().splitlines()
     equal(plain, lines[:2])
-    refused(module_of(deck, "180000", None, given[::-1]), 1, "usage: coverage module")
-    refused(module_of(deck, "180000", None, (*given, "--services")), 1, "usage: coverage module")
+    for words in (given[::-1], (*given, "--services")):
+        misused(module_of(deck, "180000", None, words), "module", "--services stands behind all other words, once")
     refused(module_of(DECK + txt(1, 0, "07FE") + END, given=("--services",)), 2, "object: the deck exports no name of a service", "SVC010")
     refused(module_of(bytes(8), given=("--services",)), 2, "object: no object deck")
     for name, what in (("SVC003", "SVC 3 is a call of the task's own"), ("SVC255", "SVC 255 is the breakpoint's"), ("SVC256", "no SVC 256")):
@@ -272,8 +276,13 @@ def bad_modules() -> None:
     refused(module_of(bytes(8), listing=ebcdic("no heading at all")), 2, "listing", "heading")
     # Bytes that a program has, which looks for decks itself, are no deck.
     text_of(module_of(b"\x18\x54\x58\x54\x00\x00" + DECK[:4] + bytes(100)))
-    for words in ([], ["M"], ["M", "100000"], ["M", "100000", "a", "b", "c"]):
+    for words in ([], ["M"], ["M", "100000"]):
         refused(coverage("module", *words), 1, "usage: coverage module")
+    for words, said in (
+        (["M", "100000", "a", "b", "c"], "c is no SYMBOL=ADDRESS, whose address is six hexadecimal digits"),
+        (["M", "100000", "a", "b", "--strict"], "--strict stands before NAME, once"), (["--x", "M", "100000", "a"], "--x is none of its options"),
+    ):
+        misused(coverage("module", *words), "module", said)
 
 
 def exchanged() -> None:

@@ -6,7 +6,7 @@ import re
 import signal
 import subprocess
 
-from harness import COVERAGE, SECONDS, TOP, coverage, equal, example_report, folder, interruptible, refused, run, well
+from harness import COVERAGE, SECONDS, TOP, coverage, equal, example_report, folder, interruptible, misused, refused, run, well
 from jobs import FIRST_REPORT
 
 EXAMPLES = f"{TOP}/examples"
@@ -18,11 +18,19 @@ def words_and_streams() -> None:
         assert f"usage: coverage {command}".encode() in ran.output and b"not proved" in ran.output
         refused(coverage(command, "--help", redirect=">/dev/full"), 6, "standard output")
     for command in ("page", "summary", "cobertura"):
-        for words in (["x"], ["-h"], ["--leave-out"], ["--leave-out", "a", "--leave-out", "a"], ["--leave-out", "a", "b"]):
-            refused(coverage(command, *words), 1, f"usage: coverage {command}")
-    refused(coverage("lcov"), 1, "usage: coverage lcov")
-    for words in (["a", "b"], [""], ["-h"], ["--output"]):
-        refused(coverage("lcov", *words, data=FIRST_REPORT), 1, "usage: coverage lcov")
+        for words, said in (
+            (["x"], "x is a word too many"), (["-h"], "-h is a word too many"), (["--leave-out"], "--leave-out lacks the word behind it"),
+            (["--leave-out", "a", "--leave-out=b"], "--leave-out stands twice"), (["--leave-out", "a", "b"], "b is a word too many"),
+            (["--leave-outs=a"], "--leave-outs=a is none of its options"), (["x", "--leave-out=a"], "--leave-out=a stands behind x, and not before it"),
+        ):
+            misused(coverage(command, *words), command, said)
+    for words in ([], [""]):
+        refused(coverage("lcov", *words), 1, "usage: coverage lcov")
+    for words, said in (
+        (["a", "b"], "b is a word too many"), (["-h"], "-h is a word too many"), (["--output"], "--output is none of its options"),
+        (["a", "--leave-out", f"{EXAMPLES}/orders.left"], "--leave-out stands behind a, and not before it"),
+    ):
+        misused(coverage("lcov", *words, data=FIRST_REPORT), "lcov", said)
     for words in (["page"], ["summary"], ["cobertura"], ["diff", "-", "-"], ["lcov", "/dev/null/x"]):
         refused(coverage(*words, redirect="</"), 5, "standard input")
         refused(coverage(*words, redirect="<&-"), 5, "standard input")

@@ -6,7 +6,7 @@ import os
 import shutil
 from typing import Any, Optional
 
-from harness import TOP, Tally, coverage, equal, example_report, folder, refused, run, run_checks, well
+from harness import TOP, Tally, coverage, equal, example_report, folder, misused, refused, run, run_checks, well
 from jobs import COUNTED, FIRST_REPORT, Program
 from report_cases import COUNTS, ENDED, MARKED, NO_LISTING, RETURNED, ends, labelled
 
@@ -119,7 +119,9 @@ def shares() -> None:
                 equal(ran.output, well(coverage("summary", data=MARKED)).output)
     equal(coverage("summary", "--fail-under", "100%", data=FIRST_REPORT).status, 0)
     for asked in BAD_SHARES:
-        refused(coverage("summary", "--fail-under", asked, data=MARKED), 1, "usage: coverage summary")
+        told = f"--fail-under {asked} is no share: 0 to 100, as 90, 90% or 90.5"
+        misused(coverage("summary", "--fail-under", asked, data=MARKED), "summary", told)
+    misused(coverage("summary", "--fail-under", "90.5", "%", data=MARKED), "summary", "% is a word too many")
     for data in (NO_LISTING, b"COVERAGE REPORT\nEND\n"):
         told = "has no fact of which --fail-under could ask a share"
         refused(coverage("summary", "--fail-under", "1", data=data), 2, told)

@@ -11,7 +11,7 @@ import time
 from build_cases import Copy
 from checkout import checkout
 from front_cases import Front, on_terminal
-from harness import COVERAGE, PROGRAM, Ran, coverage, equal, folder, interruptible, refused, run, well
+from harness import COVERAGE, PROGRAM, Ran, coverage, equal, folder, interruptible, misused, refused, run, well
 from jobs import COUNTED, Program
 from marks_cases import BOTH, FELL, OTHER_COUNT, WENT
 
@@ -197,18 +197,27 @@ def unreadable() -> None:
 
 
 def words() -> None:
-    """union: words that it doesn't have are refused with its usage, and build nothing; a call that can be answered builds"""
+    """union: words that it doesn't have are refused by what is wrong, and build nothing; a call that can be answered builds"""
     with folder() as at:
         it = Copy(at)
         it.write("a", "")
-        for given in ([], ["-x", "a"], ["a", "-1"], ["--files=a"], ["--help", "a"], ["a", "--processors", "2"]):
-            refused(run([f"{at}/coverage", "union", *given], env=it.env, cwd=at), 1, "usage: coverage union ")
+        refused(run([f"{at}/coverage", "union"], env=it.env, cwd=at), 1, "usage: coverage union ")
+        for given in (["-x", "a"], ["a", "-1"], ["--files=a"], ["--help", "a"], ["a", "--processors", "2"]):
+            wrong = next(word for word in given if word.startswith("-"))
+            misused(run([f"{at}/coverage", "union", *given], env=it.env, cwd=at), "union", f"{wrong} is none of its options")
         well(run([f"{at}/coverage", "union", "--help"], env=it.env, cwd=at))
         equal(it.calls(), [])
         run([f"{at}/coverage", "union", "a"], env=it.env, cwd=at)
         assert it.calls(), "nothing was built"
-    for given in (["--files-from"], ["-0"], *(["--processes", it, "a"] for it in ("0", "65", "x", "", "-1")), ["--processes"], ["--"]):
+    for given in (["-0"], ["--"]):
         refused(coverage("union", *given), 1, "usage: coverage union ")
+    for given in (["--files-from"], ["--processes"]):
+        misused(coverage("union", *given), "union", f"{given[0]} lacks the word behind it")
+    for count in ("0", "65", "x", "", "-1", "\u0661"):
+        misused(coverage("union", "--processes", count, "a"), "union", f"--processes {count} is no number from 1 to 64")
+    with folder() as path:
+        write(path, a=FELL)
+        equal(well(coverage("union", "--processes=2", "--files-from=-", data=f"{path}/a.marks\n".encode())).output, FELL)
 
 
 def installed() -> None:

@@ -6,7 +6,7 @@ from dataclasses import dataclass, replace
 from typing import Callable
 
 from decks import END, esd, item, txt
-from harness import TOP, Ran, coverage, equal, folder, refused, well
+from harness import TOP, Ran, coverage, equal, folder, misused, refused, well
 from jobs import HEADING, WIDE_HEADING
 
 sys.path.insert(0, f"{TOP}/scripts")
@@ -117,8 +117,10 @@ def said_by_module() -> None:
         equal((ran.status, ran.output.split(b"LISTING ")), (0, [cards.split(b"LISTING ")[0], b"%d\n" % len(listing) + bytes_of(listing)]))
         refused(strict, 2)
         equal(strict.error, f"{ran.error}coverage: {LISTED}: --strict refuses what is warned of\n")
-    for words in (["--strict"], ["M", "100000", "--strict"], ["--strict", "--strict", "M", "100000", "o"], ["--stricter", "M", "100000", "o"]):
-        refused(coverage("module", *words), 1, "usage: coverage module")
+    refused(coverage("module", "--strict"), 1, "usage: coverage module")
+    for words in (["M", "100000", "--strict"], ["--strict", "--strict", "M", "100000", "o"], ["--stricter", "M", "100000", "o"]):
+        what = "is none of its options" if words[0] == "--stricter" else "stands before NAME, once"
+        misused(coverage("module", *words), "module", f"{words[0] if what[0] == 'i' else '--strict'} {what}")
 
 
 def without(*numbers: int) -> list[Line]:
