@@ -35,9 +35,17 @@ def read_input(most: int = -1) -> bytes:
     try:
         if sys.stdin is None:
             raise Fault("standard input", "is closed", READ_FAULT)
+        tell_terminal()
         return sys.stdin.buffer.read(most)
     except OSError as error:
         raise Fault("standard input", reason(error), READ_FAULT) from None
+
+
+def tell_terminal() -> None:
+    """Says that a terminal is read from, which looks as if nothing went on."""
+    if sys.stdin.isatty():
+        name = os.path.splitext(os.path.basename(sys.argv[0]))[0]
+        complain(f"coverage: {name} reads standard input, which is the terminal here: {CALLED} {name} --help says what it reads")
 
 
 def write_output(data: bytes) -> None:

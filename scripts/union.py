@@ -16,7 +16,7 @@ from concurrent.futures import ThreadPoolExecutor, wait
 from dataclasses import dataclass, field
 from typing import BinaryIO, Iterator, Optional, Sequence
 
-from command import BAD_INPUT, Fault, INTERRUPTED, READ_FAULT, UsageError, read_file, reason, run, write_output
+from command import BAD_INPUT, Fault, INTERRUPTED, READ_FAULT, UsageError, read_file, reason, run, take_word, tell_terminal, write_output
 from why import bad_marks, other_table
 
 USAGE = """\
@@ -140,6 +140,8 @@ def opened(name: str) -> Iterator[BinaryIO]:
         with contextlib.nullcontext(sys.stdin.buffer) if is_input else open(name, "rb") as file:
             if is_output(file):
                 raise OSError("is the file that standard output goes to, which has so been emptied")
+            if is_input:
+                tell_terminal()
             yield file
     except (OSError, ValueError) as error:
         place, status = ("standard input", READ_FAULT) if is_input else (name, BAD_INPUT)

@@ -2,6 +2,7 @@
 from __future__ import annotations
 
 import os
+import pty
 import re
 import signal
 import subprocess
@@ -43,6 +44,33 @@ def words_and_streams() -> None:
     refused(coverage("module", "M", "100000", f"{EXAMPLES}/orders.object", redirect=">/dev/full"), 6, "standard output")
     refused(coverage("job", "-", data=b"PHASE P\n", redirect=">/dev/full"), 6, "standard output")
     refused(coverage("lcov", "/dev/null/x", data=FIRST_REPORT), 6, "/dev/null/x")
+
+
+def values_behind_equals() -> None:
+    """scripts: an option's value may stand behind = too"""
+    left = f"{EXAMPLES}/orders.left"
+    report = example_report("orders")
+    with folder() as at:
+        with open(f"{at}/old", "wb") as file:
+            file.write(report)
+        for words in ("summary --fail-under 1 --leave-out LEFT", "page --against old --leave-out LEFT", "diff --leave-out LEFT old -"):
+            parted = re.sub("(--[a-z-]+) ", r"\1=", words)
+            one, other = (well(coverage(*it.replace("LEFT", left).split(), data=report, cwd=at)).output for it in (words, parted))
+            equal((one == other, bool(one)), (True, True))
+
+
+def reads_a_terminal() -> None:
+    """scripts: one that waits for a terminal says so"""
+    for words in (["summary"], ["page"], ["job", "-"], ["job", "--check"], ["union", "-"]):
+        master, slave = pty.openpty()
+        started = subprocess.Popen([COVERAGE, *words], stdin=slave, stdout=subprocess.PIPE, stderr=subprocess.PIPE, text=True)
+        os.close(slave)
+        said = f"coverage: {words[0]} reads standard input, which is the terminal here: ./coverage {words[0]} --help says what it reads\n"
+        assert started.stderr
+        equal(started.stderr.readline(), said)
+        started.kill()
+        started.communicate(timeout=SECONDS)
+        os.close(master)
 
 
 def interrupted() -> None:
@@ -155,4 +183,4 @@ def tariff() -> None:
     assert b"\nNOT EXECUTED 0000AE-0000B7\n" in report
 
 
-CHECKS = [words_and_streams, interrupted, examples_are_made, example_jobs, orders, palindromes, tariff]
+CHECKS = [words_and_streams, values_behind_equals, reads_a_terminal, interrupted, examples_are_made, example_jobs, orders, palindromes, tariff]
