@@ -24,6 +24,7 @@ from job_rules import Place, Reader
 INPUT_LIMIT, SHOWN = 16_777_216, 3
 NAME = re.compile(r"[A-Z@#$][A-Z@#$0-9]{0,7}")
 # The commands that the word `services` may stand before.
+OPTIONS = ("--must-return",)
 SERVED = ("run", "marks", "show", "table", "count", "ends")
 OTHER_TEXTS = ((b"COVERAGE ", "a report or another output of ./coverage"), (b"S370COV", "a marks file"), (b"S370EVD", "evidence"))
 
@@ -301,13 +302,21 @@ def no_session(_line: str, data: Optional[bytes], words: list[str]) -> list[str]
 
 def other_words(usages: dict[str, str], words: list[str]) -> list[str]:
     """The call that was meant, by the files among the words, by a word that is nearly a command, or by a name in small letters."""
-    front = words[:1] if words[:1] == ["services"] and words[1:2] and words[1] in SERVED else []
+    front = words[:1] if words[:1] == ["services"] and words[1:2] else []
     words = words[len(front) :]
     first = words[0] if words else ""
+    if front and first not in SERVED:
+        near = difflib.get_close_matches(first.lower(), SERVED, 1)
+        meant = f": did you mean services {near[0]}?" if near else ""
+        return [f"behind services stands none but {', '.join(SERVED)}{meant}"]
     if first not in usages:
         known = [*usages, "--help", "--version"]
         near = difflib.get_close_matches(first.lower(), known, 1)
         return [f"did you mean ./coverage {near[0]}{usages.get(near[0], '')} ?"] if near else []
+    wrong = next((it for it in words[1:] if it.startswith("-")), None)
+    if wrong is not None:
+        near = difflib.get_close_matches(wrong, OPTIONS, 1)
+        return [f"the word {wrong} is none of its options" + (f": did you mean {near[0]}?" if near else "")]
     files = [it for it in words[1:] if os.path.isfile(it)]
     others = [it for it in words[1:] if it not in files]
     names = re.findall(r"^ ([A-Z][A-Z ]*?)(?= <| >|$)", usages[first])

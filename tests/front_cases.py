@@ -71,6 +71,7 @@ def of_job(name: str, words: list[str], data: bytes, status: int, line: str, *sa
 def words_meant() -> list[Row]:
     """Files where there should be '<', words that are nearly a command, and names that are none."""
     job, both = ("cust.job",), ("cust.job", "a.marks")
+    served = "behind services stands none but run, marks, show, table, count, ends"
     name = "1 to 8 of A to Z, @, #, $ and, behind the first, digits"
     return [
         meant(["run", "cust.job"], "did you mean ./coverage run < cust.job ?", files=job),
@@ -91,7 +92,11 @@ def words_meant() -> list[Row]:
         meant(["combin"], "did you mean ./coverage combine < MARKS-FILES > MARKS ?"),
         meant(["modul"], "did you mean ./coverage module [--strict] NAME BASE OBJECT [LISTING] [SYMBOL=ADDRESS ..] [--services] > CARDS ?"),
         meant(["services"], "its call is ./coverage services COMMAND < INPUT > OUTPUT"),
-        meant(["services", "prove", "S"], "its call is ./coverage services COMMAND < INPUT > OUTPUT"),
+        meant(["services", "prove", "S"], served),
+        meant(["services", "shwo", "S"], f"{served}: did you mean services show?"),
+        meant(["services", "union", "--files-from", "cust.job"], served, files=job),
+        meant(["services", "run", "--must-retrun"], "the word --must-retrun is none of its options: did you mean --must-return?"),
+        meant(["ends", "-x", "cust.job"], "the word -x is none of its options", files=job),
         meant(["services", "run", "cust.job"], "did you mean ./coverage services run < cust.job ?", files=job),
         meant(["services", "show", "S", "cust.job", "a.marks"], "did you mean cat cust.job a.marks | ./coverage services show S ?", files=both),
         meant(["services", "marks", "orders"], f"orders is no name: {name}: did you mean ORDERS?"),
