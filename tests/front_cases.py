@@ -320,6 +320,30 @@ def script_words() -> None:
             misused(coverage(*words, cwd=at), words[0], said)
 
 
+def help_of_commands() -> None:
+    """coverage: --help behind a command of the program writes what the help says of it; a disk that is full is told once"""
+    whole = coverage("--help").output.decode()
+    calls = dict(re.findall(r"^(?:usage:|      ) coverage ([a-z]+)(.*)$", whole.partition("       coverage module")[0], re.M))
+    for name, call in calls.items():
+        (own,) = re.findall(rf"^  {name} .*\n(?:    .*\n)*", whole, re.M)
+        for words in ([name], ["services", name]):
+            shown = coverage(*words, "--help").output.decode()
+            if name not in ("run", "exits", "early", "services") and words == [name]:
+                equal(shown, f"usage: coverage {name}{call}\n\n{own}")
+            elif words == [name]:
+                assert shown.startswith(f"usage: coverage {name}{call}\n\n{own}  --must-return "), shown
+            else:
+                equal(shown, coverage("services", "--help").output.decode())
+    equal(len(calls), 14)
+    equal(coverage("marks", "S", "--help").output, coverage("marks", "--help").output)
+    equal(coverage("runs", "--help").status, 1)
+    for words in ([], ["--help"], ["--version"], ["run", "--help"]):
+        for redirect in (">/dev/full", ">&-"):
+            ran = coverage(*words, redirect=redirect)
+            said = "coverage: standard output could not be written whole: its disk is full, or it is closed\n"
+            equal((words, ran.status, ran.error), (words, 6, said))
+
+
 # A program that waits for as long as its input says, and writes what is left of it; it tells the signals that it gets.
 PRETENDED = """#!/usr/bin/env python3
 import os, signal, sys, time
@@ -543,7 +567,7 @@ def unbuilt_words() -> None:
 
 ROWS = [*words_meant(), *cards_refused(), *listings_refused(), *marks_refused()]
 CHECKS = [
-    *map(of_row, ROWS), into_pipe, appended, streams, must_return, must_return_streams, script_words, statuses_and_signals,
+    *map(of_row, ROWS), into_pipe, appended, streams, must_return, must_return_streams, script_words, help_of_commands, statuses_and_signals,
     ignored_signal, no_python, progress, no_progress, keys_and_background, typed,
     refused_on_terminal, unbuilt_words,
 ]
