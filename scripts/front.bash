@@ -196,7 +196,9 @@ meaning() {
   3:*) echo 'the module has other bytes there than its listing says: docs/TROUBLE.md' ;;
   4:'TOO LARGE PLACES'*) echo 'the job has too many instruction lines: docs/JOB.md, "Limits"' ;;
   4:*) echo 'the input passes a limit: docs/JOB.md, "Limits"' ;;
-  5:*) echo 'standard input could not be read: it is closed, or a folder, or its disk fails: docs/REPORT.md' ;;
+  5:*)
+    if [ -d /dev/fd/0 ]; then echo 'standard input is a folder'; else echo 'standard input could not be read: it is closed, or its disk fails: docs/REPORT.md'; fi
+    ;;
   6:*) echo 'standard output could not be written whole: its disk is full, or its reader has ended: docs/REPORT.md' ;;
   7:*) echo 'there was too little memory for it: docs/TROUBLE.md' ;;
   8:*) echo "that instruction is SVC 255, the breakpoint's own, which no listing may have: docs/MACHINE.md" ;;

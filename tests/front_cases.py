@@ -258,10 +258,10 @@ def appended() -> None:
 
 def streams() -> None:
     """coverage: an input that can't be read, and an output that can't be written"""
-    read = "status 5: standard input could not be read: it is closed, or a folder, or its disk fails: docs/REPORT.md"
+    read = "status 5: standard input could not be read: it is closed, or its disk fails: docs/REPORT.md"
     written = "standard output could not be written whole: its disk is full, or its reader has ended: docs/REPORT.md"
     for redirect, status, output, said in (
-        ("</", 5, b"READ FAULT\n", read), ("<&-", 5, b"READ FAULT\n", read), (">/dev/full", 6, b"", written), (">&-", 6, b"", written),
+        ("</", 5, b"READ FAULT\n", "status 5: standard input is a folder"), ("<&-", 5, b"READ FAULT\n", read), (">/dev/full", 6, b"", written), (">&-", 6, b"", written),
     ):
         ran = coverage("run", data=FIRST.job(), redirect=redirect)
         equal((redirect, ran.status, ran.output, ran.error), (redirect, status, output, f"coverage: {said}\n"))

@@ -393,7 +393,7 @@ def streams() -> list[Case]:
         Case("a closed input", ["run"], b"", b"READ FAULT\n", 5, redirect="<&-"),
         Case("a closed output", ["run"], job, b"", 6, redirect=">&-"),
         Case("no memory", ["run"], large_job(), b"NO MEMORY\n", 7, before="ulimit -v 40000"),
-        Case("a folder as input by the script", ["run"], b"", b"READ FAULT\n", 5, "standard input could not be read", "</", command=COVERAGE),
+        Case("a folder as input by the script", ["run"], b"", b"READ FAULT\n", 5, "standard input is a folder", "</", command=COVERAGE),
     ]
 
 
