@@ -49,6 +49,8 @@ RUNS = {
     b"D": (re.compile(rb"(?:DATA [0-9]{1,9} %s)+" % DIGITS), re.compile(rb"DATA (0|[1-9][0-9]{0,8}) %s" % DIGITS)),
 }
 LOWER_FORM = re.compile(rb"(?:INPUT|DATA [^ ]*) (TEXT|TEXT-ASCII|FILE|PACKED|FULL)(?= |$)", re.I)
+# A word where a form would stand, with more behind it, that isn't digits.
+OTHER_FORM = re.compile(rb"(?:INPUT|DATA [0-9]+) (?![0-9A-Fa-f]+ )([A-Za-z][A-Za-z-]*) ")
 # A line of a listing is as long as its bytes without one CR before its LF.
 TOO_LONG = re.compile(rb"^(?![^\n]{%d}\r\n)[^\n]{%d}" % (LIMITS["LINE"], LIMITS["LINE"] + 1), re.M)
 
@@ -187,10 +189,15 @@ def check_piece_card(place: Place, line: bytes) -> None:
     if word in ("COVERJOB", "ENDJOB"):
         why = "this card stands around all files, and job writes it itself; --check reads a whole job"
         raise Refused(place, word, Broken(why))
+    if FORM.fullmatch(line):
+        return
     form = LOWER_FORM.match(line)
-    if form and not FORM.fullmatch(line):
+    if form:
         name = form[1].decode()
         raise Refused(place, word, Broken(f"the form {name} is in lower case; it is {name.upper()}"))
+    form = OTHER_FORM.match(line)
+    if form:
+        raise Refused(place, word, Broken(f"{form[1].decode()} is no form of data: they are TEXT, TEXT-ASCII, PACKED, FULL and FILE"))
 
 
 def single_lines(reader: Reader, lines: Lines) -> Iterator[tuple[int, Place, bytes]]:

@@ -32,6 +32,7 @@ BAD_FORMS = [
     ("TEXT 'A'\r", "no card: a CR ends the line; lines end with LF alone"),
     ("text 'A'", "the form text is in lower case; it is TEXT"),
     ("Full 1", "the form Full is in lower case; it is FULL"),
+    ("HALF 5", "HALF is no form of data: they are TEXT, TEXT-ASCII, PACKED, FULL and FILE"),
     ("PACKED 123", "PACKED has a value and its length in bytes, as PACKED -123 5"),
     ("PACKED", "PACKED has a value and its length in bytes, as PACKED -123 5"),
     ("PACKED 123 2 3", "PACKED has a value and its length in bytes, as PACKED -123 5"),
