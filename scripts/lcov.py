@@ -1,7 +1,9 @@
 """Makes a report, or counts, a tracefile, with each listing as a file."""
 from __future__ import annotations
 
+import contextlib
 import os
+import re
 import sys
 
 from command import Fault, UsageError, WRITE_FAULT, read_input, reason, refuse_more, run, take_options, write_file
@@ -22,7 +24,8 @@ The names are the same for every run, whatever FOLDER is, so that tracefiles of 
 
   lcov --rc lcov_branch_coverage=1 -a ONE/coverage.info -a OTHER/coverage.info -o ALL.info
 
-genhtml takes ALL.info likewise, in either folder. In names of files the characters @, # and $ are a, n and d.
+genhtml takes ALL.info likewise, in either folder. Listings that an earlier call has written into FOLDER, and this one
+hasn't, are taken away. In names of files the characters @, # and $ are a, n and d.
 
 Each session is a test of the tracefile. Each instruction line is a line of it, executed or not: a report counts no
 executions, so that counts are 0 and 1. Each line of a conditional branch has two branches, taken and not taken. Each
@@ -35,6 +38,9 @@ function. The places that FILE names count nowhere (docs/SUMMARY.md): they are n
 What is no report is refused by its line on standard error; then the status is 2, and nothing is written. This script
 is not proved.
 """
+TRACEFILE = "coverage.info"
+# A file that file_of names, in a tracefile.
+LISTED = re.compile(rb"^SF:([A-Zand0-9]{1,8}/[A-Zand0-9]{1,8}\.lst)$", re.M)
 # Names have capital letters alone, so that these small ones make no two names the same.
 IN_FILES = str.maketrans({"@": "a", "#": "n", "$": "d"})
 
@@ -118,6 +124,20 @@ def make_folder(path: str) -> None:
         raise Fault(path, reason(error), WRITE_FAULT) from None
 
 
+def take_away(folder: str, kept: set[str]) -> None:
+    """Takes the listings away that an earlier tracefile of the folder names, but those that are kept."""
+    try:
+        with open(os.path.join(folder, TRACEFILE), "rb") as file:
+            named = {it.decode() for it in LISTED.findall(file.read())}
+    except OSError:
+        return
+    for it in named - kept:
+        path = os.path.join(folder, it)
+        with contextlib.suppress(OSError):
+            os.remove(path)
+            os.rmdir(os.path.dirname(path))
+
+
 def main(words: list[str]) -> None:
     options, folders = take_options(words, (OPTION,))
     # A word like -h is meant for an option, which there is none of.
@@ -129,11 +149,12 @@ def main(words: list[str]) -> None:
     found = listings_of(report)
     idle = leave_out(report, rules)
     tracefile = [line for session, it in found for line in record(session, it)]
+    take_away(folder, {file_of(session, it) for session, it in found})
     for session, module in found:
         path = os.path.join(folder, file_of(session, module))
         make_folder(os.path.dirname(path))
         write_file(path, b"".join(it.text + b"\n" for it in module.lines))
-    write_file(os.path.join(folder, "coverage.info"), "".join(f"{it}\n" for it in tracefile).encode("ascii"))
+    write_file(os.path.join(folder, TRACEFILE), "".join(f"{it}\n" for it in tracefile).encode("ascii"))
     tell_idle(idle)
 
 

@@ -81,6 +81,17 @@ def lcov_files() -> None:
                 equal(file.read().splitlines(), program.listing())
             with open(f"{at}/out/coverage.info", encoding="ascii") as file:
                 equal(file.read(), wanted.format(*counts))
+    # The listings of an earlier call, and nothing else, are taken away.
+    report = COUNTED.report([], "V:", 3)
+    with folder() as at:
+        for session in (b"SESSION OLD ", b"SESSION KEPT ", b"SESSION S "):
+            well(coverage("lcov", "out", data=report.replace(b"SESSION S ", session), cwd=at))
+            for name in os.listdir(f"{at}/out") if session.endswith(b"KEPT ") else ():
+                if name == "KEPT":
+                    with open(f"{at}/out/KEPT/M.text", "w", encoding="ascii"):
+                        pass
+        equal(sorted(os.listdir(f"{at}/out")), ["KEPT", "S", "coverage.info"])
+        equal(os.listdir(f"{at}/out/KEPT"), ["M.text"])
     with folder() as at:
         refused(coverage("lcov", f"{at}/out", data=b"COVERAGE REPORT\nEND\n"), 2, "standard input", "no listing")
         refused(coverage("lcov", f"{at}/out", data=b"COVERAGE COUNT\nEND\n"), 2, "standard input", "no listing")
