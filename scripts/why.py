@@ -22,6 +22,7 @@ from cards import Broken
 from job_rules import Place, Reader
 
 INPUT_LIMIT, SHOWN = 16_777_216, 3
+FACTS = {"R": "was executed", "W": "branched", "S": "fell through"}
 NAME = re.compile(r"[A-Z@#$][A-Z@#$0-9]{0,7}")
 # The commands that the word `services` may stand before.
 OPTIONS = ("--must-return",)
@@ -40,10 +41,11 @@ class Module:
 
 @dataclass
 class Job:
-    """What a job's cards say, as far as they can be read: its modules, its sessions, and the lines up to its ENDJOB card."""
+    """What a job's cards say, as far as they can be read: its modules, its sessions with the names of theirs, and the lines up
+    to its ENDJOB card."""
 
     modules: list[Module] = field(default_factory=list)
-    sessions: list[str] = field(default_factory=list)
+    sessions: dict[str, list[str]] = field(default_factory=dict)
     lines: int = 0
     has_end: bool = False
 
@@ -76,7 +78,7 @@ def read_job(data: bytes) -> Job:
             job.modules[-1].listing = [it[:-1] if it.endswith(b"\r") else it for it in lines[at : at + count]]
             at += count
         elif words[0] == "SESSION" and len(words) > 1:
-            job.sessions.append(words[1])
+            job.sessions[words[1]] = words[4:] if words[2:3] == ["BY"] else words[2:]
         job.has_end = words == ["ENDJOB"]
     job.lines = at
     return job
@@ -291,9 +293,27 @@ def bad_marks(line: str, data: Optional[bytes], words: list[str]) -> list[str]:
     return []
 
 
+def refuted(line: str, data: Optional[bytes], words: list[str]) -> list[str]:
+    """What the row and the fact are that are refuted."""
+    found = re.fullmatch(r"REFUTED ROW ([0-9]+) FACT ([RWS])", line)
+    if data is None or not found:
+        return []
+    job, left = read_job(data), int(found[1])
+    for it in (module for name in job.sessions.get(words[-1], []) for module in job.modules if module.name == name):
+        # The module's own row stands before those of its places (docs/MARKS.md).
+        places = sorted(instructions(it.listing or []), key=lambda code: code.location)
+        if 0 < left <= len(places) and it.listing:
+            at, heading = places[left - 1], listing.heading_of(it.listing)
+            text = it.listing[at.line - 1][heading.shift + heading.columns.source :] if heading else b""
+            where = f"location {at.location:06X} of {it.name}, line {at.line} of its listing"
+            return [f"row {found[1]} is {where}, {shown(text.strip())}; the fact is whether it {FACTS[found[2]]}"]
+        left -= 1 + len(places)
+    return []
+
+
 def no_session(_line: str, data: Optional[bytes], words: list[str]) -> list[str]:
     """The sessions that the job has."""
-    names = read_job(data).sessions if data is not None else []
+    names = list(read_job(data).sessions) if data is not None else []
     if not names:
         return []
     near = difflib.get_close_matches(words[-1], names, 1)
@@ -332,7 +352,7 @@ def other_words(usages: dict[str, str], words: list[str]) -> list[str]:
 
 
 REASONS: dict[int, Callable[[str, Optional[bytes], list[str]], list[str]]] = {
-    2: bad_job, 3: mismatch, 9: bad_schedule, 10: bad_marks, 11: other_table, 12: bad_listing, 13: no_session,
+    2: bad_job, 3: mismatch, 9: bad_schedule, 10: bad_marks, 11: other_table, 12: bad_listing, 13: no_session, 16: refuted,
 }
 
 

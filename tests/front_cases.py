@@ -25,6 +25,7 @@ NO_COMMAND = "the words are none of its commands: ./coverage alone says which th
 NO_JOB = "no job goes on with that line, or the input ends before its job does: docs/JOB.md"
 OTHER_BYTES = "the module has other bytes there than its listing says: docs/TROUBLE.md"
 NO_MARKS = "the bytes there are no marks file, or one that is cut short or damaged: docs/MARKS.md"
+REFUTED = "marks, evidence and what the job's tasks show do not agree at that row and fact: docs/EVIDENCE.md"
 ANEW = "the module was assembled anew between the two: marks are of one assembly alone"
 OTHER_MARKS = "the marks are of other modules, or of another assembly of them: docs/MARKS.md"
 
@@ -203,6 +204,11 @@ def marks_refused() -> list[Row]:
         line = f"OTHER TABLE ROW 0 LEFT {second} RIGHT {right}"
         return of_job(f"marks of {name}", ["combine"], data, 11, line, OTHER_MARKS, "the first file: module M at 100000, 6 bytes, 2 instruction lines", *said)
 
+    def refuted(name: str, sets: bytes, counts: tuple[int, ...], line: str, *said: str) -> Row:
+        proof = b"S370EVD1" + b"".join(bytes([0, 0, 0, 0, 0, it, 0]) for it in counts)
+        data = COUNTED.job(task("REG 1 00000003")) + sets + proof
+        return of_job(name, ["verify", "S"], data, 16, f"REFUTED {line}", REFUTED, *said)
+
     return [
         table("another base", marks + base, "4D20202020202020001800000000000600000002",
               "a later file: module M at 180000, 6 bytes, 2 instruction lines",
@@ -219,6 +225,10 @@ def marks_refused() -> list[Row]:
         of_job("no marks behind a job", ["show", "S"], job, 10, "BAD MARKS OFFSET 0", NO_MARKS,
                "nothing stands behind the job: cat JOB MARKS | ./coverage show S"),
         of_job("a job for marks", ["combine"], job, 10, "BAD MARKS OFFSET 0", NO_MARKS, "what stands there is a job"),
+        refuted("a branch that marks lack", COUNTED.marks_file(2, 1), (0, 3), "ROW 1 FACT S",
+                "row 1 is location 000000 of M, line 2 of its listing, 'BCT'; the fact is whether it fell through"),
+        refuted("an instruction that marks lack", COUNTED.marks_file(6, 0), (0, 2), "ROW 2 FACT R",
+                "row 2 is location 000004 of M, line 3 of its listing, 'BR'; the fact is whether it was executed"),
         of_job("marks that are cut", ["combine"], marks[:-1], 10, f"BAD MARKS OFFSET {len(marks) - 1}", NO_MARKS,
                "the input ends there: a file is cut short"),
         of_job("no evidence behind marks", ["verify", "S"], job + COUNTED.marks_file(4, 1), 15, "BAD EVIDENCE OFFSET 0",
