@@ -37,7 +37,7 @@ LOOSE = re.compile(
 class Row:
     """A line: its number, whether it is an instruction line, its location, and from there on the bytes that stand on it,
     None where it doesn't say how many; its statement number, and its statement behind that. `amiss` says why a line that
-    looks like an instruction's is none."""
+    looks like an instruction's is none; whether a macro has generated the statement comes last."""
 
     number: int
     is_instruction: bool = False
@@ -46,6 +46,7 @@ class Row:
     statement: Optional[int] = None
     source: str = ""
     amiss: str = ""
+    is_generated: bool = False
 
     def name(self) -> str:
         """The name of the statement; empty where it has none."""
@@ -95,6 +96,7 @@ def row_of(number: int, line: bytes, heading: Heading) -> Row:
     statement, code = padded[columns.statement].strip(" "), padded[columns.object_code]
     is_numbered = re.fullmatch("[0-9]{1,5}", statement) is not None
     row = Row(number, source=padded[columns.source :], statement=int(statement) if is_numbered else None)
+    row.is_generated = padded[columns.source - 1] == "+"
     found, location = object_code(line, heading), padded[columns.location]
     if found is not None and read_operation(row.source) in OPERATIONS:
         row.is_instruction, row.location, row.size = True, found[0], whole_code(code) or len(code.replace(" ", "")) // 2

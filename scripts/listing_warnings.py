@@ -14,6 +14,8 @@ from listing_rows import DIRECTIVES, Row, rows_of
 PAGE = re.compile(rb"(?:^|.* )page *([0-9]{1,5}) *", re.I)
 SECTIONS, OTHER_SECTIONS = ("CSECT", "RSECT", "START"), ("DSECT", "COM")
 END_OF_ADDRESSES = 1 << 32
+# The calls that GETMAIN and FREEMAIN of some forms make, and what they do here (docs/MACHINE.md).
+SESSION_CALLS = {4: "opens a controlled session here, and gives no storage", 5: "closes a controlled session here, and frees no storage"}
 # How many lines or ranges of one kind are told each by itself.
 MOST = 5
 
@@ -41,7 +43,7 @@ def warnings_of(path: str, lines: list[bytes], text: bytes, ranges: Ranges) -> l
         return []
     rows = rows_of(lines, heading)
     again = second_section(rows)
-    found = [*page_jumps(lines, heading), *not_read(rows), *again]
+    found = [*page_jumps(lines, heading), *not_read(rows), *other_calls(rows, text), *again]
     if not any(it.operation() == "END" and it.statement is not None for it in rows):
         found.append(": no line has the statement END: the listing may be cut")
     if not again:
@@ -79,8 +81,26 @@ def not_read(rows: list[Row]) -> Iterator[str]:
         if it.amiss:
             causes.setdefault(it.amiss, []).append(it.number)
     for cause, numbers in causes.items():
-        more = f"; likewise {len(numbers) - 1} more, the last of them line {numbers[-1]}" if len(numbers) > 1 else ""
-        yield f": line {numbers[0]}: no instruction line, so that it bears no mark: {cause}{more}"
+        yield f": line {numbers[0]}: no instruction line, so that it bears no mark: {cause}{likewise(numbers)}"
+
+
+def likewise(numbers: list[int]) -> str:
+    """How many lines more have a cause, beside the first."""
+    return f"; likewise {len(numbers) - 1} more, the last of them line {numbers[-1]}" if len(numbers) > 1 else ""
+
+
+def other_calls(rows: list[Row], text: bytes) -> Iterator[str]:
+    """The supervisor calls of macros that are task calls here, and do something else; those of one macro together."""
+    found, macro = dict[tuple[int, str], list[int]](), ""
+    for it in rows:
+        macro = macro if it.is_generated else macro_of(it) or macro
+        code = text[it.location : it.location + 2] if it.is_generated and it.location is not None else b""
+        number = int.from_bytes(code[1:], "big")
+        if it.is_instruction and code[:1] == b"\x0a" and number in SESSION_CALLS:
+            found.setdefault((number, macro), []).append(it.number)
+    for (number, name), numbers in found.items():
+        whose = f"of the macro {name}" if name else "of a macro"
+        yield f": line {numbers[0]}: SVC {number} {whose} {SESSION_CALLS[number]}{likewise(numbers)}"
 
 
 def second_section(rows: list[Row]) -> list[str]:

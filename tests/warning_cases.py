@@ -261,4 +261,37 @@ def columns_off() -> None:
     warns(cut, f"line 6: {NONE}it ends before its operation; likewise 5 more, the last of them line 22", NO_END)
 
 
-CHECKS = [said_by_module, nothing_to_warn_of, constants_of_other_lengths, lost_lines, not_printed, sections_again, columns_off]
+# Calls of macros, of which those of sessions are warned of, beside such that stand in the program itself.
+CALLS = lines_of(
+    """
+1 000000 - PROG     CSECT
+2 - -          GETMAIN EU,LV=8,A=PLACE
+3+ 000000 0A04          SVC   4
+4 - - NAME     FREEMAIN E,LV=8,A=PLACE
+5+ 000002 0A05          SVC   5
+6 - -          GETMAIN EU,LV=8,A=PLACE
+7+ 000004 0A04          SVC   4
+8 000006 0A04          SVC   4
+9 000008 0A05          SVC   5
+10 - -          GETMAIN R,LV=8
+11+ 00000A 0A0A          SVC   10
+12 - -          ONE
+13+ 00000C 0A01          SVC   1
+14 00000E 07FE          BR    14
+15 - -          END   PROG
+"""
+)
+
+
+def calls_of_macros() -> None:
+    """module: SVC 4 and 5 that macros generate are warned of, since they open and close sessions here"""
+    data = bytes.fromhex("0A040A050A040A040A050A0A0A0107FE")
+    opens = "line 4: SVC 4 of the macro GETMAIN opens a controlled session here, and gives no storage; likewise 1 more, the last of them line 8"
+    closes = "line 6: SVC 5 of the macro FREEMAIN closes a controlled session here, and frees no storage"
+    for is_wide, heading in ((False, HEADING), (True, WIDE_HEADING)):
+        for before in ("", " "):
+            warns([before + it for it in (heading, *(it.text(is_wide) for it in CALLS))], opens, closes, data=data)
+    warns([HEADING, CALLS[0].text(), *(it.text() for it in CALLS[7:])], f"000000-000005: 6 bytes {BARE}: statements 2 to 7 are missing behind line 2", data=data)
+
+
+CHECKS = [said_by_module, nothing_to_warn_of, calls_of_macros, constants_of_other_lengths, lost_lines, not_printed, sections_again, columns_off]
