@@ -1,4 +1,5 @@
-//! The frequent operations on bytes, fields and several registers, each a call in a frame of its own.
+//! The frequent operations on bytes, fields and several registers: those on one byte where all operations are told apart, the others
+//! each a call in a frame of its own.
 ghost use Rattle.s370_exec.specs.Does.{CarriesOut};
 ghost use Rattle.s370_exec.specs.Meaning.{effect};
 
@@ -46,9 +47,9 @@ pub(crate) fn load_multiple_apart<P: Space>(
 }
 
 /// IC.
-#[inline(never)]
+#[inline(always)]
 #[tactic(auto, unfolding(crate::specs::Meaning::effect))]
-pub(crate) fn insert_character_apart<P: Space>(
+pub(crate) fn insert_character_onward<P: Space>(
     cpu: &mut Cpu,
     space: &mut P,
     code: &Code,
@@ -62,9 +63,9 @@ pub(crate) fn insert_character_apart<P: Space>(
 }
 
 /// STC.
-#[inline(never)]
+#[inline(always)]
 #[tactic(auto, unfolding(crate::specs::Meaning::effect))]
-pub(crate) fn store_character_apart<P: Space>(
+pub(crate) fn store_character_onward<P: Space>(
     cpu: &mut Cpu,
     space: &mut P,
     code: &Code,
@@ -78,9 +79,9 @@ pub(crate) fn store_character_apart<P: Space>(
 }
 
 /// MVI.
-#[inline(never)]
+#[inline(always)]
 #[tactic(auto, unfolding(crate::specs::Meaning::effect))]
-pub(crate) fn move_immediate_apart<P: Space>(
+pub(crate) fn move_immediate_onward<P: Space>(
     cpu: &mut Cpu,
     space: &mut P,
     code: &Code,
@@ -94,9 +95,9 @@ pub(crate) fn move_immediate_apart<P: Space>(
 }
 
 /// CLI.
-#[inline(never)]
+#[inline(always)]
 #[tactic(auto, unfolding(crate::specs::Meaning::effect))]
-pub(crate) fn compare_immediate_apart<P: Space>(
+pub(crate) fn compare_immediate_onward<P: Space>(
     cpu: &mut Cpu,
     space: &mut P,
     code: &Code,
@@ -110,9 +111,9 @@ pub(crate) fn compare_immediate_apart<P: Space>(
 }
 
 /// TM.
-#[inline(never)]
+#[inline(always)]
 #[tactic(auto, unfolding(crate::specs::Meaning::effect))]
-pub(crate) fn test_under_mask_apart<P: Space>(
+pub(crate) fn test_under_mask_onward<P: Space>(
     cpu: &mut Cpu,
     space: &mut P,
     code: &Code,

@@ -11,14 +11,14 @@ ghost use Rattle.s370_exec.specs.Effects.{effect_of, next_of, executed, is_plain
 
 use crate::calls::task_call;
 use crate::fields::{
-    compare_fields_apart, compare_immediate_apart, insert_character_apart, load_multiple_apart,
-    move_characters_apart, move_immediate_apart, store_character_apart, store_multiple_apart,
-    test_under_mask_apart,
+    compare_fields_apart, compare_immediate_onward, insert_character_onward, load_multiple_apart,
+    move_characters_apart, move_immediate_onward, store_character_onward, store_multiple_apart,
+    test_under_mask_onward,
 };
 use crate::stored::{
-    add_half_apart, add_logical_word_apart, add_word_apart, compare_half_apart, compare_word_apart,
-    load_half_apart, store_half_apart, subtract_half_apart, subtract_logical_word_apart,
-    subtract_word_apart,
+    add_half_apart, add_logical_word_apart, add_word_onward, compare_half_apart, compare_word_onward,
+    load_half_onward, store_half_onward, subtract_half_apart, subtract_logical_word_apart,
+    subtract_word_onward,
 };
 use cov_base::Addr;
 use s370_branch::{
@@ -304,23 +304,23 @@ pub fn execute_frequent<P: Space>(
             let n = store_word(cpu, space, code);
             Some(onward(cpu, next, n, end))
         }
-        Op::LH => Some(load_half_apart(cpu, space, code, next, end)),
-        Op::STH => Some(store_half_apart(cpu, space, code, next, end)),
-        Op::A => Some(add_word_apart(cpu, space, code, next, end)),
+        Op::LH => Some(load_half_onward(cpu, space, code, next, end)),
+        Op::STH => Some(store_half_onward(cpu, space, code, next, end)),
+        Op::A => Some(add_word_onward(cpu, space, code, next, end)),
         Op::AH => Some(add_half_apart(cpu, space, code, next, end)),
-        Op::S => Some(subtract_word_apart(cpu, space, code, next, end)),
+        Op::S => Some(subtract_word_onward(cpu, space, code, next, end)),
         Op::SH => Some(subtract_half_apart(cpu, space, code, next, end)),
         Op::AL => Some(add_logical_word_apart(cpu, space, code, next, end)),
         Op::SL => Some(subtract_logical_word_apart(cpu, space, code, next, end)),
-        Op::C => Some(compare_word_apart(cpu, space, code, next, end)),
+        Op::C => Some(compare_word_onward(cpu, space, code, next, end)),
         Op::CH => Some(compare_half_apart(cpu, space, code, next, end)),
         Op::LM => Some(load_multiple_apart(cpu, space, code, next, end)),
         Op::STM => Some(store_multiple_apart(cpu, space, code, next, end)),
-        Op::IC => Some(insert_character_apart(cpu, space, code, next, end)),
-        Op::STC => Some(store_character_apart(cpu, space, code, next, end)),
-        Op::MVI => Some(move_immediate_apart(cpu, space, code, next, end)),
-        Op::CLI => Some(compare_immediate_apart(cpu, space, code, next, end)),
-        Op::TM => Some(test_under_mask_apart(cpu, space, code, next, end)),
+        Op::IC => Some(insert_character_onward(cpu, space, code, next, end)),
+        Op::STC => Some(store_character_onward(cpu, space, code, next, end)),
+        Op::MVI => Some(move_immediate_onward(cpu, space, code, next, end)),
+        Op::CLI => Some(compare_immediate_onward(cpu, space, code, next, end)),
+        Op::TM => Some(test_under_mask_onward(cpu, space, code, next, end)),
         Op::BC => {
             branch_on_condition(cpu, code, next);
             Some(Told::GoesOn)

@@ -1,5 +1,5 @@
-//! The frequent operations on a word or halfword in storage, each a call in a frame of its own; but for L and ST, which stand
-//! in the match of the frequent ones.
+//! The operations that load, store or compute with a word or halfword in storage: the most frequent where all operations are told
+//! apart, the others each a call in a frame of its own; but for L and ST, which stand in the match of all operations.
 ghost use Rattle.s370_exec.specs.Does.{CarriesOut};
 ghost use Rattle.s370_exec.specs.Meaning.{effect};
 
@@ -13,9 +13,9 @@ use s370_fixed::{
 use s370_state::{Cpu, Ending, Space};
 
 /// LH.
-#[inline(never)]
+#[inline(always)]
 #[tactic(auto, unfolding(crate::specs::Meaning::effect))]
-pub(crate) fn load_half_apart<P: Space>(
+pub(crate) fn load_half_onward<P: Space>(
     cpu: &mut Cpu,
     space: &mut P,
     code: &Code,
@@ -29,9 +29,9 @@ pub(crate) fn load_half_apart<P: Space>(
 }
 
 /// STH.
-#[inline(never)]
+#[inline(always)]
 #[tactic(auto, unfolding(crate::specs::Meaning::effect))]
-pub(crate) fn store_half_apart<P: Space>(
+pub(crate) fn store_half_onward<P: Space>(
     cpu: &mut Cpu,
     space: &mut P,
     code: &Code,
@@ -45,9 +45,9 @@ pub(crate) fn store_half_apart<P: Space>(
 }
 
 /// A.
-#[inline(never)]
+#[inline(always)]
 #[tactic(auto, unfolding(crate::specs::Meaning::effect))]
-pub(crate) fn add_word_apart<P: Space>(
+pub(crate) fn add_word_onward<P: Space>(
     cpu: &mut Cpu,
     space: &mut P,
     code: &Code,
@@ -77,9 +77,9 @@ pub(crate) fn add_half_apart<P: Space>(
 }
 
 /// S.
-#[inline(never)]
+#[inline(always)]
 #[tactic(auto, unfolding(crate::specs::Meaning::effect))]
-pub(crate) fn subtract_word_apart<P: Space>(
+pub(crate) fn subtract_word_onward<P: Space>(
     cpu: &mut Cpu,
     space: &mut P,
     code: &Code,
@@ -141,9 +141,9 @@ pub(crate) fn subtract_logical_word_apart<P: Space>(
 }
 
 /// C.
-#[inline(never)]
+#[inline(always)]
 #[tactic(auto, unfolding(crate::specs::Meaning::effect))]
-pub(crate) fn compare_word_apart<P: Space>(
+pub(crate) fn compare_word_onward<P: Space>(
     cpu: &mut Cpu,
     space: &mut P,
     code: &Code,
