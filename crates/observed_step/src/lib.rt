@@ -9,6 +9,7 @@ mod hook;
 mod instruction;
 mod observer;
 mod task;
+mod turns;
 
 pub use bench::Bench;
 pub use calls::behind_call;

@@ -1,5 +1,5 @@
 //! The run of a task.
-ghost use Rattle.std.specs.Prelude.{◌≡◌, ℕ, ◌==◌, ◌≤◌, true, false, if◌then◌else◌, length, IsNone, IsSome, IfSome};
+ghost use Rattle.std.specs.Prelude.{◌≡◌, ℕ, ◌==◌, ◌≤◌, true, false, if◌then◌else◌, length, All, IsNone, IsSome, IfSome};
 ghost use Rattle.s370_exec.specs.Meaning.{return_address};
 ghost use Rattle.s370_state.specs.declared.endings.Ending.TheVariants.{Returned, Spent};
 ghost use Rattle.brk_table.specs.Unpacked.{AreAtPlaces};
@@ -11,6 +11,7 @@ use crate::bench::Bench;
 use crate::hook::Hook;
 use crate::instruction::step;
 use crate::observer::{Observer, Watch};
+use crate::turns::{Turns, guess, keep, no_turns};
 use brk_table::Tables;
 use cov_base::{Addr, PlaceNo};
 use s370_exec::has_returned;
@@ -36,12 +37,19 @@ fn spent(cpu: &Cpu) -> Ending
     }
 }
 
-/// The place that begins at the instruction address, if one does: mostly the one behind the last. None exactly where the task
-/// has returned.
+/// The place that begins at the instruction address, if one does: mostly the one behind the last, or the one where the task has
+/// gone on behind that before, so that what the next instruction waits for is no look-up. None exactly where the task has returned.
 #[inline(always)]
-fn comes_to(tables: &Tables, last: u32, cpu: &Cpu) -> Option<Option<PlaceNo>>
+fn comes_to(
+    tables: &Tables,
+    last: u32,
+    turns: &mut Turns,
+    cpu: &Cpu,
+) -> Option<Option<PlaceNo>>
     requires codes { AreAtPlaces tables.now }
     requires last { last ≤ length tables.now.places }
+    requires turns { All (λ t. t ≤ length tables.now.places) turns.old }
+    ensures turns { All (λ t. t ≤ length tables.now.places) turns.new }
     ensures returned { IsNone result → (cpu.now.ia == return_address) ≡ true }
     ensures goes_on { IsSome result → (cpu.now.ia == return_address) ≡ false }
     ensures placed { IfSome result (IsPlaced tables.now.places cpu.now.ia) }
@@ -50,10 +58,14 @@ fn comes_to(tables: &Tables, last: u32, cpu: &Cpu) -> Option<Option<PlaceNo>>
     if let Some(next) = tables.next_at(last, at) {
         return Some(Some(next));
     }
+    if let Some(next) = tables.next_at(guess(turns, last), at) {
+        return Some(Some(next));
+    }
     if has_returned(cpu) {
         return None;
     }
     let place = tables.at(at);
+    keep(turns, last, place);
     Some(place)
 }
 
@@ -88,10 +100,11 @@ pub fn run<O: Observer, H: Hook<O>>(
 {
     let Watch { observer, tables } = *watch;
     let mut last = 0;
+    let mut turns = no_turns();
     let mut end = Ending::Spent;
     for done in 0..budget {
         let at = bench.cpu.at();
-        let Some(place) = comes_to(tables, last, &bench.cpu) else {
+        let Some(place) = comes_to(tables, last, &mut turns, &bench.cpu) else {
             return TaskEnd {
                 ending: Ending::Returned,
                 done,

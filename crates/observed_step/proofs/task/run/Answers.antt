@@ -22,6 +22,7 @@ loop-done-preserved g c =
       can = c.behind.ensures.can;
       set = does.set;
       memory = hooked_memory steps does ∙ same;
+      turns = c.comes_to.ensures.turns;
       last = c.number_or-last.ensures (length places) c.loop-done.invariant.last (exists_at_most places c.loop-done.bench.cpu.ia c.in-Some.place c.in-Some.ensures.placed);
       run = LedTo-more _ _ (Takes g.O.Observer.Makes g.O.Observer.Answers g.H.Hook.way.Aside c.args.watch.now.observer.now c.args.watch.now.tables.now)
           _ _ _ _ c.loop-done.done _ (stands c.loop-done.bench c.loop-done.done) _ (stand c.loop-done.hook c.loop-done.pass c.loop-done.bench) _ _
