@@ -1,5 +1,5 @@
-//! Gates: of two tasks of a phase one is held until the other has arrived, so they run at once; and each task arrives once,
-//! but none of a job that is refused.
+//! Gates: of two tasks of a phase one is held until the other has arrived, and each of up to 64 until all have, so they run at
+//! once; and each task arrives once, but none of a job that is refused.
 
 use super::evidence::BRANCH;
 use super::notation::{Part, bytes_of};
@@ -113,6 +113,81 @@ fn waits_counted<T: Threads + Wait + Sync>(
 fn a_counted_task_waits_for_another_of_its_phase(rt: HostRuntime) -> Result<(), Fail> {
     assert!(rt; waits_counted(&rt, rt.alloc(), 0, 1)?);
     assert!(rt; waits_counted(&rt, rt.alloc(), 1, 0)?);
+    Ok(())
+}
+
+/// Holds each task until so many have arrived, and counts those that went on then.
+#[derive(Drop)]
+struct Meeting {
+    awaited: u64,
+    arrived: AtomicU64,
+    met: AtomicU64,
+}
+
+impl Meeting {
+    /// Whether all arrive within the turns.
+    fn is_met(&self) -> bool {
+        for _ in 0..TURNS {
+            if self.arrived.load(Ordering::SeqCst) >= self.awaited {
+                return true;
+            }
+        }
+        false
+    }
+}
+
+impl Gate for Meeting {
+    fn arrive(&self, _task: TaskNo) {
+        let _ = self.arrived.fetch_add(1, Ordering::SeqCst);
+        if self.is_met() {
+            let _ = self.met.fetch_add(1, Ordering::SeqCst);
+        } else {
+            // no other task waits any more
+            self.arrived.store(self.awaited, Ordering::SeqCst);
+        }
+    }
+}
+
+/// Five tasks of a phase.
+const FIVE: [Part; 2] = [
+    Part::Code(BRANCH),
+    Part::Text(
+        "TASK A 100000 16 100 0\nTASK B 100000 16 100 0\nTASK C 100000 16 100 0\nTASK D 100000 16 100 0\nTASK E 100000 16 100 0\nENDJOB\n",
+    ),
+];
+
+/// Words, their job, and how many tasks its phase has.
+const MEETINGS: [(&[&str], &[Part], u64); 4] = [
+    (&["run"], &FIVE, 5),
+    (&["early"], &FIVE, 5),
+    (&["count"], &FIVE, 5),
+    (&["trial", "7", "64"], &[], 64),
+];
+
+/// Whether all tasks of the phase meet.
+fn meet<T: Threads + Wait + Sync>(
+    rt: &T,
+    alloc: Global,
+    words: &[&str],
+    parts: &[Part],
+    tasks: u64,
+) -> Result<bool, Fail> {
+    let gate = Meeting {
+        awaited: tasks,
+        arrived: AtomicU64::new(0),
+        met: AtomicU64::new(0),
+    };
+    let job = bytes_of(alloc, parts)?;
+    let mut areas = SharedAreas::new(alloc, 1).map_err(|_| "memory")?;
+    let (status, _) = serve_over(rt, alloc, words, &job, 64, &mut areas, &gate)?;
+    Ok(status.0 == 0 && gate.met.load(Ordering::SeqCst) == tasks)
+}
+
+#[test]
+fn all_tasks_of_a_phase_run_at_once(rt: HostRuntime) -> Result<(), Fail> {
+    for (words, parts, tasks) in MEETINGS {
+        assert!(rt; meet(&rt, rt.alloc(), words, parts, tasks)?);
+    }
     Ok(())
 }
 
