@@ -57,7 +57,7 @@ class Work(Protocol):
         """Says how far the build is: which crates are done, in order, and which are at work."""
 
 
-def start(words: Sequence[str], folder: str, log: str, nice: int = 0) -> subprocess.Popen[bytes]:
+def start(words: Sequence[str], folder: str, log: str) -> subprocess.Popen[bytes]:
     """Starts the toolchain in a session of its own, so that a signal reaches it by this script alone.
 
     It ends with this script, also where that is killed.
@@ -65,7 +65,6 @@ def start(words: Sequence[str], folder: str, log: str, nice: int = 0) -> subproc
     libc, parent = ctypes.CDLL(None), os.getpid()
 
     def begin() -> None:
-        os.nice(nice)
         libc.prctl(DIES_WITH_PARENT, signal.SIGTERM)
         if os.getppid() != parent:
             os._exit(1)

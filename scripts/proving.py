@@ -18,8 +18,6 @@ from weights import Weight
 
 # The logs of the crates, the checksums at which they were proved, and what those took that were proved from nothing.
 LOGS, PROVED, TOOK = (f"{TOP}/out/{it}" for it in ("logs", "proved", "weights"))
-# How much the crates beside the chain that decides give way to it, where processors are short.
-BESIDE = 3
 LINKED = f"{TOP}/crates/{TOP_CRATE}/out/{TOP_CRATE}"
 
 
@@ -83,7 +81,6 @@ class Proving:
         self.plan = weights.Plan(machine.processors(), machine.free_memory())
         self.progress = Progress(len(self.below), say)
         self.new: set[str] = set()
-        self.built: set[str] = set()
         # Of the crates that were proved now: the seconds that they took, and those by their weights.
         self.took, self.weighed = 0.0, 0.0
 
@@ -99,15 +96,14 @@ class Proving:
         return has_library and self.proved.get(crate) == self.sums[crate]
 
     def choose(self, ready: Sequence[str], working: Mapping[str, int]) -> Optional[tuple[str, int]]:
-        rest = sum(it.seconds for crate, it in self.weights.items() if crate not in self.built)
-        return self.plan.choose(ready, working, self.weights, self.chains, rest)
+        return self.plan.choose(ready, working, self.weights, self.chains)
 
     def begin(self, crate: str, jobs: int) -> subprocess.Popen[bytes]:
         folder = self.rooms.make(crate, self.below[crate], "".join(self.rows[it] for it in (*self.below[crate], crate)))
         if not os.path.isdir(f"{folder}/out"):
             self.new.add(crate)
         words = ["rt", "run" if crate == TOP_CRATE else "lib", "--jobs", str(jobs)]
-        return start(words, folder, log_of(crate), 0 if jobs > 1 else BESIDE)
+        return start(words, folder, log_of(crate))
 
     def finish(self, lane: Lane) -> None:
         crate, status = lane.crate, lane.process.returncode
@@ -119,7 +115,6 @@ class Proving:
         self.rooms.take(crate, [*(made if is_well else []), KEPT])
         if not is_well:
             raise CrateFailed(crate)
-        self.built.add(crate)
         self.proved[crate] = self.sums[crate]
         write_sums(self.proved)
         self.weigh(lane)
@@ -133,7 +128,7 @@ class Proving:
         self.took += lane.spent()
         self.weighed += self.weights[lane.crate].lasts(lane.jobs)
         if lane.crate in self.new and "begins with what a check kept" not in said:
-            took = {**weights.read(TOOK), lane.crate: Weight(lane.processor, lane.memory)}
+            took = {**weights.read(TOOK), lane.crate: Weight.taken(lane.processor, lane.memory, lane.jobs)}
             weights.write(TOOK, took)
 
     def pace(self) -> float:

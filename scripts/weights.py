@@ -13,10 +13,9 @@ TABLE = f"{os.path.dirname(os.path.realpath(__file__))}/build_weights.txt"
 HEAD = "# crate, seconds of processor time, megabytes: what its proof took from nothing; by build.py weigh\n"
 # Where the table says nothing: bytes of sources a second, and a check's memory.
 BYTES_A_SECOND, LEAST_MEMORY = 1_500, 1_000
-# The jobs that a crate may have, and what each further one adds to its speed, and, by the toolchain, to its memory.
-MOST_JOBS, JOB_SPEED, JOB_MEMORY = 4, 0.2, 0.6
-# How much of the build a chain has to be, over an even share of the processors, until it decides how long all takes.
-DECIDES = 1.25
+# The jobs that a crate may have, and what each further one adds to its speed, and, by the toolchain, to its memory. Each
+# reads in all that the crate stands on, so that with more than one a proof takes so much more of processor time.
+MOST_JOBS, JOB_SPEED, JOB_MEMORY, JOBS_COST = 4, 0.1, 0.6, 1.5
 # A crate that was proved before takes but a look of the toolchain.
 LOOK_SECONDS = 0.6
 
@@ -27,6 +26,11 @@ class Weight:
 
     seconds: float
     memory: int
+
+    @staticmethod
+    def taken(seconds: float, memory: int, jobs: int) -> Weight:
+        """That of a crate whose proof has taken so much with so many jobs."""
+        return Weight(seconds / (JOBS_COST if jobs > 1 else 1), int(memory / (1 + JOB_MEMORY * (jobs - 1))))
 
     def lasts(self, jobs: int) -> float:
         """The seconds that it takes with so many jobs."""
@@ -85,20 +89,18 @@ class Plan:
     memory: int
 
     def choose(
-        self, ready: Iterable[str], working: Mapping[str, int], weights: Mapping[str, Weight],
-        chain: Mapping[str, float], rest: float,
+        self, ready: Collection[str], working: Mapping[str, int], weights: Mapping[str, Weight], chain: Mapping[str, float],
     ) -> Optional[tuple[str, int]]:
         """The crate to begin next beside those at work with their jobs, and its own jobs; none where none fits.
 
-        The longest chain comes first. Where it decides how long the rest of the build takes, of so many seconds, its
-        crate gets more jobs, and waits for no processor. Where nothing is at work any crate fits.
+        The longest chain comes first. A crate gets further jobs for processors that no other one would take. Where
+        nothing is at work any crate fits.
         """
         room = self.memory - sum(weights[it].needs(jobs) for it, jobs in working.items())
-        for crate in sorted(ready, key=lambda it: -chain[it]):
-            decides = chain[crate] * self.processors > DECIDES * rest
-            is_first = decides and all(chain[crate] > chain[it] for it in working)
-            if len(working) < self.processors + is_first:
-                for jobs in range(min(MOST_JOBS, self.processors) if is_first else 1, 0, -1):
+        free = self.processors - sum(working.values())
+        if free > 0:
+            for crate in sorted(ready, key=lambda it: -chain[it]):
+                for jobs in range(max(1, min(MOST_JOBS, free - len(ready) + 1)), 0, -1):
                     if weights[crate].needs(jobs) <= room or jobs == 1 and not working:
                         return crate, jobs
         return None
@@ -118,7 +120,7 @@ def left(
     while len(ended) < len(below):
         waiting = [it for it in below if it not in ended and it not in jobs]
         ready = [it for it in waiting if all(other in ended for other in below[it])]
-        chosen = plan.choose(ready, jobs, weights, chain, sum(weights[it].seconds for it in (*waiting, *jobs)))
+        chosen = plan.choose(ready, jobs, weights, chain)
         if chosen is not None:
             jobs[chosen[0]], ends[chosen[0]] = chosen[1], now + pace * weights[chosen[0]].lasts(chosen[1])
             continue

@@ -164,19 +164,21 @@ def weights_by_hand() -> None:
     equal(weights.chains(below, some), {"a": 40, "b": 30, "c": 15, "d": 10})
     two, one, small = Plan(2, 100), Plan(1, 100), Plan(2, 10)
     chain = weights.chains(below, some)
-    # Of 35 seconds an even share is 17.5 on two processors, and b's chain of 30 decides; on one it is all of them.
-    equal([it.choose(["b", "c"], {}, some, chain, 35) for it in (two, one, small)], [("b", 2), ("b", 1), ("b", 1)])
-    equal([it.choose(["c"], {"b": 1}, some, chain, 35) for it in (two, one, small)], [("c", 1), None, None])
-    # Where more is to be done the chain doesn't decide: 30 seconds of 48, or 24 an even share.
-    equal([two.choose(["b", "c"], {}, some, chain, rest) for rest in (47, 48)], [("b", 2), ("b", 1)])
-    # Where it decides it waits for no processor, but for memory.
-    equal([it.choose(["b"], {"c": 1}, some, chain, 35) for it in (one, small)], [None, None])
-    equal(two.choose(["b"], {"c": 1, "e": 1}, {**some, "e": Weight(1, 1)}, {**chain, "e": 1}, 36), ("b", 2))
+    # b's chain is the longest, and c takes the other processor; where that lacks memory it waits.
+    equal([it.choose(["b", "c"], {}, some, chain) for it in (two, one, small)], [("b", 1), ("b", 1), ("b", 1)])
+    equal([it.choose(["c"], {"b": 1}, some, chain) for it in (two, one, small)], [("c", 1), None, None])
+    # A processor that no other crate takes is for a further job, of four at most, where there is memory for it.
+    equal([it.choose(["d"], {}, some, chain) for it in (two, one, small)], [("d", 2), ("d", 1), ("d", 1)])
+    equal([Plan(it, 100).choose(["b", "c"], {}, some, chain) for it in (3, 5, 9)], [("b", 2), ("b", 4), ("b", 4)])
+    equal([Plan(4, it).choose(["b"], {"c": 1}, some, chain) for it in (40, 30, 19)], [("b", 3), ("b", 2), None])
+    equal(two.choose(["b"], {"c": 2}, some, chain), None)
     equal([weights.left(it, below, some, [], {}) for it in (one, small)], [45, 45])
-    # On two: a, then b and c, then d, with two jobs each but c, which are faster by a fifth.
-    equal(round(weights.left(two, below, some, [], {}), 6), round(10 / 1.2 + 20 / 1.2 + 10 / 1.2, 6))
+    # On two: a, then b and c, then d, of which a and d have two jobs, which are faster by a tenth.
+    equal(round(weights.left(two, below, some, [], {}), 6), round(10 / 1.1 + 20 + 10 / 1.1, 6))
     equal([round(weights.left(two, below, some, ["a"], {"b": (1, 5.0)}, pace), 6) for pace in (1.0, 2.0)],
-          [round(15 + 10 / 1.2, 6), round(35 + 20 / 1.2, 6)])
+          [round(15 + 10 / 1.1, 6), round(35 + 20 / 1.1, 6)])
+    # With several jobs a proof takes half as much again, and a second one takes three fifths of the first one's memory.
+    equal([Weight.taken(30, 160, it) for it in (1, 2)], [Weight(30, 160), Weight(20, 100)])
     # One that takes longer than it should is taken to end soon.
     equal(weights.left(two, below, some, ["a", "b", "c"], {"d": (1, 60.0)}), 1)
 
