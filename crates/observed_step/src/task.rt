@@ -1,7 +1,9 @@
 //! The run of a task.
-ghost use Rattle.std.specs.Prelude.{◌≡◌, ℕ, ◌==◌, ◌≤◌, true, false, if◌then◌else◌, length, All, IsNone, IsSome, IfSome};
+ghost use Rattle.std.specs.Prelude.{◌≡◌, ℕ, ◌==◌, ◌<◌, ◌≤◌, true, false, if◌then◌else◌, length, All, IsNone, IsSome, IfSome};
 ghost use Rattle.s370_exec.specs.Meaning.{return_address};
 ghost use Rattle.s370_state.specs.declared.endings.Ending.TheVariants.{Returned, Spent};
+ghost use Rattle.module_area.specs.Meaning.{place_of};
+ghost use Rattle.brk_table.specs.Places.{ArePlaces};
 ghost use Rattle.brk_table.specs.Unpacked.{AreAtPlaces};
 ghost use Rattle.observed_step.specs.Sights.{IsPlaced};
 ghost use Rattle.observed_step.specs.Runs.{EndsAs, GoesAs};
@@ -37,15 +39,30 @@ fn spent(cpu: &Cpu) -> Ending
     }
 }
 
+/// The place that is guessed behind the last one, where it begins at the address.
+#[inline(always)]
+fn guessed_at(tables: &Tables, turns: &Turns, last: u32, at: Addr) -> Option<PlaceNo>
+    requires turns { All (λ t. t ≤ length tables.now.places) turns.now }
+    ensures exists { IfSome result (λ n. n.0 < length tables.now.places) }
+    ensures begins { IfSome result (λ n. (place_of tables.now.places n.0).at ≡ at) }
+    ensures places { IsSome result → ArePlaces tables.now.places }
+{
+    let entry = guess(turns, last);
+    if entry == 0 {
+        return None;
+    }
+    let place = PlaceNo(entry - 1);
+    if tables.place(place).at.get() == at.get() {
+        Some(place)
+    } else {
+        None
+    }
+}
+
 /// The place that begins at the instruction address, if one does: mostly the one behind the last, or the one where the task has
 /// gone on behind that before, so that what the next instruction waits for is no look-up. None exactly where the task has returned.
 #[inline(always)]
-fn comes_to(
-    tables: &Tables,
-    last: u32,
-    turns: &mut Turns,
-    cpu: &Cpu,
-) -> Option<Option<PlaceNo>>
+fn comes_to(tables: &Tables, last: u32, turns: &mut Turns, cpu: &Cpu) -> Option<Option<PlaceNo>>
     requires codes { AreAtPlaces tables.now }
     requires last { last ≤ length tables.now.places }
     requires turns { All (λ t. t ≤ length tables.now.places) turns.old }
@@ -58,11 +75,11 @@ fn comes_to(
     if let Some(next) = tables.next_at(last, at) {
         return Some(Some(next));
     }
-    if let Some(next) = tables.next_at(guess(turns, last), at) {
-        return Some(Some(next));
-    }
     if has_returned(cpu) {
         return None;
+    }
+    if let Some(guessed) = guessed_at(tables, turns, last, at) {
+        return Some(Some(guessed));
     }
     let place = tables.at(at);
     keep(turns, last, place);

@@ -16,9 +16,9 @@ use crate::fields::{
     test_under_mask_onward,
 };
 use crate::stored::{
-    add_half_apart, add_logical_word_apart, add_word_onward, compare_half_apart, compare_word_onward,
-    load_half_onward, store_half_onward, subtract_half_apart, subtract_logical_word_apart,
-    subtract_word_onward,
+    add_half_apart, add_logical_word_apart, add_word_onward, compare_half_apart,
+    compare_word_onward, load_half_onward, store_half_onward, subtract_half_apart,
+    subtract_logical_word_apart, subtract_word_onward,
 };
 use cov_base::Addr;
 use s370_branch::{

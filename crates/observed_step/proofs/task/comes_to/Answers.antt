@@ -1,4 +1,4 @@
-use Rattle.std.proofs.Common.{◌∙◌, length}
+use Rattle.std.proofs.Common.{◌∙◌, refl}
 use Rattle.observed_step.proofs.PlaceLemmas.{begins_at, placed_by}
 use Rattle.observed_step.proofs.task.comes_to.Goals as goal
 
@@ -10,10 +10,7 @@ returns-clause-placed c =
     let found = c.at-place.ensures in
     rw c.at-at.ensures at (placed_by c.args.tables.now.places c.at-at.result c.at-place.result c.in_default.ensures.places found.exists found.begins found.none.0)
 
-pub next_at-requires-2-clause-last : goal.next_at-requires-2-clause-last
-next_at-requires-2-clause-last c = c.guess.ensures (length c.args.tables.now.places) c.requires.turns
-
-pub returns-in-Some-next_at-clause-placed : goal.returns-in-Some-next_at-clause-placed
-returns-in-Some-next_at-clause-placed c =
-    let found = c.in-Some-next_at.ensures in
-    begins_at c.args.tables.now.places c.args.cpu.now.ia c.in-Some-next_at.next.0 found.places found.exists (found.begins ∙ c.at-at.ensures)
+pub returns-in-Some-guessed_at-clause-placed : goal.returns-in-Some-guessed_at-clause-placed
+returns-in-Some-guessed_at-clause-placed c =
+    let found = c.in-Some-guessed_at.ensures in
+    begins_at c.args.tables.now.places c.args.cpu.now.ia c.in-Some-guessed_at.guessed.0 (found.places refl) found.exists (found.begins ∙ c.at-at.ensures)
