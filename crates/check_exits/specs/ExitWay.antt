@@ -1,6 +1,6 @@
 -- What an exit is behind the instructions of its task.
 use Rattle.std.specs.Prelude.{◌≡◌, ℕ, Option}
-use Rattle.observed_step.specs.Hooks.{Way}
+use Rattle.task_run.specs.Hooks.{Way}
 use Rattle.check_exits.specs.Meaning.{exit_by_next}
 use Rattle.check_exits.specs.declared.exits.Exit.{Exit}
 

@@ -6,8 +6,7 @@ use Rattle.s370_state.specs.declared.endings.Ending.TheVariants.{Abend, BadSvc}
 use Rattle.s370_state.specs.declared.endings.Next.{Next}
 use Rattle.s370_state.specs.declared.endings.Next.TheVariants.{On, Ended}
 use Rattle.s370_exec.specs.Meaning.{call_address}
-use Rattle.observed_step.specs.Meaning.{DoneBehind, Behind, behind_call, course_on}
-use Rattle.task_run.specs.Meaning.{Course}
+use Rattle.task_run.specs.Meaning.{DoneBehind, Behind, behind_call, course_on, Course}
 
 -- A task with an exit for its program interruptions, which SVC 6 names.
 

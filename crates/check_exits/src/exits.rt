@@ -2,14 +2,14 @@
 ghost use Rattle.std.specs.Prelude.{◌≡◌, None, []};
 ghost use Rattle.s370_state.specs.Meaning.{machine_of};
 ghost use Rattle.s370_exec.specs.Meaning.{call_address, first_tests};
-ghost use Rattle.observed_step.specs.Meaning.{behind_call};
+ghost use Rattle.task_run.specs.Meaning.{behind_call};
 ghost use Rattle.check_exits.specs.Meaning.{at_exit, exit_named};
 ghost use Rattle.check_exits.specs.ExitWay.{exit_way};
 
 use brk_table::Tables;
 use cov_base::Addr;
-use observed_step::{Bench, Hook, Observer, behind_call};
 use s370_state::{Cpu, Ending, Next, Space};
+use task_run::{Bench, Hook, Observer, behind_call};
 
 /// Where a task goes on at its next program interruption, which ends it where there is none.
 #[derive(Drop)]

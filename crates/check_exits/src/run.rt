@@ -3,18 +3,16 @@ ghost use Rattle.std.specs.Prelude.{◌≡◌, ◌+◌, ◌<◌, ◌^◌, true};
 ghost use Rattle.std.specs.declared.option.Option.TheVariants.{None};
 ghost use Rattle.module_area.specs.Notes.{calls, is_working};
 ghost use Rattle.module_area.specs.Tied.{IsTied};
-ghost use Rattle.observed_step.specs.Steps.{memory_at};
-ghost use Rattle.svc_monitor.specs.First.{IsOver};
+ghost use Rattle.task_run.specs.Steps.{memory_at};
+ghost use Rattle.task_run.specs.First.{IsOver};
 ghost use Rattle.task_run.specs.Ran.{RanOver};
 ghost use Rattle.check_exits.specs.Meaning.{with_exits};
 
 use crate::exits::Exit;
 use brk_table::Tables;
 use module_area::{Cells, Plan};
-use observed_step::{Watch, run};
 use s370_state::Ending;
-use svc_monitor::Planted;
-use task_run::Task;
+use task_run::{Planted, Task, Watch, run};
 
 /// Runs the task until it ends, as `run_task` does, but under an exit: SVC 6 sets it, and a program interruption takes it.
 pub fn run_under<C: Cells>(

@@ -10,7 +10,7 @@ use Rattle.module_area.specs.declared.cells.Cell.{Cell}
 use Rattle.module_area.specs.declared.places.Place.{Place}
 use Rattle.module_area.specs.Meaning.{executes, shows, PlanView, place_of, no_place, kind_at, window_at, original_at}
 use Rattle.brk_table.specs.Places.{ArePlaces, IsPlace}
-use Rattle.observed_step.specs.Sights.{BeginsAt, IsPlaced}
+use Rattle.task_run.specs.Sights.{BeginsAt, IsPlaced}
 use Rattle.count_session.specs.Notes.{CountNotes, after_add, after_fetch, cell_at, is_same}
 use Rattle.count_session.specs.Meaning.{count_at}
 use Rattle.count_session.specs.Counting.{planted_count, Adds}

@@ -11,7 +11,7 @@ use Rattle.cov_base.specs.declared.numbers.TaskNo.{TaskNo}
 use Rattle.cov_base.specs.declared.shortage.NoMemory.{NoMemory}
 use Rattle.module_area.specs.Meaning.{PlanView, place_of, window_at}
 use Rattle.module_area.specs.declared.places.Place.{Place}
-use Rattle.observed_step.specs.Steps.{memory_at}
+use Rattle.task_run.specs.Steps.{memory_at}
 use Rattle.task_services.specs.Meaning.{course_of}
 use Rattle.session_book.specs.Meaning.{JobView, task_of}
 use Rattle.phase_plan.specs.Meaning.{traces_from, plan_view}

@@ -9,8 +9,8 @@ use Rattle.count_session.specs.Passes.{IsPassOf, notes_of, plan_in}
 use Rattle.count_session.specs.declared.cells.CountCells.{CountCells}
 use Rattle.count_session.specs.declared.pass.CountPass.{CountPass}
 use Rattle.count_session.specs.Meaning.{count_at}
-use Rattle.observed_step.specs.Meaning.{visits_of}
-use Rattle.observed_step.specs.Steps.{memory_at, stands}
+use Rattle.task_run.specs.Meaning.{visits_of}
+use Rattle.task_run.specs.Steps.{memory_at, stands}
 use Rattle.s370_state.specs.declared.endings.Ending.{Ending}
 use Rattle.session_book.specs.declared.services.Service.{Service}
 use Rattle.task_run.specs.Ran.{run_from}

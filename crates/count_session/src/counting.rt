@@ -7,10 +7,10 @@ use crate::pass::CountPass;
 use brk_table::Tables;
 use cov_base::BREAKPOINT;
 use module_area::{Cell, Control};
-use observed_step::{Observer, Sight};
 use s370_branch::outcome;
 use s370_decode::Code;
 use s370_state::Cpu;
+use task_run::{Observer, Sight};
 
 fn is_breakpoint(cell: Cell) -> bool
     ensures { result ≡ nat_eq cell.half breakpoint }

@@ -2,8 +2,8 @@
 ghost use Rattle.std.specs.Prelude.{◌≡◌, ◌+◌, ◌<◌, true, false, length, IfOk};
 ghost use Rattle.brk_table.specs.Kept.{AreCodes};
 ghost use Rattle.session_book.specs.JobView.{IsJob};
-ghost use Rattle.observed_step.specs.Steps.{memory_at};
-ghost use Rattle.svc_monitor.specs.First.{IsOver};
+ghost use Rattle.task_run.specs.Steps.{memory_at};
+ghost use Rattle.task_run.specs.First.{IsOver};
 ghost use Rattle.job_run.specs.Slots.{AreEmpty};
 ghost use Rattle.count_session.specs.Counting.{HasRunCounted};
 ghost use Rattle.count_session.specs.Notes.{root_notes, OnlyPlants, PlantsAt, HasPlanted};

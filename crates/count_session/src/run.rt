@@ -1,7 +1,7 @@
 //! A task from its first instruction to its end, over cells in which breakpoints stay.
 ghost use Rattle.std.specs.Prelude.{◌≡◌, false};
-ghost use Rattle.observed_step.specs.Steps.{memory_at};
-ghost use Rattle.svc_monitor.specs.First.{IsOver};
+ghost use Rattle.task_run.specs.Steps.{memory_at};
+ghost use Rattle.task_run.specs.First.{IsOver};
 ghost use Rattle.count_session.specs.Counting.{RanCounted};
 ghost use Rattle.count_session.specs.Passes.{IsPassOf, notes_of, plan_in};
 

@@ -10,7 +10,7 @@ use Rattle.module_area.specs.Meaning.{PlanView, ControlledView, ControlView, num
 use Rattle.module_area.specs.Rule.{IsPlan, AreApart}
 use Rattle.module_area.specs.Notes.{Notes, after_boundary, bearer, is_working, own_number}
 use Rattle.module_area.proofs.Laws.{and_left, any_shown}
-use Rattle.svc_monitor.specs.Answered.{Turns}
+use Rattle.task_run.specs.Answered.{Turns}
 use Rattle.task_run.specs.Aside.{IsAside}
 use Rattle.task_run.specs.Meaning.{control_by, is_opened}
 use Rattle.task_run.proofs.Laws.{step_known, same_number, aside_more, aside_boundary, boundary_number}

@@ -8,13 +8,12 @@ use Rattle.module_area.specs.Meaning.{PlanView, ControlView, control_after}
 use Rattle.module_area.specs.Rule.{IsPlan}
 use Rattle.module_area.specs.Notes.{Notes, after_boundary, bearer, is_working, own_number}
 use Rattle.module_area.specs.Tied.{IsTied}
-use Rattle.observed_step.specs.Meaning.{Turn, calls_of}
-use Rattle.observed_step.specs.Hooks.{Way}
-use Rattle.observed_step.specs.Runs.{EndsAs, Goes, Stand, Takes, course_of, stand}
-use Rattle.observed_step.specs.declared.bench.Bench.{Bench}
-use Rattle.observed_step.specs.declared.task.TaskEnd.{TaskEnd}
-use Rattle.svc_monitor.specs.Answered.{Turns}
-use Rattle.task_run.specs.Meaning.{control_by, is_opened}
+use Rattle.task_run.specs.Meaning.{Turn, calls_of, control_by, is_opened}
+use Rattle.task_run.specs.Hooks.{Way}
+use Rattle.task_run.specs.Runs.{EndsAs, Goes, Stand, Takes, course_of, stand}
+use Rattle.task_run.specs.declared.bench.Bench.{Bench}
+use Rattle.task_run.specs.declared.task.TaskEnd.{TaskEnd}
+use Rattle.task_run.specs.Answered.{Turns}
 use Rattle.task_run.proofs.Laws.{control_more}
 use Rattle.early_report.specs.DrainView.{DrainView}
 use Rattle.early_report.specs.Followed.{IsReadyAt, IsReady, HaveGone, StandsBy, Stands, closed_since, first_drains, is_begun}

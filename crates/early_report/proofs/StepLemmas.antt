@@ -11,7 +11,7 @@ use Rattle.module_area.specs.Notes.{Notes, after_boundary, is_closed}
 use Rattle.module_area.specs.Tied.{IsTied}
 use Rattle.module_area.proofs.Laws.{and_left, and_right, and_both, or_left, or_right}
 use Rattle.planter.proofs.Laws.{has_here}
-use Rattle.svc_monitor.specs.Answered.{Turns}
+use Rattle.task_run.specs.Answered.{Turns}
 use Rattle.task_run.specs.Meaning.{is_opened}
 use Rattle.task_run.proofs.Laws.{step_known, step_over}
 use Rattle.early_report.specs.DrainView.{DrainView}

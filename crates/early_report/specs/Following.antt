@@ -4,8 +4,8 @@ use Rattle.std.specs.List.{list_any}
 use Rattle.module_area.specs.Meaning.{PlanView, ControlView}
 use Rattle.module_area.specs.Rule.{IsPlan}
 use Rattle.module_area.specs.Notes.{Notes, after_boundary, own_number}
-use Rattle.observed_step.specs.Meaning.{nothing}
-use Rattle.observed_step.specs.Hooks.{Way}
+use Rattle.task_run.specs.Meaning.{nothing}
+use Rattle.task_run.specs.Hooks.{Way}
 use Rattle.early_report.specs.DrainView.{DrainView}
 use Rattle.early_report.specs.Drains.{IsLooking}
 use Rattle.early_report.specs.Followed.{HaveGone, Stands, closed_since, is_begun}

@@ -4,8 +4,8 @@ use Rattle.brk_table.specs.Meaning.{TablesView}
 use Rattle.module_area.specs.Meaning.{PlanView}
 use Rattle.module_area.specs.Notes.{Notes, bearer, calls, is_working, own_number}
 use Rattle.module_area.specs.Tied.{IsTied}
-use Rattle.observed_step.specs.Steps.{memory_at}
-use Rattle.svc_monitor.specs.First.{IsOver}
+use Rattle.task_run.specs.Steps.{memory_at}
+use Rattle.task_run.specs.First.{IsOver}
 use Rattle.task_run.specs.declared.tasks.Task.{Task}
 use Rattle.early_report.specs.DrainView.{DrainView}
 use Rattle.early_report.specs.Followed.{first_drains}

@@ -17,12 +17,10 @@ use crate::drains::{Drain, Poll, Stage, drain_begin, drain_poll, drain_take, roo
 use brk_table::Tables;
 use cov_base::{NoMemory, SessNo, TaskNo};
 use module_area::{Control, Drains, Plan};
-use observed_step::{Bench, Hook, Watch, run};
 use s370_state::{Ending, Next};
 use std::alloc::Global;
 use std::mem;
-use svc_monitor::Planted;
-use task_run::{Runner, Task};
+use task_run::{Bench, Hook, Planted, Runner, Task, Watch, run};
 
 /// Polls a begun drain; where it is drained then, takes its sets at this count. Says whether it waits for a task.
 fn ask<C: Drains>(cells: &C, pass: &mut C::Pass, plan: &Plan, drain: &mut Drain, done: u32) -> bool

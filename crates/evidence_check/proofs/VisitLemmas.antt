@@ -2,7 +2,7 @@
 use Rattle.std.proofs.Common.{◌≡◌, ℕ, ◌+◌, ◌<◌, ◌≤◌, zero, suc, Bool, true, false, nat_eq, if◌then◌else◌, Option, Some, None, option_map, List, [], ◌∷◌, ◌++◌, length, ◌⊎◌, inl, inr, refl, sym, subst, arith}
 use Rattle.std.specs.List.{find}
 use Rattle.std.specs.Option.{option_or}
-use Rattle.std.proofs.lemmas.Bool.{cond_both}
+use Rattle.std.proofs.lemmas.Bool.{cond_both, cases_lt}
 use Rattle.cov_base.specs.Meaning.{length_of, Memory, half_at, State, Visit}
 use Rattle.cov_base.specs.declared.facts.Fact.{Fact}
 use Rattle.cov_base.specs.declared.limits.TheConstants.{BUDGET_LIMIT}
@@ -17,14 +17,13 @@ use Rattle.s370_exec.specs.Meaning.{effect, updated, link_code, code_at, first_t
 use Rattle.s370_exec.proofs.Laws.{solo_step-done}
 use Rattle.module_area.specs.Meaning.{shows, place_of}
 use Rattle.module_area.specs.declared.places.Place.{Place}
-use Rattle.observed_step.proofs.Laws.{course_solo}
+use Rattle.task_run.proofs.Laws.{course_solo}
 use Rattle.session_book.specs.Meaning.{JobView, TaskView, task_of, session_of, no_task}
 use Rattle.phase_plan.specs.Meaning.{task_memory, first_state}
 use Rattle.session_book.specs.JobView.{IsJob}
 use Rattle.evidence_check.specs.Meaning.{trace_of, first_in, first_from, session_first}
 use Rattle.evidence_check.specs.Noting.{first_of}
 use Rattle.evidence_check.specs.declared.firsts.First.{First}
-use Rattle.std.proofs.lemmas.Bool.{cases_lt}
 use Rattle.std.proofs.Math.ListN.{get_or-eq_default}
 
 -- each visit comes before so many instructions were done

@@ -7,8 +7,7 @@ use Rattle.cov_base.specs.declared.facts.Fact.{Fact}
 use Rattle.module_area.specs.Meaning.{shows, place_of, fact_count}
 use Rattle.module_area.specs.declared.places.Place.{Place}
 use Rattle.brk_table.specs.Meaning.{TablesView, first_place, place_count}
-use Rattle.observed_step.specs.Meaning.{visits_of}
-use Rattle.task_run.specs.Meaning.{solo}
+use Rattle.task_run.specs.Meaning.{visits_of, solo}
 use Rattle.session_book.specs.Meaning.{JobView, TaskView, session_of}
 use Rattle.phase_plan.specs.Meaning.{of_task, session_set}
 use Rattle.evidence_check.specs.declared.firsts.First.{First}

@@ -8,10 +8,10 @@ ghost use Rattle.evidence_check.specs.Found.{found_of, found_at, none_found, Not
 use brk_table::Tables;
 use cov_base::{Fact, PlaceNo};
 use module_area::Control;
-use observed_step::{Observer, Sight};
 use s370_branch::outcome;
 use s370_decode::Code;
 use s370_state::Cpu;
+use task_run::{Observer, Sight};
 
 /// A visit: the index of its task in the job, the instructions that the task had done before, and whether it is of the
 /// subject of an EX.

@@ -21,12 +21,10 @@ use Rattle.module_area.specs.Tied.{keeps_session_as, IsTied}
 use Rattle.module_area.proofs.Laws.{any_at, any_shown, one_controller}
 use Rattle.brk_table.proofs.Laws.{is_place-there}
 use Rattle.planter.proofs.Laws.{has_here}
-use Rattle.svc_monitor.specs.Answered.{Answered, ArePairs, IsPair}
-use Rattle.svc_monitor.specs.Meaning.{at_places, facts_under, is_under}
-use Rattle.svc_monitor.proofs.Laws.{has_fact-more}
-use Rattle.task_run.specs.Meaning.{control_by, places_in_all, Walk, is_opened, visits_under, last_control, opened_by, closed_by, least_set, most_set, traces_but, IsBetween}
-use Rattle.task_run.specs.Called.{last_by, Follows, HasWindows, HasPlanted}
-use Rattle.task_run.proofs.Laws.{closes_closed, facts_at-kind, has_fact-full_of, has_fact-union}
+use Rattle.task_run.specs.Answered.{Answered, ArePairs, IsPair}
+use Rattle.task_run.specs.Meaning.{at_places, facts_under, is_under, control_by, places_in_all, Walk, is_opened, visits_under, last_control, opened_by, closed_by, least_set, most_set, traces_but, IsBetween}
+use Rattle.task_run.proofs.Laws.{has_fact-more, closes_closed, facts_at-kind, has_fact-full_of, has_fact-union}
+use Rattle.task_run.specs.Controlled.{last_by, Follows, HasWindows, HasPlanted}
 use Rattle.job_run.specs.Meaning.{IsBounded}
 use Rattle.job_run.proofs.ExactLemmas.{has_fetched, have_none, have_more, one_of, with_task}
 use Rattle.job_run.specs.Bounds.{IsOwn, Leaves, JoinsTasks, NeverOpens, no_controlled}

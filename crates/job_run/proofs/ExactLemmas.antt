@@ -13,12 +13,10 @@ use Rattle.module_area.specs.Ended.{HasSets}
 use Rattle.module_area.specs.Notes.{Notes, bearer, keeps, split_notes, after_join}
 use Rattle.module_area.specs.Tied.{IsTied}
 use Rattle.module_area.proofs.Laws.{same_fact-true, same_tests, any_shown, one_controller}
-use Rattle.svc_monitor.specs.Answered.{known_tag, ArePairs, IsPair}
-use Rattle.svc_monitor.specs.Meaning.{at_places, facts_under, is_under}
-use Rattle.svc_monitor.proofs.Laws.{has_fact-more, has_fact-none, or_apart, rises_all, rises_between}
-use Rattle.task_run.specs.Called.{last_by, Follows}
-use Rattle.task_run.specs.Meaning.{tag_by, Walk}
-use Rattle.task_run.proofs.Laws.{has_fact-full_of, has_fact-union, is_of_kind-fact_of, same_sets, tag_last}
+use Rattle.task_run.specs.Answered.{known_tag, ArePairs, IsPair}
+use Rattle.task_run.specs.Meaning.{at_places, facts_under, is_under, tag_by, Walk}
+use Rattle.task_run.proofs.Laws.{has_fact-more, has_fact-none, or_apart, rises_all, rises_between, has_fact-full_of, has_fact-union, is_of_kind-fact_of, same_sets, tag_last}
+use Rattle.task_run.specs.Controlled.{last_by, Follows}
 use Rattle.job_run.specs.Bounds.{HasFetched, HaveFetched}
 use Rattle.job_run.specs.Meaning.{IsFetch, AreFetches, facts_met, IsExact}
 

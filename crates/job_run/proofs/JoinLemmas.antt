@@ -4,8 +4,8 @@ use Rattle.std.proofs.lemmas.Bool.{or_cases, or_left, or_right}
 use Rattle.cov_base.specs.Meaning.{Visit}
 use Rattle.module_area.specs.Notes.{Notes, split_notes, after_join}
 use Rattle.module_area.specs.Meaning.{PlanView}
-use Rattle.svc_monitor.specs.Observed.{Observes, Stays}
-use Rattle.svc_monitor.proofs.Laws.{shows_before, shows_behind, shows_either, visits_at_places-append}
+use Rattle.task_run.specs.Observed.{Observes, Stays}
+use Rattle.task_run.proofs.Laws.{shows_before, shows_behind, shows_either, visits_at_places-append}
 use Rattle.job_run.specs.Passes.{JoinsAll}
 
 max_same : (a b n : ℕ) → a + 1 ≡ n → b + 1 ≡ n → max a b + 1 ≡ n

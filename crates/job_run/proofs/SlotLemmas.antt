@@ -17,11 +17,11 @@ use Rattle.brk_table.specs.Kept.{AreCodes, AreKept}
 use Rattle.brk_table.specs.Meaning.{TablesView}
 use Rattle.brk_table.specs.Places.{AreSeen}
 use Rattle.space_map.proofs.Laws.{are_kept}
-use Rattle.observed_step.specs.Steps.{memory_at}
-use Rattle.svc_monitor.specs.First.{IsOver}
-use Rattle.svc_monitor.specs.Observed.{Observes}
-use Rattle.svc_monitor.proofs.Laws.{Observes-none}
-use Rattle.task_run.specs.Called.{Follows, HasWindows, HasPlanted}
+use Rattle.task_run.specs.Steps.{memory_at}
+use Rattle.task_run.specs.First.{IsOver}
+use Rattle.task_run.specs.Observed.{Observes}
+use Rattle.task_run.proofs.Laws.{Observes-none}
+use Rattle.task_run.specs.Controlled.{Follows, HasWindows, HasPlanted}
 use Rattle.task_run.specs.Meaning.{Course, Walk}
 use Rattle.task_run.specs.Ran.{walk_from}
 use Rattle.session_book.specs.Meaning.{JobView, TaskView, task_of}

@@ -12,10 +12,9 @@ use Rattle.module_area.specs.Meaning.{FinalsView, set_at, PlanView}
 use Rattle.module_area.specs.Notes.{Notes, calls}
 use Rattle.module_area.specs.declared.places.Place.{Place}
 use Rattle.brk_table.specs.Meaning.{memory_of}
-use Rattle.task_run.specs.Meaning.{Course, walk}
+use Rattle.task_run.specs.Meaning.{Course, walk, Tour}
 use Rattle.task_run.specs.Ran.{run_from, walk_from}
-use Rattle.observed_step.specs.Meaning.{Tour}
-use Rattle.observed_step.specs.Steps.{stands}
+use Rattle.task_run.specs.Steps.{stands}
 use Rattle.session_book.specs.Meaning.{JobView, ResultView, task_of, no_task}
 use Rattle.phase_plan.specs.Meaning.{plan_view}
 use Rattle.session_book.specs.JobView.{IsJob, IsTask}

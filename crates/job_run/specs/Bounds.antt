@@ -8,9 +8,8 @@ use Rattle.module_area.specs.Meaning.{facts_at, first_control, PlanView, Control
 use Rattle.module_area.specs.Notes.{Notes, calls}
 use Rattle.module_area.specs.Rule.{has_task, is_controller}
 use Rattle.module_area.specs.declared.cells.Cell.{Cell}
-use Rattle.svc_monitor.specs.Meaning.{at_places, facts_under}
-use Rattle.svc_monitor.specs.Observed.{IsShown}
-use Rattle.task_run.specs.Meaning.{tag_by, places_in_all, Walk, least_set, last_control, opened_by, closed_by}
+use Rattle.task_run.specs.Meaning.{at_places, facts_under, tag_by, places_in_all, Walk, least_set, last_control, opened_by, closed_by}
+use Rattle.task_run.specs.Observed.{IsRecorded}
 use Rattle.job_run.specs.Meaning.{AreFetches, facts_met}
 
 abbrev pub no_controlled : ControlledView
@@ -42,7 +41,7 @@ pub record HasFetched (plan : PlanView) (walks : ℕ → Walk) (t : ℕ) (n : No
   pub most : All (λ x. x.1.tag ≤ n.seen x.0) fetches
   -- where the task controls a session the last tag is the one that its calls have given last
   pub last : (p : ℕ) → is_controller plan t p ≡ true → n.last p ≡ tag_by plan p (first_control plan t) 0 (walks t).calls
-  pub shown : (s p : ℕ) (f : Fact) → has_fact (facts_under plan s p fetches (at_places plan.places (walks t).trace)) f ≡ true → IsShown n s p f
+  pub shown : (s p : ℕ) (f : Fact) → has_fact (facts_under plan s p fetches (at_places plan.places (walks t).trace)) f ≡ true → IsRecorded n s p f
   pub nothing_else : (s p : ℕ) (f : Fact) → n.marked s p f ≡ true → has_fact (facts_under plan s p fetches (at_places plan.places (walks t).trace)) f ≡ true
 
 -- What the pass of a task has after its run: of each of its own sessions the facts of the run while it is open, and no
@@ -50,7 +49,7 @@ pub record HasFetched (plan : PlanView) (walks : ℕ → Walk) (t : ℕ) (n : No
 -- of each session that it opened, and one close for each of those that it closed; so few calls that those of 64 tasks are
 -- no more than a pass may make; and its fetches.
 pub record Leaves (plan : PlanView) (walks : ℕ → Walk) (t : ℕ) (n : Notes) : Type 0 where
-  pub least : (s p : ℕ) (f : Fact) → IsOwn plan t s p → has_fact (least_set plan walks t s (place_of plan.places p)) f ≡ true → IsShown n s p f
+  pub least : (s p : ℕ) (f : Fact) → IsOwn plan t s p → has_fact (least_set plan walks t s (place_of plan.places p)) f ≡ true → IsRecorded n s p f
   pub most : (s p : ℕ) (f : Fact) → n.marked s p f ≡ true → IsOf plan walks t s p f
   pub last : (s p : ℕ) → IsOwn plan t s p → NeverOpens plan walks t s → n.last p + 1 < 2 * s
   pub plants : n.tally.plants ≡ places_in_all plan (opened_by (last_control plan walks t))
@@ -71,12 +70,12 @@ pub record HaveFetched (plan : PlanView) (walks : ℕ → Walk) (tasks : List Ta
   pub rising : (t : ℕ) → has_task tasks t ≡ true → AllPairs (λ x y. x.0 ≡ y.0 → x.1.tag ≤ y.1.tag) (fetches t)
   pub most : (t : ℕ) → has_task tasks t ≡ true → All (λ x. x.1.tag ≤ n.seen x.0) (fetches t)
   pub last : (t p : ℕ) → has_task tasks t ≡ true → is_controller plan t p ≡ true → n.last p ≡ tag_by plan p (first_control plan t) 0 (walks t).calls
-  pub shown : (s p : ℕ) (f : Fact) → has_fact (facts_met plan walks fetches s p tasks) f ≡ true → IsShown n s p f
+  pub shown : (s p : ℕ) (f : Fact) → has_fact (facts_met plan walks fetches s p tasks) f ≡ true → IsRecorded n s p f
   pub nothing_else : (s p : ℕ) (f : Fact) → n.marked s p f ≡ true → has_fact (facts_met plan walks fetches s p tasks) f ≡ true
 
 -- and what the root has once the passes of these tasks are joined to it
 pub record JoinsTasks (plan : PlanView) (walks : ℕ → Walk) (tasks : List TaskNo) (old new : Notes) : Type 0 where
-  pub least : (t s p : ℕ) (f : Fact) → has_task tasks t ≡ true → IsOwn plan t s p → has_fact (least_set plan walks t s (place_of plan.places p)) f ≡ true → IsShown new s p f
+  pub least : (t s p : ℕ) (f : Fact) → has_task tasks t ≡ true → IsOwn plan t s p → has_fact (least_set plan walks t s (place_of plan.places p)) f ≡ true → IsRecorded new s p f
   pub most : (s p : ℕ) (f : Fact) → new.marked s p f ≡ true → IsOfOne plan walks tasks s p f
   pub last : (t s p : ℕ) → has_task tasks t ≡ true → IsOwn plan t s p → NeverOpens plan walks t s → new.last p + 1 < 2 * s
   pub plants : new.tally.plants ≡ old.tally.plants + sum_by (λ (t : TaskNo). places_in_all plan (opened_by (last_control plan walks t.0))) tasks

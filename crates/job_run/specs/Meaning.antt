@@ -6,9 +6,7 @@ use Rattle.cov_base.specs.Meaning.{has_fact, is_within, no_facts, union, Visit, 
 use Rattle.module_area.specs.Meaning.{fact_count, full_places, full_pairs, facts_at, visits_at_places, FinalsView, set_at, PlanView, ControlledView, place_of, kind_at, window_at, has_place, is_over, first_control, tag_session}
 use Rattle.module_area.specs.declared.cells.Cell.{Cell}
 use Rattle.module_area.specs.declared.tallies.Tally.{Tally}
-use Rattle.observed_step.specs.Meaning.{Tour, visits_of}
-use Rattle.svc_monitor.specs.Meaning.{at_places, facts_under}
-use Rattle.task_run.specs.Meaning.{tag_by, Walk, Course, solo, walk, IsBetween, least_set, most_set, opened_places, closed_places}
+use Rattle.task_run.specs.Meaning.{Tour, visits_of, at_places, facts_under, tag_by, Walk, Course, solo, walk, IsBetween, least_set, most_set, opened_places, closed_places}
 use Rattle.module_area.specs.declared.places.Place.{Place}
 use Rattle.session_book.specs.Meaning.{JobView, ResultView, session_of}
 use Rattle.phase_plan.specs.Meaning.{of_task, session_set, traces_from, plan_view}

@@ -12,7 +12,7 @@ use Rattle.module_area.specs.declared.places.Place.{Place}
 use Rattle.brk_table.specs.Kept.{AreCodes}
 use Rattle.brk_table.specs.Meaning.{TablesView}
 use Rattle.planter.specs.Planted.{planted_notes}
-use Rattle.svc_monitor.specs.Observed.{Observes}
+use Rattle.task_run.specs.Observed.{Observes}
 use Rattle.task_run.specs.Meaning.{Course, Walk}
 use Rattle.task_run.specs.Ran.{RanAs}
 use Rattle.session_book.specs.Meaning.{JobView}

@@ -2,10 +2,9 @@
 use Rattle.std.specs.Prelude.{◌≡◌, ℕ, ◌<◌, Bool, true, false, nat_lt, Some, None, List, [], length, get_or, map}
 use Rattle.cov_base.specs.Meaning.{FactSet}
 use Rattle.module_area.specs.Notes.{Notes}
-use Rattle.observed_step.specs.Meaning.{Tour}
+use Rattle.task_run.specs.Meaning.{Tour, Course}
 use Rattle.module_area.specs.Meaning.{PlanView, first_control}
 use Rattle.module_area.specs.declared.places.Place.{Place}
-use Rattle.task_run.specs.Meaning.{Course}
 use Rattle.task_run.specs.Ran.{run_from}
 use Rattle.task_run.specs.declared.tasks.Task.{Task}
 use Rattle.phase_plan.specs.Begun.{IsBegun}

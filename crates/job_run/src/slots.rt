@@ -10,12 +10,11 @@ use crate::outcome::Done;
 use brk_table::Tables;
 use cov_base::NoMemory;
 use module_area::Control;
-use observed_step::Bench;
 use phase_plan::{Begun, begin};
 use session_book::Job;
 use std::alloc::Global;
 use std::ops::Range;
-use task_run::Task;
+use task_run::{Bench, Task};
 
 /// A task, while its phase runs the pass that was split off for it, and from its phase on what its runner keeps of it. The
 /// next slot begins 128 bytes behind them, so that no two threads write to one cache line.

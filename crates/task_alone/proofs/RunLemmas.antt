@@ -3,14 +3,13 @@ use Rattle.std.proofs.Common.{◌≡◌, ℕ, ◌<◌, List, [], ◌∷◌, leng
 use Rattle.cov_base.specs.Meaning.{State, Visit}
 use Rattle.module_area.specs.Meaning.{PlanView}
 use Rattle.module_area.specs.declared.places.Place.{Place}
-use Rattle.observed_step.specs.Meaning.{Tour, visits_of}
-use Rattle.observed_step.specs.Steps.{memory_at, stands}
-use Rattle.observed_step.specs.declared.bench.Bench.{Bench}
-use Rattle.observed_step.specs.declared.task.TaskEnd.{TaskEnd}
+use Rattle.task_run.specs.Meaning.{Tour, visits_of, Course, solo}
+use Rattle.task_run.specs.Steps.{memory_at, stands}
+use Rattle.task_run.specs.declared.bench.Bench.{Bench}
+use Rattle.task_run.specs.declared.task.TaskEnd.{TaskEnd}
 use Rattle.session_book.specs.Meaning.{JobView, task_of}
 use Rattle.phase_plan.specs.Meaning.{first_state, of_task, plan_view, task_memory}
 use Rattle.session_book.specs.declared.services.Service.{Service}
-use Rattle.task_run.specs.Meaning.{Course, solo}
 use Rattle.task_services.specs.Meaning.{course_of, with_services}
 use Rattle.task_alone.specs.Ends.{RanAlong}
 

@@ -2,12 +2,11 @@
 use Rattle.std.specs.Prelude.{◌≡◌, ℕ, List}
 use Rattle.cov_base.specs.Meaning.{Visit}
 use Rattle.module_area.specs.Meaning.{PlanView}
-use Rattle.observed_step.specs.Meaning.{visits_of}
-use Rattle.observed_step.specs.Steps.{memory_at, stands}
-use Rattle.observed_step.specs.declared.bench.Bench.{Bench}
-use Rattle.observed_step.specs.declared.task.TaskEnd.{TaskEnd}
+use Rattle.task_run.specs.Meaning.{visits_of, Course}
+use Rattle.task_run.specs.Steps.{memory_at, stands}
+use Rattle.task_run.specs.declared.bench.Bench.{Bench}
+use Rattle.task_run.specs.declared.task.TaskEnd.{TaskEnd}
 use Rattle.session_book.specs.declared.services.Service.{Service}
-use Rattle.task_run.specs.Meaning.{Course}
 use Rattle.task_services.specs.Meaning.{course_of}
 
 -- The run along the course from where the task stands, with nothing done yet, whatever the plan, has this end and last state, and

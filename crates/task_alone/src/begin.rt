@@ -3,16 +3,16 @@ ghost use Rattle.std.specs.Prelude.{◌≡◌, ◌<◌, length, IfOk};
 ghost use Rattle.brk_table.specs.Kept.{AreCodes};
 ghost use Rattle.session_book.specs.Meaning.{task_of};
 ghost use Rattle.phase_plan.specs.Meaning.{first_state, task_memory};
-ghost use Rattle.observed_step.specs.Steps.{IsShown, memory_at, stands};
+ghost use Rattle.task_run.specs.Steps.{IsShown, memory_at, stands};
 ghost use Rattle.task_alone.specs.Alone.{no_sessions};
 
 use brk_table::Tables;
 use cov_base::NoMemory;
 use module_area::Control;
-use observed_step::Bench;
 use phase_plan::{Begun, begin};
 use session_book::Job;
 use std::alloc::Global;
+use task_run::Bench;
 
 /// Task t of the job as its card says, over modules that were never planted, whatever sessions it controls: it opens and
 /// closes none. The tables are those of the job's listings.

@@ -1,12 +1,12 @@
 //! The whole run of a task without sessions.
 ghost use Rattle.std.specs.Prelude.{◌≡◌, ◌≤◌};
-ghost use Rattle.observed_step.specs.Steps.{CanStep, memory_at};
+ghost use Rattle.task_run.specs.Steps.{CanStep, memory_at};
 ghost use Rattle.task_alone.specs.Alone.{IgnoresCalls};
 ghost use Rattle.task_alone.specs.Ends.{Ran};
 
 use brk_table::Tables;
-use observed_step::{Bench, NoHook, Observer, TaskEnd, Watch, run};
 use session_book::Service;
+use task_run::{Bench, NoHook, Observer, TaskEnd, Watch, run};
 use task_services::Services;
 
 /// Runs a task until it ends, with its job's services, if it has any: before each instruction it ends Returned at X'FFFFFE',

@@ -1,7 +1,7 @@
 -- The lines of a task and of a module, by its number.
 use Rattle.std.specs.Prelude.{ℕ, List}
 use Rattle.session_book.specs.Meaning.{JobView}
-use Rattle.observed_step.specs.declared.task.TaskEnd.{TaskEnd}
+use Rattle.task_run.specs.declared.task.TaskEnd.{TaskEnd}
 use Rattle.task_ends.specs.Meaning.{end_lines, unlisted_lines}
 
 abbrev pub end_part : JobView → (ℕ → TaskEnd) → ℕ → List (List ℕ)

@@ -6,9 +6,9 @@ use Rattle.module_area.specs.declared.places.Place.{Place}
 use Rattle.session_book.specs.Meaning.{JobView, module_of}
 use Rattle.report_text.specs.Meaning.{sum_from}
 use Rattle.report_text.proofs.Laws.{sum_step}
-use Rattle.observed_step.specs.Meaning.{visits_of}
+use Rattle.task_run.specs.Meaning.{visits_of}
 use Rattle.task_ends.specs.Meaning.{run_of, end_of, unlisted_of, unlisted_visits}
-use Rattle.observed_step.specs.declared.task.TaskEnd.{TaskEnd}
+use Rattle.task_run.specs.declared.task.TaskEnd.{TaskEnd}
 use Rattle.task_ends.specs.Unlisted.{Adds}
 
 -- of one task, in module m

@@ -3,7 +3,7 @@ use Rattle.std.specs.Prelude.{◌≡◌, ℕ, ◌<◌, Result, length, get_or, s
 use Rattle.cov_outside.specs.declared.streams.Sink as sink
 use Rattle.report_text.specs.Writes.{PrintsText}
 use Rattle.session_book.specs.Meaning.{JobView}
-use Rattle.observed_step.specs.declared.task.TaskEnd.{TaskEnd}
+use Rattle.task_run.specs.declared.task.TaskEnd.{TaskEnd}
 use Rattle.task_ends.specs.Meaning.{ends_text}
 use Rattle.task_ends.specs.declared.running.Ends.{Ends}
 

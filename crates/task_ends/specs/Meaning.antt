@@ -8,8 +8,8 @@ use Rattle.session_book.specs.Meaning.{JobView, task_of, module_of}
 use Rattle.phase_plan.specs.Meaning.{of_task}
 use Rattle.report_text.specs.Meaning.{sum_from, text_of, lines_from, is_monitored, task_words}
 use Rattle.task_services.specs.Meaning.{course_of}
-use Rattle.observed_step.specs.Meaning.{Tour, visits_of}
-use Rattle.observed_step.specs.declared.task.TaskEnd.{TaskEnd}
+use Rattle.task_run.specs.Meaning.{Tour, visits_of}
+use Rattle.task_run.specs.declared.task.TaskEnd.{TaskEnd}
 use Rattle.annotator.specs.Meaning.{hex_digits}
 
 -- What has run where no place begins.

@@ -4,7 +4,7 @@ use Rattle.cov_base.specs.Meaning.{ImageView, Visit}
 use Rattle.module_area.specs.declared.places.Place.{Place}
 use Rattle.brk_table.specs.Meaning.{in_image}
 use Rattle.session_book.specs.Meaning.{JobView, no_module}
-use Rattle.observed_step.specs.Meaning.{visits_of}
+use Rattle.task_run.specs.Meaning.{visits_of}
 use Rattle.task_ends.specs.Meaning.{unlisted_visits, run_of}
 
 -- from old to new those among the visits were added to the count of each module

@@ -10,10 +10,10 @@ use crate::unlisted::Unlisted;
 use brk_table::Tables;
 use cov_base::NoMemory;
 use module_area::Images;
-use observed_step::TaskEnd;
 use session_book::Job;
 use std::alloc::Global;
 use task_alone::{begin_alone, run_alone};
+use task_run::TaskEnd;
 
 /// Of a job, in its order: where each task ended, and for each module how many visits of all tasks were begun in it where
 /// no place begins, up to 2 for each instruction.

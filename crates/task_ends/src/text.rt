@@ -15,9 +15,9 @@ use arrayvec::ArrayVec;
 use cov_base::{Addr, Name};
 use cov_outside::{Failed, Sink};
 use module_area::{Image, Images};
-use observed_step::TaskEnd;
 use report_text::{add_name, is_monitored, module_name, put, task_words, words_line};
 use session_book::Job;
+use task_run::TaskEnd;
 
 /// Adds the module that has the address, and the location in it.
 fn add_module(line: &mut ArrayVec<u8, 160>, image: &Image, at: Addr)

@@ -6,9 +6,9 @@ ghost use Rattle.task_ends.specs.Unlisted.{AddsOne};
 use brk_table::Tables;
 use cov_base::Addr;
 use module_area::{Control, Image, Images};
-use observed_step::{Observer, Sight};
 use s370_decode::Code;
 use s370_state::Cpu;
+use task_run::{Observer, Sight};
 
 /// Whether the module has the address.
 pub(crate) fn is_in(image: &Image, at: Addr) -> bool

@@ -10,11 +10,11 @@ use Rattle.module_area.specs.Control.{after_plants, after_closes, after_open, af
 use Rattle.module_area.specs.Tied.{IsTied}
 use Rattle.module_area.proofs.Laws.{any_at, tied_same}
 use Rattle.planter.proofs.Laws.{next_later}
-use Rattle.svc_monitor.specs.Answered.{RisesAt, known_tag, Turns}
+use Rattle.task_run.specs.Answered.{RisesAt, known_tag, Turns}
 use Rattle.task_run.specs.Aside.{IsAside}
-use Rattle.task_run.specs.Called.{Follows}
+use Rattle.task_run.specs.Controlled.{Follows}
 use Rattle.task_run.proofs.FollowsLemmas.{Changes, Observes-changed, Answered-changed}
-use Rattle.task_run.proofs.RunLemmas.{Made}
+use Rattle.task_run.proofs.MadeLemmas.{Made}
 
 -- an instruction makes no boundary, and looks at no task and no set
 

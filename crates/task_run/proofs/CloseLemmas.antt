@@ -9,7 +9,7 @@ use Rattle.module_area.specs.Meaning.{ControlView, PlanView, has_session}
 use Rattle.module_area.specs.Notes.{Notes}
 use Rattle.module_area.specs.Tied.{IsTied}
 use Rattle.task_run.specs.Meaning.{places_of, places_in_all, opened_by, closed_by}
-use Rattle.task_run.specs.Called.{HasPlanted}
+use Rattle.task_run.specs.Controlled.{HasPlanted}
 
 abbrev session : ℕ → SessNo
 session k = record { 0 = k }

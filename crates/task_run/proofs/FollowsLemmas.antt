@@ -13,12 +13,14 @@ use Rattle.module_area.specs.Notes.{Notes}
 use Rattle.module_area.specs.Control.{after_open, after_end, after_call}
 use Rattle.module_area.specs.Tied.{IsTied}
 use Rattle.module_area.proofs.Laws.{tied_same}
-use Rattle.svc_monitor.specs.Observed.{Observes, IsShown}
-use Rattle.svc_monitor.specs.Answered.{known_tag, Answered, Turns}
-use Rattle.svc_monitor.proofs.Laws.{Observes-none, Observes-append, Answered-none, Answered-append, Answered-tags, rises_append, rises_high}
+use Rattle.task_run.specs.Observed.{Observes, IsRecorded}
+use Rattle.task_run.specs.Answered.{known_tag, Answered, Turns}
+use Rattle.task_run.proofs.ObservedLemmas.{Observes-none, Observes-append}
+use Rattle.task_run.proofs.AnsweredLemmas.{Answered-none, Answered-append, Answered-tags}
+use Rattle.task_run.proofs.RiseLemmas.{rises_append, rises_high}
 use Rattle.task_run.specs.Meaning.{control_by}
-use Rattle.task_run.specs.Called.{notes_by, last_by, Follows}
-use Rattle.task_run.proofs.RiseLemmas.{call_rises}
+use Rattle.task_run.specs.Controlled.{notes_by, last_by, Follows}
+use Rattle.task_run.proofs.KnownLemmas.{call_rises}
 use Rattle.task_run.proofs.WindowLemmas.{tied_by}
 
 -- places of controlled sessions have no window
@@ -91,7 +93,7 @@ call_changed plan n c (Some k) is =
 
 -- what was known before it is known behind it
 
-pub shown_changed : (plan : PlanView) (b c : Notes) (s p : ℕ) (f : Fact) → Changes plan b c → IsShown b s p f → IsShown c s p f
+pub shown_changed : (plan : PlanView) (b c : Notes) (s p : ℕ) (f : Fact) → Changes plan b c → IsRecorded b s p f → IsRecorded c s p f
 shown_changed plan b c s p f ch shown = elim shown [
   | inl m ↦ inl (ap (λ (g : ℕ → ℕ → Fact → Bool). g s p f) ch.marked ∙ m)
   | inr m ↦ inr (ap (λ (g : ℕ → ℕ → Bool). g s p) ch.full ∙ m)

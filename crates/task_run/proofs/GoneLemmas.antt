@@ -4,22 +4,22 @@ use Rattle.cov_base.specs.Meaning.{Memory, State, Visit}
 use Rattle.module_area.specs.Meaning.{ControlView, PlanView}
 use Rattle.module_area.specs.Notes.{Notes}
 use Rattle.module_area.specs.Rule.{IsPlan}
-use Rattle.observed_step.proofs.Laws.{course-returned, course-none, course-more, course-ended}
-use Rattle.observed_step.specs.Meaning.{DoneBehind, Tour, Turn, calls_of, course_on, step_behind, turn_of, visits_of, with_cpu}
+use Rattle.task_run.proofs.CourseLemmas.{course-returned, course-none, course-more, course-ended}
+use Rattle.task_run.specs.Meaning.{DoneBehind, Tour, Turn, calls_of, course_on, step_behind, turn_of, visits_of, with_cpu}
 use Rattle.brk_table.specs.Meaning.{TablesView}
-use Rattle.observed_step.specs.Hooks.{Way}
-use Rattle.observed_step.specs.Runs.{EndsAs, Goes, Stand, Takes, course_of, stand}
-use Rattle.observed_step.specs.Steps.{memory_at, stands}
-use Rattle.observed_step.specs.declared.bench.Bench.{Bench}
-use Rattle.observed_step.specs.declared.task.TaskEnd.{TaskEnd}
+use Rattle.task_run.specs.Hooks.{Way}
+use Rattle.task_run.specs.Runs.{EndsAs, Goes, Stand, Takes, course_of, stand}
+use Rattle.task_run.specs.Steps.{memory_at, stands}
+use Rattle.task_run.specs.declared.bench.Bench.{Bench}
+use Rattle.task_run.specs.declared.task.TaskEnd.{TaskEnd}
 use Rattle.s370_exec.proofs.Laws.{solo_step-done}
 use Rattle.s370_exec.specs.Meaning.{solo_step, has_returned}
 use Rattle.s370_state.specs.declared.endings.Next.{Next}
 use Rattle.s370_state.specs.declared.endings.Next.TheVariants.{On, Ended}
-use Rattle.svc_monitor.specs.Noting.{MakesEach, HasAnswered}
+use Rattle.task_run.specs.Noting.{MakesEach, HasAnswered}
 use Rattle.task_run.specs.Aside.{IsAside}
 use Rattle.task_run.proofs.AsideLemmas.{Made-aside}
-use Rattle.task_run.proofs.RunLemmas.{Made, Made-none, Made-more, Adds-step}
+use Rattle.task_run.proofs.MadeLemmas.{Made, Made-none, Made-more, AddsTurn-step}
 
 -- it is the turn of a task that has done so many instructions before
 pub record IsTurn (m : Memory) (done : ℕ) (turn : Turn) : Type 0 where
@@ -63,7 +63,7 @@ module _ (m : Memory) (plan : PlanView) (is : IsPlan plan) (first : Notes) (c : 
   one_turn i turn old new d e trace called t n made =
       subst (λ (u : Turn). NotesTurn plan old d u new e → Made plan first new c e (i + 1) (trace ++ u.visits) (called ++ u.call ∷ [])) (sym t.is)
       (λ h. Made-aside plan first h.called new c e (i + 1) (trace ++ (solo_step m t.state).visits) _ h.aside
-      (Made-more m plan first old h.called c d e i t.state trace called is t.count made (Adds-step m plan old h.visited h.called d e t.state h.made h.answered))) n
+      (Made-more m plan first old h.called c d e i t.state trace called is t.count made (AddsTurn-step m plan old h.visited h.called d e t.state h.made h.answered))) n
 
   pub gone : {H P : Type 0} (notes : P → Notes) (takes : ℕ → Turn → Stand H P → Stand H P → Type 0) → ((i : ℕ) (turn : Turn) (v w : Stand H P) → takes i turn v w → NotesTurn plan (notes v.pass) v.control turn (notes w.pass) w.control) →
       (i : ℕ) (turns : List Turn) (x y : Stand H P) (trace : List Visit) (called : List (Option ℕ)) → AreTurns m i turns → Goes takes i turns x y → Made plan first (notes x.pass) c x.control i trace called →

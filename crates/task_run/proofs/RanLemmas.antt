@@ -5,11 +5,11 @@ use Rattle.module_area.specs.Notes.{Notes}
 use Rattle.module_area.specs.Meaning.{PlanView}
 use Rattle.module_area.specs.Rule.{IsPlan}
 use Rattle.module_area.specs.Tied.{IsTied}
-use Rattle.observed_step.specs.Steps.{memory_at, stands}
+use Rattle.task_run.specs.Steps.{memory_at, stands}
 use Rattle.task_run.specs.Meaning.{Course}
 use Rattle.task_run.specs.Ran.{RanAs, run_from, walk_from}
 use Rattle.task_run.specs.declared.tasks.Task.{Task}
-use Rattle.task_run.proofs.RunLemmas.{Made}
+use Rattle.task_run.proofs.MadeLemmas.{Made}
 use Rattle.task_run.proofs.TallyLemmas.{has_planted}
 use Rattle.task_run.proofs.WindowLemmas.{has_windows}
 

@@ -1,54 +1,77 @@
--- A task's calls lower no tag that its pass knows.
-use Rattle.std.proofs.Common.{◌≡◌, ℕ, ◌+◌, ◌-◌, ◌*◌, ◌<◌, ◌≤◌, Bool, true, false, if◌then◌else◌, ◌==◌, min, nat_eq, Option, Some, None, List, All, refl, subst, arith, eqb-true}
-use Rattle.std.proofs.lemmas.Bool.{cond_both}
-use Rattle.cov_base.specs.declared.numbers.PlaceNo.{PlaceNo}
-use Rattle.cov_base.specs.declared.numbers.SessNo.{SessNo}
-use Rattle.module_area.specs.Meaning.{PlanView, has_place, ControlView, places_under, to_open}
-use Rattle.module_area.specs.Rule.{IsPlan}
-use Rattle.module_area.specs.Notes.{Notes, keeps}
-use Rattle.module_area.specs.Control.{after_open, after_end, after_call}
-use Rattle.module_area.specs.Tied.{IsTied}
-use Rattle.module_area.proofs.Laws.{any_at}
-use Rattle.planter.proofs.Laws.{may_plant, may_close, next_kept, next_later, open_kept}
-use Rattle.svc_monitor.specs.Answered.{known_tag}
+-- The tags of a pass's fetches at one place never fall.
+use Rattle.std.proofs.Common.{◌≡◌, ℕ, suc, zero, ◌+◌, ◌<◌, ◌≤◌, Bool, true, false, if◌then◌else◌, min, nat_eq, List, [], ◌∷◌, ◌++◌, length, get_or, AllPairs, refl, sym, ◌∙◌, ap, subst, arith, eqb-true, eq-eqb}
+use Rattle.module_area.specs.declared.cells.Cell.{Cell}
+use Rattle.module_area.specs.Meaning.{PlanView}
+use Rattle.module_area.specs.Notes.{Notes, keeps, keeps_as, IsAnswer}
+use Rattle.task_run.specs.Answered.{RisesAt, known_tag}
 
-at_place : (P : ℕ → Type 0) (places : List PlaceNo) (p : ℕ) → All (λ (q : PlaceNo). P q.0) places → has_place places p ≡ true → P p
-at_place P places p all has =
-    let d : PlaceNo = record { 0 = p } in
-    let a = any_at (λ (q : PlaceNo). nat_eq q.0 p) places d has in
-    subst P (eqb-true _ _ a.2) (all a.0 d a.1)
+pub rises_low : (p a b c : ℕ) (xs : List (ℕ × Cell)) → a ≤ b → RisesAt p b xs c → RisesAt p a xs c
+rises_low p a b c [] le r = omega (arith, le, r)
+rises_low p a b c (x ∷ xs) le r = (r.0, omega (arith, le, r.1), λ e. (omega (arith, le, (r.2 e).0), (r.2 e).1), r.3)
 
--- by whether it keeps the place, and whether the session is over it
-changed_known : (k b : Bool) (last seen tag : ℕ) → (b ≡ true → (k ≡ true) × (last ≤ tag)) → (if k then min last seen else seen) ≤ (if k then min (if b then tag else last) (if b then tag else seen) else (if b then tag else seen))
-changed_known true true last seen tag own = let h = (own refl).1 in omega (arith, h)
-changed_known true false last seen tag own = omega arith
-changed_known false true last seen tag own = let h : false ≡ true = (own refl).0 in absurd cc
-changed_known false false last seen tag own = omega arith
+pub rises_high : (p a b c : ℕ) (xs : List (ℕ × Cell)) → RisesAt p a xs b → b ≤ c → RisesAt p a xs c
+rises_high p a b c [] r le = omega (arith, le, r)
+rises_high p a b c (x ∷ xs) r le = (r.0, r.1, r.2, rises_high p r.0 b c xs r.3 le)
 
-module _ (plan : PlanView) (is : IsPlan plan) (n : Notes) (c : ControlView) (tie : IsTied plan n c) (p : ℕ) where
-  open_known : (o : Option SessNo) → to_open c ≡ o → known_tag plan n p ≤ known_tag plan (after_open plan n o) p
-  open_known None e = omega arith
-  open_known (Some s) e =
-      let later : All (λ (q : PlaceNo). n.last q.0 + 1 < 2 * s.0) (places_under plan s.0) = next_later plan n c tie s e in
-      let may = may_plant plan n is s.0 (next_kept plan n c tie s e) later in
-      changed_known (keeps plan n p) (has_place (places_under plan s.0) p) (n.last p) (n.seen p) (2 * s.0 - 1) (λ has. (
-        at_place (λ (q : ℕ). keeps plan n q ≡ true) (places_under plan s.0) p may.keeper has,
-        (let low : n.last p + 1 < 2 * s.0 = at_place (λ (q : ℕ). n.last q + 1 < 2 * s.0) (places_under plan s.0) p later has in omega (arith, low)),
-      ))
+pub rises_append : (p a b c : ℕ) (xs ys : List (ℕ × Cell)) → RisesAt p a xs b → RisesAt p b ys c → RisesAt p a (xs ++ ys) c
+rises_append p a b c [] ys r s = rises_low p a b c ys r s
+rises_append p a b c (x ∷ xs) ys r s = (r.0, r.1, r.2, rises_append p r.0 b c xs ys r.3 s)
 
-  end_known : (o : Option SessNo) → c.opened ≡ o → known_tag plan n p ≤ known_tag plan (after_end plan n o) p
-  end_known None e = omega arith
-  end_known (Some s) e =
-      let planted : All (λ (q : PlaceNo). n.last q.0 + 1 ≡ 2 * s.0) (places_under plan s.0) = tie.planted s e in
-      let may = may_close plan n is s.0 (open_kept plan n c s tie e) planted in
-      changed_known (keeps plan n p) (has_place (places_under plan s.0) p) (n.last p) (n.seen p) (2 * s.0) (λ has. (
-        at_place (λ (q : ℕ). keeps plan n q ≡ true) (places_under plan s.0) p may.keeper has,
-        (let low : n.last p + 1 ≡ 2 * s.0 = at_place (λ (q : ℕ). n.last q + 1 ≡ 2 * s.0) (places_under plan s.0) p planted has in omega (arith, low)),
-      ))
+-- a fetch
 
-  pub call_rises : (call : Option ℕ) → known_tag plan n p ≤ known_tag plan (after_call plan n c call) p
-  call_rises None = omega arith
-  call_rises (Some k) =
-      cond_both (k == 4) (after_open plan n (to_open c)) (if k == 5 then after_end plan n c.opened else n) (λ (m : Notes). known_tag plan n p ≤ known_tag plan m p)
-      (λ e. open_known (to_open c) refl)
-      (λ e. cond_both (k == 5) (after_end plan n c.opened) n (λ (m : Notes). known_tag plan n p ≤ known_tag plan m p) (λ f. end_known c.opened refl) (λ f. omega arith))
+fetched_known : (k q : Bool) (last seen tag : ℕ) → (k ≡ true → q ≡ true → tag ≡ last) → (q ≡ true → seen ≤ tag) →
+    (if k then min last seen else seen) ≤ (if k then min last (if q then tag else seen) else (if q then tag else seen))
+fetched_known true true last seen tag kept later = let t = kept refl refl in let l = later refl in omega (arith, t, l)
+fetched_known true false last seen tag kept later = omega arith
+fetched_known false true last seen tag kept later = later refl
+fetched_known false false last seen tag kept later = omega arith
+
+fetched_there : (k : Bool) (last seen tag : ℕ) → (k ≡ true → tag ≡ last) → seen ≤ tag → ((if k then min last seen else seen) ≤ tag) × (tag ≤ (if k then min last tag else tag))
+fetched_there true last seen tag kept later = let t = kept refl in (omega (arith, t), omega (arith, t))
+fetched_there false last seen tag kept later = (later, omega arith)
+
+-- of which the new notes tell what the pass keeps, and the tags
+pub rises_fetched : (plan : PlanView) (old new : Notes) (q : ℕ) (cell : Cell) → IsAnswer plan old q cell → new.bears ≡ old.bears → new.out ≡ old.out → new.last ≡ old.last →
+    ((p : ℕ) → new.seen p ≡ (if nat_eq p q then cell.tag else old.seen p)) → (p : ℕ) → RisesAt p (known_tag plan old p) ((q, cell) ∷ []) (known_tag plan new p)
+rises_fetched plan old new q cell a bears out last seen p =
+    let k : Bool = keeps plan old p in
+    let is : known_tag plan new p ≡ (if k then min (old.last p) (if nat_eq p q then cell.tag else old.seen p) else (if nat_eq p q then cell.tag else old.seen p)) =
+    (λ i. if keeps_as plan (bears i) (out i) p then min (last i p) (seen p i) else seen p i) in (
+      known_tag plan new p,
+      subst (λ (x : ℕ). known_tag plan old p ≤ x) (sym is) (fetched_known k (nat_eq p q) (old.last p) (old.seen p) cell.tag (λ kept here. its_last (eqb-true p q here) kept) (λ here. its_seen (eqb-true p q here))),
+      λ here.
+          let e : p ≡ q = sym here in
+          let at : nat_eq p q ≡ true = eq-eqb p q e in
+          let is_tag : known_tag plan new p ≡ (if k then min (old.last p) cell.tag else cell.tag) = is ∙ ap (λ (b : Bool). if k then min (old.last p) (if b then cell.tag else old.seen p) else (if b then cell.tag else old.seen p)) at in
+          let both = fetched_there k (old.last p) (old.seen p) cell.tag (its_last e) (its_seen e) in
+          (both.0, subst (λ (x : ℕ). cell.tag ≤ x) (sym is_tag) both.1),
+      omega arith,
+    )
+  where
+    its_last : p ≡ q → keeps plan old p ≡ true → cell.tag ≡ old.last p
+    its_last e kept = a.kept (ap (keeps plan old) (sym e) ∙ kept) ∙ ap old.last (sym e)
+
+    its_seen : p ≡ q → old.seen p ≤ cell.tag
+    its_seen e = subst (λ (r : ℕ). old.seen r ≤ cell.tag) (sym e) a.later
+
+-- what this says of a list
+
+pub rises_between : (p a b : ℕ) (xs : List (ℕ × Cell)) → RisesAt p a xs b → (i : ℕ) (d : ℕ × Cell) → i < length xs → (get_or xs i d).0 ≡ p → (a ≤ (get_or xs i d).1.tag) × ((get_or xs i d).1.tag ≤ b)
+rises_between p a b [] r i d l e = absurd (omega (arith, l))
+rises_between p a b (x ∷ xs) r zero d l e = ((r.2 e).0, omega (arith, (r.2 e).1, ordered p r.0 b xs r.3))
+  where
+    ordered : (p a b : ℕ) (xs : List (ℕ × Cell)) → RisesAt p a xs b → a ≤ b
+    ordered p a b [] r = r
+    ordered p a b (x ∷ xs) r = omega (arith, r.1, ordered p r.0 b xs r.3)
+rises_between p a b (x ∷ xs) r (suc i) d l e = let rest = rises_between p r.0 b xs r.3 i d (omega (arith, l)) e in (omega (arith, r.1, rest.0), rest.1)
+
+pub rises_all : (low high : ℕ → ℕ) (xs : List (ℕ × Cell)) → ((p : ℕ) → RisesAt p (low p) xs (high p)) → AllPairs (λ (x y : ℕ × Cell). x.0 ≡ y.0 → x.1.tag ≤ y.1.tag) xs
+rises_all low high [] r i j d lt l = absurd (omega (arith, l))
+rises_all low high (x ∷ xs) r zero zero d lt l = absurd (omega (arith, lt))
+rises_all low high (x ∷ xs) r zero (suc j) d lt l = λ e.
+    let y : ℕ × Cell = get_or xs j d in
+    let at = r y.0 in
+    let behind = rises_between y.0 at.0 (high y.0) xs at.3 j d (omega (arith, l)) refl in
+    omega (arith, (at.2 e).1, behind.0)
+rises_all low high (x ∷ xs) r (suc i) zero d lt l = absurd (omega (arith, lt))
+rises_all low high (x ∷ xs) r (suc i) (suc j) d lt l = rises_all (λ p. (r p).0) high xs (λ p. (r p).3) i j d (omega (arith, lt)) (omega (arith, l))

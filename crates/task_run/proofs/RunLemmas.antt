@@ -1,62 +1,84 @@
--- What a run's pass has made, instruction by instruction.
-use Rattle.std.proofs.Common.{◌≡◌, ℕ, ◌+◌, ◌*◌, ◌<◌, ◌≤◌, Option, List, [], ◌∷◌, ◌++◌, length, inl, inr, refl, ◌∙◌, arith, length-append}
-use Rattle.cov_base.specs.declared.limits.TheConstants.{PLACE_LIMIT}
-use Rattle.cov_base.specs.Meaning.{Memory, State, Visit}
-use Rattle.s370_exec.specs.Meaning.{call_of, solo_step}
-use Rattle.module_area.specs.Meaning.{PlanView, ControlView, control_after}
-use Rattle.module_area.specs.Rule.{IsPlan, Has}
-use Rattle.module_area.specs.Notes.{Notes, calls}
-use Rattle.s370_exec.proofs.Laws.{solo_step-visits}
-use Rattle.svc_monitor.specs.Answered.{Turns}
-use Rattle.svc_monitor.specs.Noting.{MakesEach, HasAnswered}
-use Rattle.svc_monitor.proofs.Laws.{turned, few_calls}
-use Rattle.task_run.specs.Called.{Follows}
-use Rattle.task_run.proofs.VisitLemmas.{step_visits}
-use Rattle.task_run.proofs.FollowsLemmas.{Follows-none, Follows-more}
+-- What the instructions that are done have led to.
+use Rattle.std.proofs.Common.{◌≡◌, ℕ, ◌+◌, ◌-◌, ◌<◌, ◌≤◌, suc, true, false, if◌then◌else◌, List, [], ◌∷◌, ◌++◌, length, refl, sym, ◌∙◌, ap, subst, arith, append-nil, length-append}
+use Rattle.cov_base.specs.Meaning.{Memory, State}
+use Rattle.s370_exec.specs.Meaning.{solo_step, has_returned}
+use Rattle.s370_state.specs.declared.endings.Ending.{Ending}
+use Rattle.s370_state.specs.declared.endings.Ending.TheVariants.{Returned, Spent}
+use Rattle.s370_state.specs.declared.endings.Next.TheVariants.{On, Ended}
+use Rattle.task_run.specs.Meaning.{DoneBehind, Behind, Tour, Turn, course_on, ends_here, step_behind, turn_of, turned, with_cpu}
+use Rattle.task_run.specs.Runs.{Goes}
+use Rattle.task_run.proofs.CourseLemmas.{course-returned, course-none, course-more, course-ended, last_turn, turned-more}
+use Rattle.task_run.proofs.GoesLemmas.{goes_more}
 
--- the pass has made the visits and the calls of a run's first i instructions
-pub record Made (plan : PlanView) (old new : Notes) (c d : ControlView) (i : ℕ) (trace : List Visit) (called : List (Option ℕ)) : Type 0 where
-  pub follows : Follows plan old new trace called c d
-  pub count : length called ≡ i
-  pub before : (v : Visit) → Has v trace → v.before < i
-  pub few : calls new ≤ calls old + (6 + PLACE_LIMIT) * i
+-- i instructions of the course have led to this key and state, and between them from x to y
+pub record LedTo {K S : Type 0} (after : DoneBehind K) (m : Memory) (takes : ℕ → Turn → S → S → Type 0) (budget : ℕ) (first : K) (start : State) (x : S) (i : ℕ) (key : K) (now : State) (y : S) : Type 0 where
+  pub turns : List Turn
+  pub count : length turns ≡ i
+  pub course : course_on after m budget first start ≡ turned turns (course_on after m (budget - i) key now)
+  pub goes : Goes takes 0 turns x y
 
-pub Made-none : (plan : PlanView) (n : Notes) (c : ControlView) → Made plan n n c c 0 [] []
-Made-none plan n c = record {
-  follows = Follows-none plan n c;
-  count = refl;
-  before = λ v there. absurd there;
-  few = omega arith;
+pub LedTo-start : {K S : Type 0} (after : DoneBehind K) (m : Memory) (takes : ℕ → Turn → S → S → Type 0) (budget : ℕ) (k : K) (s : State) (x : S) → LedTo after m takes budget k s x 0 k s x
+LedTo-start after m takes budget k s x =
+    let all : budget - 0 ≡ budget = omega arith in
+    record { turns = []; count = refl; course = rw all refl; goes = refl }
+
+left : (budget i : ℕ) → i < budget → budget - i ≡ suc (budget - (i + 1))
+left budget i lt = omega arith
+
+pub LedTo-more : {K S : Type 0} (after : DoneBehind K) (m : Memory) (takes : ℕ → Turn → S → S → Type 0) (budget : ℕ) (first : K) (start : State) (x : S) (i : ℕ) (k : K) (s t : State) (y z : S) (b : Behind K) →
+    LedTo after m takes budget first start x i k s y → i < budget → has_returned s ≡ false → step_behind after m k s ≡ b → b.next ≡ On → with_cpu (solo_step m s).state b.cpu ≡ t →
+    takes (i + 1) (turn_of m s) y z → LedTo after m takes budget first start x (i + 1) b.key t z
+LedTo-more after m takes budget first start x i k s t y z b r lt here behind next state took = record {
+  turns = r.turns ++ turn_of m s ∷ [];
+  count = let added = length-append r.turns (turn_of m s ∷ []) in omega (arith, added, r.count);
+  course = r.course ∙ (ap (λ n. turned r.turns (course_on after m n k s)) (left budget i lt)
+      ∙ (ap (turned r.turns) (course-more after m (budget - (i + 1)) k s b here behind next)
+      ∙ (turned-more r.turns (turn_of m s) _ ∙ ap (λ (u : State). turned (r.turns ++ turn_of m s ∷ []) (course_on after m (budget - (i + 1)) b.key u)) state)));
+  goes = goes_more takes 0 i r.turns (turn_of m s) x y z (omega (arith, r.count)) r.goes took;
 }
 
-in_both : (v : Visit) (xs ys : List Visit) (i : ℕ) → ((v : Visit) → Has v xs → v.before < i) → ((v : Visit) → Has v ys → v.before ≡ i) → Has v (xs ++ ys) → v.before < i + 1
-in_both v [] ys i before here there = let e = here v there in omega arith
-in_both v (x ∷ xs) ys i before here there = elim there [
-  | inl first ↦ let b = before v (inl first) in omega arith
-  | inr rest ↦ in_both v xs ys i (λ w h. before w (inr h)) here rest
-]
+-- the tour has this end, and its turns lead from x to y
+pub record Ran {S : Type 0} (takes : ℕ → Turn → S → S → Type 0) (tour : Tour) (x y : S) (e : Ending) (last : State) (at done : ℕ) : Type 0 where
+  pub ending : tour.ending ≡ e
+  pub state : tour.state ≡ last
+  pub address : tour.at ≡ at
+  pub count : length tour.turns ≡ done
+  pub goes : Goes takes 0 tour.turns x y
 
--- what one instruction adds
-pub record Adds (m : Memory) (plan : PlanView) (mid new : Notes) (d e : ControlView) (s : State) : Type 0 where
-  pub turns : Turns plan mid new (solo_step m s).visits d (call_of m s)
-  pub control : e ≡ control_after d (call_of m s)
-  pub few : calls new ≤ calls mid + 6 + PLACE_LIMIT
-
-pub Adds-step : (m : Memory) (plan : PlanView) (old mid new : Notes) (d e : ControlView) (s : State) → MakesEach plan old (solo_step m s).visits mid → HasAnswered plan mid d (call_of m s) new e → Adds m plan old new d e s
-Adds-step m plan old mid new d e s made answered = record {
-  turns = turned plan old mid new (solo_step m s).visits d e (call_of m s) made answered;
-  control = answered.control;
-  few = few_calls plan old mid new (solo_step m s).visits d e (call_of m s) (solo_step-visits m s) made answered;
+ran : {S : Type 0} (takes : ℕ → Turn → S → S → Type 0) (tour : Tour) (x y : S) (ending : Ending) (last : State) (at done : ℕ) (turns : List Turn) →
+    tour ≡ record { ending = ending; state = last; at = at; turns = turns } → length turns ≡ done → Goes takes 0 turns x y → Ran takes tour x y ending last at done
+ran takes tour x y ending last at done turns is count goes = record {
+  ending = ap (λ (t : Tour). t.ending) is;
+  state = ap (λ (t : Tour). t.state) is;
+  address = ap (λ (t : Tour). t.at) is;
+  count = ap (λ (t : Tour). length t.turns) is ∙ count;
+  goes = subst (λ (ts : List Turn). Goes takes 0 ts x y) (sym (ap (λ (t : Tour). t.turns) is)) goes;
 }
 
-pub Made-more : (m : Memory) (plan : PlanView) (old mid new : Notes) (c d e : ControlView) (i : ℕ) (s : State) (trace : List Visit) (called : List (Option ℕ)) → IsPlan plan → s.done ≡ i →
-    Made plan old mid c d i trace called → Adds m plan mid new d e s → Made plan old new c e (i + 1) (trace ++ (solo_step m s).visits) (called ++ call_of m s ∷ [])
-Made-more m plan old mid new c d e i s trace called is done r a = record {
-  follows = Follows-more plan old mid new trace (solo_step m s).visits called (call_of m s) c d e is
-      (λ v there. let b = r.before v there in omega (arith, b, r.count))
-      (λ v there. let b = step_visits m s v there in omega (arith, b, done, r.count))
-      r.follows a.turns a.control;
-  count = omega (arith, r.count, length-append called (call_of m s ∷ []));
-  before = λ v there. in_both v trace (solo_step m s).visits i r.before (λ w h. step_visits m s w h ∙ done) there;
-  few = omega (arith, r.few, a.few);
-}
+pub Ran-ended : {K S : Type 0} (after : DoneBehind K) (m : Memory) (takes : ℕ → Turn → S → S → Type 0) (budget : ℕ) (first : K) (start : State) (x : S) (i : ℕ) (k : K) (s t : State) (y z : S) (b : Behind K) (e : Ending) (at : ℕ) →
+    LedTo after m takes budget first start x i k s y → i < budget → has_returned s ≡ false → step_behind after m k s ≡ b → b.next ≡ Ended e → with_cpu (solo_step m s).state b.cpu ≡ t →
+    takes (i + 1) (turn_of m s) y z → s.machine.cpu.ia ≡ at → Ran takes (course_on after m budget first start) x z e t at (i + 1)
+Ran-ended after m takes budget first start x i k s t y z b e at r lt here behind next state took ia =
+    ran takes (course_on after m budget first start) x z e t at (i + 1) (r.turns ++ turn_of m s ∷ [])
+    (r.course ∙ (ap (λ n. turned r.turns (course_on after m n k s)) (left budget i lt)
+    ∙ (ap (turned r.turns) (course-ended after m (budget - (i + 1)) k s b e here behind next)
+    ∙ (λ j. turned r.turns (last_turn (turn_of m s) (ia j) e (state j))))))
+    (let added = length-append r.turns (turn_of m s ∷ []) in omega (arith, added, r.count))
+    (goes_more takes 0 i r.turns (turn_of m s) x y z (omega (arith, r.count)) r.goes took)
+
+stays : (turns : List Turn) (e : Ending) (s : State) → turned turns (ends_here e s) ≡ record { ending = e; state = s; at = s.machine.cpu.ia; turns = turns }
+stays turns e s = ap (λ (ts : List Turn). record (ends_here e s) { turns = ts }) (append-nil turns)
+
+pub Ran-returned : {K S : Type 0} (after : DoneBehind K) (m : Memory) (takes : ℕ → Turn → S → S → Type 0) (budget : ℕ) (first : K) (start : State) (x : S) (i : ℕ) (k : K) (s : State) (y : S) (at : ℕ) →
+    LedTo after m takes budget first start x i k s y → has_returned s ≡ true → s.machine.cpu.ia ≡ at → Ran takes (course_on after m budget first start) x y Returned s at i
+Ran-returned after m takes budget first start x i k s y at r here ia =
+    ran takes (course_on after m budget first start) x y Returned s at i r.turns
+    (r.course ∙ (ap (turned r.turns) (course-returned after m (budget - i) k s here) ∙ (stays r.turns Returned s ∙ ap (λ a. record (ends_here Returned s) { at = a; turns = r.turns }) ia))) r.count r.goes
+
+pub Ran-all : {K S : Type 0} (after : DoneBehind K) (m : Memory) (takes : ℕ → Turn → S → S → Type 0) (budget : ℕ) (first : K) (start : State) (x : S) (i : ℕ) (k : K) (s : State) (y : S) (e : Ending) (at : ℕ) →
+    LedTo after m takes budget first start x i k s y → budget ≤ i → (if has_returned s then Returned else Spent) ≡ e → s.machine.cpu.ia ≡ at → Ran takes (course_on after m budget first start) x y e s at i
+Ran-all after m takes budget first start x i k s y e at r all ending ia =
+    let none : budget - i ≡ 0 = omega arith in
+    ran takes (course_on after m budget first start) x y e s at i r.turns
+    (r.course ∙ (ap (λ n. turned r.turns (course_on after m n k s)) none ∙ (ap (turned r.turns) (course-none after m k s)
+    ∙ (stays r.turns (if has_returned s then Returned else Spent) s ∙ (λ j. record { ending = ending j; state = s; at = ia j; turns = r.turns }))))) r.count r.goes

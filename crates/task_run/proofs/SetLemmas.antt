@@ -14,8 +14,8 @@ use Rattle.module_area.specs.Rule.{IsPlan}
 use Rattle.module_area.specs.Notes.{Notes}
 use Rattle.module_area.specs.Ended.{HasSets, HasTally}
 use Rattle.module_area.proofs.Laws.{same_fact-true, pairs_are_places, same_tests}
-use Rattle.svc_monitor.specs.Observed.{Observes, Stays, IsShown}
-use Rattle.svc_monitor.proofs.Laws.{has_fact-none, facts_at-more, facts_at-append}
+use Rattle.task_run.specs.Observed.{Observes, Stays, IsRecorded}
+use Rattle.task_run.proofs.ObservedLemmas.{has_fact-none, facts_at-more, facts_at-append}
 
 -- sets with the same facts
 
@@ -68,7 +68,7 @@ facts_of_all-one place (t ∷ ts) =
 pub set_at-facts : (plan : PlanView) (ended : Notes) (finals : FinalsView) (p : ℕ) (facts : FactSet) → IsPlan plan → HasSets plan ended finals →
     p < length plan.places → 0 < window_at plan p →
     ((f : Fact) → ended.marked (window_at plan p) p f ≡ true → has_fact facts f ≡ true) →
-    ((f : Fact) → has_fact facts f ≡ true → IsShown ended (window_at plan p) p f) →
+    ((f : Fact) → has_fact facts f ≡ true → IsRecorded ended (window_at plan p) p f) →
     ((f : Fact) → has_fact facts f ≡ true → is_of_kind (kind_at plan p) f ≡ true) → set_at finals (window_at plan p) p ≡ facts
 set_at-facts plan ended finals p facts is sets lt window within shown kind =
     let w : ℕ = window_at plan p in

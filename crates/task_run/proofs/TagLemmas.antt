@@ -5,7 +5,7 @@ use Rattle.module_area.specs.Meaning.{PlanView, ControlView, to_open, control_af
 use Rattle.module_area.specs.Notes.{Notes}
 use Rattle.module_area.specs.Control.{after_open, after_end, after_call}
 use Rattle.task_run.specs.Meaning.{tag_opened, tag_closed, tag_after, tag_by}
-use Rattle.task_run.specs.Called.{notes_by}
+use Rattle.task_run.specs.Controlled.{notes_by}
 
 open_last : (plan : PlanView) (p : ℕ) (n : Notes) (o : Option SessNo) → (after_open plan n o).last p ≡ tag_opened plan p (n.last p) o
 open_last plan p n None = refl

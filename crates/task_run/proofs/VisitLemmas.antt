@@ -1,56 +1,38 @@
--- A step's visits stand under the number of instructions done before it.
-use Rattle.std.proofs.Common.{◌≡◌, ℕ, true, false, Option, Some, None, List, [], ◌∷◌, inl, inr, refl, sym, ap, ◌∙◌}
-use Rattle.std.proofs.lemmas.Bool.{cond_both}
-use Rattle.cov_base.specs.Meaning.{length_of, Memory, half_at, State, Visit}
-use Rattle.s370_state.specs.declared.endings.Ending.{Ending}
-use Rattle.s370_decode.specs.Meaning.{ex, op_of}
-use Rattle.s370_decode.specs.declared.code.Code.{Code}
-use Rattle.s370_branch.specs.Meaning.{goes}
-use Rattle.s370_exec.specs.Meaning.{effect, updated, link_code, code_at, first_tests, rest_tests, subject_tests, is_execute, Step, solo_step, from_first, fetched, begun_step, stepped, visit, behind, subject_step, subject_fetched}
-use Rattle.module_area.specs.Rule.{Has}
+-- What a pass makes of one visit, by what was fetched for it.
+use Rattle.std.proofs.Common.{◌≡◌, ◌≢◌, ℕ, ◌+◌, ◌/◌, true, false, List, [], ◌∷◌, refl, sym, ◌∙◌, ap, subst}
+use Rattle.cov_base.specs.Meaning.{breakpoint, fact_of, Visit}
+use Rattle.cov_base.specs.declared.facts.Fact.{Fact}
+use Rattle.module_area.specs.declared.cells.Cell.{Cell}
+use Rattle.module_area.specs.declared.places.Place.{Place}
+use Rattle.module_area.specs.Meaning.{is_place, PlanView, kind_at}
+use Rattle.module_area.specs.Notes.{Notes, IsAnswer, after_fetch}
+use Rattle.task_run.specs.Sights.{BeginsAt}
+use Rattle.task_run.specs.Answered.{Makes}
+use Rattle.task_run.specs.Noting.{MakesEach}
+use Rattle.task_run.specs.Traps.{Settles}
+use Rattle.task_run.proofs.AnsweredLemmas.{Makes-plain, Makes-kept, Makes-settled}
 
-abbrev AreBehind : ℕ → List Visit → Type 0
-AreBehind n vs = (v : Visit) → Has v vs → v.before ≡ n
+-- no place begins there
+pub makes_nothing : (own : PlanView) (places : List Place) (n : Notes) (v : Visit) → own.places ≡ places → is_place places v.at ≡ false → MakesEach own n (v ∷ []) n
+makes_nothing own places n v same none = (n, Makes-plain own n v (ap (λ l. is_place l v.at) same ∙ none), refl)
 
-one : (n : ℕ) (v : Visit) (vs : List Visit) → v.before ≡ n → AreBehind n vs → AreBehind n (v ∷ vs)
-one n v vs e rest w there = elim there [
-  | inl same ↦ sym (ap (λ (x : Visit). x.before) same) ∙ e
-  | inr later ↦ rest w later
-]
+one : (own : PlanView) (old new : Notes) (v : Visit) → Makes own old new (v ∷ []) → MakesEach own old (v ∷ []) new
+one own old new v makes = (new, makes, refl)
 
-none : (n : ℕ) → AreBehind n []
-none n v there = absurd there
+-- the plan that the area was made for, and the tables' places
+module _ (of_area own : PlanView) (places : List Place) (area : of_area ≡ own) (same : own.places ≡ places) where
+  begins_there : (a q : ℕ) → BeginsAt places a q → BeginsAt of_area.places a q
+  begins_there a q begins = subst (λ (l : List Place). BeginsAt l a q) (sym (ap (λ (p : PlanView). p.places) area ∙ same)) begins
 
-of_subject : (m : Memory) (s : State) (c : Code) (a h : ℕ) (rest : Option Ending) → AreBehind s.done (subject_fetched m s c a h rest).visits
-of_subject m s c a h (Some e) = one s.done _ [] refl (none s.done)
-of_subject m s c a h None = one s.done _ [] refl (none s.done)
+  -- the place was free, or the visit wasn't begun
+  pub makes_kept : (old new : Notes) (q : ℕ) (cell : Cell) (v : Visit) → BeginsAt places v.at q → IsAnswer of_area old q cell → new ≡ after_fetch of_area old q cell →
+      (v.begun ≡ true → cell.half ≢ breakpoint) → MakesEach own old (v ∷ []) new
+  makes_kept old new q cell v begins answer notes free =
+      subst (λ (p : PlanView). MakesEach p old (v ∷ []) new) area (one of_area old new v (rw notes (Makes-kept of_area old q cell v (begins_there v.at q begins) answer free)))
 
-of_first : (s : State) (first : Option Ending) (t : Step) → AreBehind s.done t.visits → AreBehind s.done (from_first s first t).visits
-of_first s (Some e) t h = none s.done
-of_first s None t h = h
-
-of_subject_step : (m : Memory) (s : State) (c : Code) → AreBehind s.done (subject_step m s c).visits
-unfolding subject_step
-of_subject_step m s c =
-    let a : ℕ = ex s.machine.cpu c in
-    let h : ℕ = half_at m s.machine.bytes a in
-    of_first s (first_tests m a) (subject_fetched m s c a h (subject_tests m a h)) (of_subject m s c a h (subject_tests m a h))
-
-of_begun : (m : Memory) (s : State) (c : Code) (h : ℕ) → AreBehind s.done (begun_step m s c h).visits
-of_begun m s c h =
-    cond_both (is_execute h) (behind (visit s c.at true false false) (subject_step m s c))
-    (stepped s (effect m s.machine s.io c (op_of h) (updated c None) (link_code c None)) (visit s c.at true (goes (op_of h) s.machine.cpu c) false ∷ []))
-    (λ (t : Step). AreBehind s.done t.visits)
-    (λ e. one s.done _ (subject_step m s c).visits refl (of_subject_step m s c))
-    (λ e. one s.done _ [] refl (none s.done))
-
-of_fetched : (m : Memory) (s : State) (a h : ℕ) (rest : Option Ending) → AreBehind s.done (fetched m s a h rest).visits
-of_fetched m s a h (Some e) = one s.done _ [] refl (none s.done)
-of_fetched m s a h None = of_begun m s (code_at m s.machine.bytes a h) h
-
-pub step_visits : (m : Memory) (s : State) (v : Visit) → Has v (solo_step m s).visits → v.before ≡ s.done
-unfolding solo_step
-step_visits m s v there =
-    let a : ℕ = s.machine.cpu.ia in
-    let h : ℕ = half_at m s.machine.bytes a in
-    of_first s (first_tests m a) (fetched m s a h (rest_tests m a (length_of h))) (of_fetched m s a h (rest_tests m a (length_of h))) v there
+  -- a trap was settled, with the fact that the visit shows
+  pub makes_settled : (old mid new : Notes) (q : ℕ) (cell : Cell) (v : Visit) (f : Fact) → BeginsAt places v.at q → IsAnswer of_area old q cell → mid ≡ after_fetch of_area old q cell → cell.half ≡ breakpoint → v.begun ≡ true →
+      f ≡ fact_of (kind_at of_area q) v.went → Settles of_area mid new (cell.tag / 2 + 1) q f → MakesEach own old (v ∷ []) new
+  makes_settled old mid new q cell v f begins answer notes trap begun fact settles =
+      subst (λ (p : PlanView). MakesEach p old (v ∷ []) new) area
+      (one of_area old new v (Makes-settled of_area old new q cell v (begins_there v.at q begins) trap answer begun (rw (notes, fact) at settles)))

@@ -13,7 +13,7 @@ use Rattle.module_area.specs.Tied.{IsTied}
 use Rattle.module_area.proofs.Laws.{any_at}
 use Rattle.planter.proofs.Laws.{next_at, next_kept, from_one, has_here, tied_open, tied_close}
 use Rattle.task_run.specs.Meaning.{control_by}
-use Rattle.task_run.specs.Called.{notes_by, HasWindows}
+use Rattle.task_run.specs.Controlled.{notes_by, HasWindows}
 
 -- of the sessions that were opened, those that aren't open are over at each of their places
 pub record IsPast (plan : PlanView) (n : Notes) (c : ControlView) : Type 0 where

@@ -1,5 +1,16 @@
+pub mod Answered
 pub mod Aside
 pub mod Called
+pub mod Controlled
+pub mod First
+pub mod Hooks
+pub mod Laws
 pub mod Meaning
+pub mod Noting
+pub mod Observed
 pub mod Ran
+pub mod Runs
 pub mod Settled
+pub mod Sights
+pub mod Steps
+pub mod Traps

@@ -1,13 +1,114 @@
 -- What the claim of the program says by this crate's clauses.
-use Rattle.std.specs.Prelude.{ℕ, ◌-◌, ◌*◌, ◌==◌, Option, Some, None, List, [], ◌∷◌, length, ◌≡◌, Bool, true, false, not, nat_eq, if◌then◌else◌, take}
+use Rattle.std.specs.Prelude.{ℕ, zero, suc, ◌+◌, if◌then◌else◌, Option, List, [], ◌∷◌, ◌++◌, ◌*◌, Bool, ◌&&◌, nat_eq, ◌-◌, ◌==◌, Some, None, length, ◌≡◌, true, false, not, take}
+use Rattle.cov_base.specs.Meaning.{Memory, half_at, wrap, State, CpuView, Machine, Visit, FactSet, no_facts, with_fact, fact_of, has_fact, union}
+use Rattle.s370_exec.specs.Meaning.{call_of, is_execute, solo_step, has_returned}
+use Rattle.s370_state.specs.declared.endings.Next.{Next}
+use Rattle.s370_state.specs.declared.endings.Next.TheVariants.{On, Ended}
+use Rattle.s370_state.specs.declared.endings.Ending.{Ending}
+use Rattle.s370_state.specs.declared.endings.Ending.TheVariants.{Returned, Spent}
+use Rattle.module_area.specs.declared.cells.Cell.{Cell}
+use Rattle.module_area.specs.declared.places.Place.{Place}
+use Rattle.module_area.specs.Meaning.{PlanView, kind_at, is_place, ControlView, has_place, places_under, to_open, control_after, first_control, facts_at, facts_of_all, has_session}
 use Rattle.std.specs.List.{sum_by, filter}
-use Rattle.module_area.specs.Meaning.{PlanView, ControlView, has_place, places_under, to_open, control_after, first_control, facts_at, facts_of_all, has_session}
 use Rattle.cov_base.specs.declared.numbers.SessNo.{SessNo}
-use Rattle.cov_base.specs.Meaning.{Memory, State, Visit, FactSet, no_facts, has_fact, union}
-use Rattle.observed_step.specs.Meaning.{Tour, calls_of, course_on, nothing, visits_of}
 use Rattle.cov_base.specs.declared.facts.Fact.{Fact}
 use Rattle.cov_base.specs.declared.numbers.TaskNo.{TaskNo}
-use Rattle.module_area.specs.declared.places.Place.{Place}
+
+-- 1. Instructions: what an observer is shown of them, and the course of a task with a hook behind each.
+
+-- the address behind the call that the state's instruction is, or executes: that of EX, which has 4 bytes, or of SVC
+abbrev pub behind_call : Memory → Machine → ℕ
+behind_call m s = wrap (s.cpu.ia + (if is_execute (half_at m s.bytes s.cpu.ia) then 4 else 2))
+
+-- The course of a task, of which something is done behind each instruction.
+
+-- what is left behind an instruction: the processor, how the task goes on, and the key by which it does later
+pub record Behind (K : Type 0) : Type 0 where
+  pub cpu : CpuView
+  pub next : Next
+  pub key : K
+
+-- what is done behind an instruction that has left the machine so, and how the task would go on
+abbrev pub DoneBehind : Type 0 → Type 0
+DoneBehind K = K → Memory → Machine → Next → Behind K
+
+-- nothing is done
+abbrev pub nothing : {K : Type 0} → DoneBehind K
+nothing k m s next = record { cpu = s.cpu; next = next; key = k }
+
+-- the visits of an instruction, and the supervisor call that it executes, if it is one
+pub record Turn : Type 0 where
+  pub visits : List Visit
+  pub call : Option ℕ
+
+abbrev pub turn_of : Memory → State → Turn
+turn_of m s = record { visits = (solo_step m s).visits; call = call_of m s }
+
+abbrev pub visits_of : List Turn → List Visit
+visits_of [] = []
+visits_of (t ∷ ts) = t.visits ++ visits_of ts
+
+abbrev pub calls_of : List Turn → List (Option ℕ)
+calls_of [] = []
+calls_of (t ∷ ts) = t.call ∷ calls_of ts
+
+-- A whole run, turn by turn: its ending, the last state, and the instruction address before the step that ended it, or, where
+-- none did, as it stands.
+pub record Tour : Type 0 where
+  pub ending : Ending
+  pub state : State
+  pub at : ℕ
+  pub turns : List Turn
+
+abbrev pub ends_here : Ending → State → Tour
+ends_here e s = record { ending = e; state = s; at = s.machine.cpu.ia; turns = [] }
+
+abbrev pub turned : List Turn → Tour → Tour
+turned turns tour = record { ending = tour.ending; state = tour.state; at = tour.at; turns = turns ++ tour.turns }
+
+-- one instruction with what is done behind it
+abbrev pub step_behind : {K : Type 0} → DoneBehind K → Memory → K → State → Behind K
+step_behind after m k s = after k m (solo_step m s).state.machine (solo_step m s).next
+
+abbrev pub with_cpu : State → CpuView → State
+with_cpu s cpu = record { machine = record { cpu = cpu; bytes = s.machine.bytes }; io = s.io; done = s.done }
+
+abbrev pub state_behind : {K : Type 0} → DoneBehind K → Memory → K → State → State
+state_behind after m k s = with_cpu (solo_step m s).state (step_behind after m k s).cpu
+
+-- by how the task goes on behind an instruction that began at this address
+abbrev pub tour_behind : (State → Tour) → ℕ → State → Next → Tour
+tour_behind rest began s On = rest s
+tour_behind rest began s (Ended e) = record { ending = e; state = s; at = began; turns = [] }
+
+-- with so many instructions left of the budget
+unfoldable pub course_on : {K : Type 0} → DoneBehind K → Memory → ℕ → K → State → Tour
+course_on after m zero k s = ends_here (if has_returned s then Returned else Spent) s
+course_on after m (suc n) k s =
+    if has_returned s then ends_here Returned s
+    else turned (turn_of m s ∷ [])
+    (tour_behind (λ t. course_on after m n (step_behind after m k s).key t) s.machine.cpu.ia (state_behind after m k s) (step_behind after m k s).next)
+
+-- 2. Fetches: what the observer over planted cells has met.
+
+-- What fetches have answered, visit by visit.
+
+-- the visits at places
+abbrev pub at_places : List Place → List Visit → List Visit
+at_places places [] = []
+at_places places (v ∷ vs) = if is_place places v.at then v ∷ at_places places vs else at_places places vs
+
+-- by place and cell of its fetch the visit was begun at the place, and the fetch answered the odd tag of the session
+abbrev pub is_under : ℕ → ℕ → ℕ × Cell → Visit → Bool
+is_under s p x v = (nat_eq x.0 p && nat_eq (x.1.tag + 1) (2 * s)) && v.begun
+
+-- the facts of those of the visits
+abbrev pub facts_under : PlanView → ℕ → ℕ → List (ℕ × Cell) → List Visit → FactSet
+facts_under plan s p [] vs = no_facts
+facts_under plan s p (x ∷ xs) [] = no_facts
+facts_under plan s p (x ∷ xs) (v ∷ vs) = if is_under s p x v then with_fact (facts_under plan s p xs vs) (fact_of (kind_at plan p) v.went) else facts_under plan s p xs vs
+
+-- 3. Runs: how tasks run over planted cells, and the sessions that they open and close.
 
 -- The supervisor calls of a run, and what they make of the sessions that the task controls.
 

@@ -6,10 +6,9 @@ use Rattle.module_area.specs.Notes.{Notes, calls}
 use Rattle.module_area.specs.Meaning.{PlanView}
 use Rattle.module_area.specs.Tied.{IsTied}
 use Rattle.module_area.specs.declared.traits.Cells as cells
-use Rattle.observed_step.specs.Meaning.{Tour}
-use Rattle.observed_step.specs.Steps.{memory_at, stands}
-use Rattle.task_run.specs.Called.{Follows, HasPlanted, HasWindows}
-use Rattle.task_run.specs.Meaning.{Course, Walk, walk}
+use Rattle.task_run.specs.Meaning.{Tour, Course, Walk, walk}
+use Rattle.task_run.specs.Steps.{memory_at, stands}
+use Rattle.task_run.specs.Controlled.{Follows, HasPlanted, HasWindows}
 use Rattle.task_run.specs.declared.tasks.Task.{Task}
 
 -- its run from where it stands, with nothing done yet, and the visits and calls of it

@@ -5,14 +5,14 @@ ghost use Rattle.cov_base.specs.Meaning.{FactSet};
 ghost use Rattle.module_area.specs.Notes.{Notes, bearer, calls, is_working, split_notes};
 ghost use Rattle.module_area.specs.Meaning.{PlanView};
 ghost use Rattle.module_area.specs.Tied.{IsTied};
-ghost use Rattle.observed_step.specs.Steps.{memory_at};
-ghost use Rattle.svc_monitor.specs.First.{IsOver};
+ghost use Rattle.task_run.specs.Steps.{memory_at};
+ghost use Rattle.task_run.specs.First.{IsOver};
 ghost use Rattle.task_run.specs.Meaning.{Course, solo};
 ghost use Rattle.task_run.specs.Ran.{RanOver};
 ghost use Rattle.task_run.specs.Settled.{OnceSettled};
 ghost use Rattle.task_run.specs.declared.tasks.Task.{Task as TaskView};
 
-use crate::run::run_task;
+use crate::planted_run::run_task;
 use crate::tasks::Task;
 use brk_table::Tables;
 use cov_base::{NoMemory, TaskNo};

@@ -1,6 +1,6 @@
 //! The state of a task.
 
-use observed_step::Bench;
+use crate::bench::Bench;
 
 /// A task: what its instructions work on, how many of them it has done, and how many it may do.
 #[derive(Drop)]

@@ -6,9 +6,8 @@ use Rattle.s370_state.specs.declared.endings.Ending.{Ending}
 use Rattle.s370_state.specs.declared.endings.Ending.TheVariants.{BadSvc}
 use Rattle.s370_state.specs.declared.endings.Next.{Next}
 use Rattle.s370_state.specs.declared.endings.Next.TheVariants.{On, Ended}
-use Rattle.observed_step.specs.Meaning.{DoneBehind, Behind, behind_call, course_on}
+use Rattle.task_run.specs.Meaning.{DoneBehind, Behind, behind_call, course_on, Course, solo}
 use Rattle.session_book.specs.declared.services.Service.{Service}
-use Rattle.task_run.specs.Meaning.{Course, solo}
 use Rattle.task_services.specs.declared.services.TheConstants.{SERVICE_RETURN}
 
 -- A task whose supervisor calls are answered by routines of the job: its services.

@@ -5,8 +5,8 @@ use Rattle.s370_state.specs.Meaning.{machine_of}
 use Rattle.s370_state.specs.declared.space.Space as space
 use Rattle.s370_state.specs.declared.endings.Next.{Next}
 use Rattle.s370_state.specs.declared.endings.Next.TheVariants.{On}
-use Rattle.observed_step.specs.Hooks.{Way}
-use Rattle.observed_step.specs.Meaning.{Behind}
+use Rattle.task_run.specs.Hooks.{Way}
+use Rattle.task_run.specs.Meaning.{Behind}
 use Rattle.task_services.specs.Meaning.{Served, by_next, called, gone_back}
 use Rattle.task_services.specs.declared.services.Services.{Services}
 

@@ -3,19 +3,17 @@ ghost use Rattle.std.specs.Prelude.{◌≡◌, ◌+◌, ◌<◌, ◌^◌, true};
 ghost use Rattle.std.specs.declared.option.Option.TheVariants.{None};
 ghost use Rattle.module_area.specs.Notes.{calls, is_working};
 ghost use Rattle.module_area.specs.Tied.{IsTied};
-ghost use Rattle.observed_step.specs.Steps.{memory_at};
-ghost use Rattle.svc_monitor.specs.First.{IsOver};
+ghost use Rattle.task_run.specs.Steps.{memory_at};
+ghost use Rattle.task_run.specs.First.{IsOver};
 ghost use Rattle.task_run.specs.Ran.{RanOver};
 ghost use Rattle.task_services.specs.Meaning.{with_services};
 
 use crate::services::Services;
 use brk_table::Tables;
 use module_area::{Cells, Plan};
-use observed_step::{Watch, run};
 use s370_state::Ending;
 use session_book::Service;
-use svc_monitor::Planted;
-use task_run::Task;
+use task_run::{Planted, Task, Watch, run};
 
 /// Runs the task until it ends, as `run_task` does, but with services: where it would end BadSvc by the number of one, its
 /// routine answers the call, unless one runs already.

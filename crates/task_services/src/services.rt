@@ -7,9 +7,9 @@ ghost use Rattle.task_services.specs.ServiceWay.{HasCalled, HasGoneBack, service
 
 use brk_table::Tables;
 use cov_base::Addr;
-use observed_step::{Bench, Hook, Observer, behind_call};
 use s370_state::{Cpu, Ending, Next, Space};
 use session_book::Service;
+use task_run::{Bench, Hook, Observer, behind_call};
 
 /// The instruction address at which a routine returns to its caller, which register 14 holds as it begins.
 pub const SERVICE_RETURN: u32 = 0xFF_FFFC;

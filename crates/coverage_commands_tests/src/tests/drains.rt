@@ -19,14 +19,13 @@ use cov_outside::MemSource;
 use coverage_commands::{Asked, make_ready};
 use early_report::{Drain, EarlyRunner, Poll, Stage, drain_begin, drain_poll, drain_take, room};
 use module_area::{Areas, Cells, Control, Drains, Forks, Plan};
-use observed_step::Bench;
-use planter::{close_open, open_next};
 use phase_plan::{Begun, begin, plan_of};
+use planter::{close_open, open_next};
 use session_book::Job;
 use shared_area::SharedAreas;
 use std::alloc::Global;
 use std::test::Fail;
-use task_run::{Runner, Task};
+use task_run::{Bench, Runner, Task};
 
 /// Opens the control's next session, closes it, makes a boundary and begins the session's drain.
 fn begin_drain<C: Drains>(

@@ -17,15 +17,14 @@ use cov_base::{NoMemory, PlaceNo, SessNo, TaskNo};
 use cov_outside::MemSource;
 use coverage_commands::{Asked, make_ready};
 use module_area::{Areas, Cell, Cells, Control, Forks, Plan};
-use observed_step::Bench;
-use s370_state::Ending;
 use phase_plan::{Begun, begin, plan_of};
+use s370_state::Ending;
 use session_book::Job;
 use shared_area::SharedAreas;
 use std::alloc::Global;
 use std::cmp::min;
 use std::test::Fail;
-use task_run::{Task, run_task};
+use task_run::{Bench, Task, run_task};
 
 /// Whether session 1 observes the first two places, the first two tasks are of the phase, and no task controls a session.
 fn may_run(plan: &Plan) -> bool

@@ -1,9 +1,8 @@
 use Rattle.std.proofs.Common.{◌≡◌, map, refl, ◌∙◌, ap}
 use Rattle.module_area.specs.Notes.{bearer}
-use Rattle.svc_monitor.proofs.Laws.{turned}
+use Rattle.task_run.proofs.Laws.{turns_made, made_all, ran_tour}
 use Rattle.task_run.specs.Meaning.{solo}
 use Rattle.task_run.specs.Ran.{walk_from}
-use Rattle.task_run.proofs.Laws.{made_all, ran_tour}
 use Rattle.early_report.specs.DrainView.{DrainView}
 use Rattle.early_report.specs.Followed.{first_drains}
 use Rattle.early_report.proofs.EarlyLemmas.{aside_behind}
@@ -43,7 +42,7 @@ so g c =
     (stood_all _ _ _ _ _ _ c.places_len.ensures.plan g.C.Cells.notes _ _ _ _ _ _ _ _
     (λ i turn v w took. record {
       called = g.C.Cells.notes took.called;
-      turns = turned _ _ _ _ _ _ _ _ took.made took.answered;
+      turns = turns_made _ _ _ _ _ _ _ _ took.made took.answered;
       control = took.answered.control;
       follows = took.hooked;
     })

@@ -1,6 +1,6 @@
 use Rattle.std.proofs.Common.{◌≡◌, ◌<◌, length, sym, subst, [], arith}
 use Rattle.std.proofs.lemmas.Bool.Decides.{nat_tests}
-use Rattle.observed_step.proofs.Laws.{goes_made}
+use Rattle.task_run.proofs.Laws.{goes_made}
 use Rattle.task_alone.proofs.RunLemmas.{course_without, course_with}
 use Rattle.task_alone.proofs.run.run_alone.Goals as goal
 

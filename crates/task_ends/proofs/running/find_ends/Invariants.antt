@@ -1,6 +1,6 @@
 use Rattle.std.proofs.Common.{◌≡◌, ℕ, ◌+◌, ◌-◌, ◌<◌, length, get_or, slice_index}
 use Rattle.report_text.specs.Meaning.{sum_from}
-use Rattle.observed_step.specs.declared.task.TaskEnd.{TaskEnd}
+use Rattle.task_run.specs.declared.task.TaskEnd.{TaskEnd}
 use Rattle.task_ends.specs.Meaning.{end_of, unlisted_of}
 use Rattle.task_ends.specs.Held.{HasRoom}
 use Rattle.task_ends.proofs.RunLemmas.{unlisted_at}

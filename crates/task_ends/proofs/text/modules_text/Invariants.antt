@@ -1,7 +1,7 @@
 use Rattle.std.proofs.Common.{ℕ, ◌-◌, length}
 use Rattle.report_text.specs.Meaning.{lines_from}
 use Rattle.report_text.proofs.Laws.{Progress}
-use Rattle.observed_step.specs.declared.task.TaskEnd.{TaskEnd}
+use Rattle.task_run.specs.declared.task.TaskEnd.{TaskEnd}
 use Rattle.task_ends.specs.Ends.{AreEnds}
 use Rattle.task_ends.proofs.Parts.{unlisted_part}
 use Rattle.task_ends.proofs.text.modules_text.Given as goal

@@ -1,6 +1,6 @@
 use Rattle.std.proofs.Common.{◌∙◌, ap}
 use Rattle.s370_state.specs.declared.endings.Next.TheVariants.{Ended}
-use Rattle.observed_step.proofs.Laws.{bad_svc-behind}
+use Rattle.task_run.proofs.Laws.{bad_svc-behind}
 use Rattle.check_exits.proofs.exits.ExitHook.behind.Goals as goal
 
 pub pass_call-requires : goal.pass_call-requires

@@ -1,5 +1,5 @@
 use Rattle.std.proofs.Common.{◌≡◌, ℕ, ◌+◌, true, if◌then◌else◌, ◌∙◌, ap, subst, arith}
-use Rattle.observed_step.specs.Meaning.{Tour, visits_of}
+use Rattle.task_run.specs.Meaning.{Tour, visits_of}
 use Rattle.module_area.specs.Meaning.{PlanView, place_of}
 use Rattle.task_services.specs.Meaning.{course_of}
 use Rattle.job_run.specs.Tasks.{own_run}

@@ -1,9 +1,8 @@
 use Rattle.std.proofs.Common.{◌≡◌, refl, ◌∙◌, ap, arith}
 use Rattle.s370_exec.specs.Meaning.{call_of, solo_step}
-use Rattle.observed_step.specs.Steps.{memory_at, stands}
-use Rattle.svc_monitor.specs.Answered.{Turns}
-use Rattle.svc_monitor.proofs.Laws.{turned}
-use Rattle.task_run.proofs.Laws.{step_known, same_number}
+use Rattle.task_run.specs.Steps.{memory_at, stands}
+use Rattle.task_run.specs.Answered.{Turns}
+use Rattle.task_run.proofs.Laws.{turns_made, step_known, same_number}
 use Rattle.early_report.specs.Followed.{closed_since}
 use Rattle.early_report.specs.Following.{FollowsOne}
 use Rattle.early_report.specs.declared.runner.Following.{Following}
@@ -14,7 +13,7 @@ use Rattle.early_report.proofs.runner.FollowingHookPlanted.behind.Goals.{Start, 
 
 turns : (g : given.Over) (c : Start g) → let b = c.requires.behind.bench in let m = memory_at b in let s = stands b c.requires.behind.before in
     Turns c.args.observer.now.plan.now (g.C.Cells.notes c.requires.behind.pass) (g.C.Cells.notes c.args.pass.now) (solo_step m s).visits b.control (call_of m s)
-turns g c = let does = c.requires.behind.steps.does in turned _ _ _ _ _ _ _ _ does.made does.answered
+turns g c = let does = c.requires.behind.steps.does in turns_made _ _ _ _ _ _ _ _ does.made does.answered
 
 pub boundary-requires-clause-room : goal.boundary-requires-clause-room
 boundary-requires-clause-room g c =

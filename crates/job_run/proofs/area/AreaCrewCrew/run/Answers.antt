@@ -4,8 +4,8 @@ use Rattle.module_area.specs.Meaning.{ControlView, PlanView}
 use Rattle.module_area.specs.Ended.{AreSettled}
 use Rattle.module_area.specs.Notes.{Notes, bearer, calls, is_working}
 use Rattle.module_area.specs.Tied.{IsTied}
-use Rattle.observed_step.specs.Steps.{memory_at}
-use Rattle.svc_monitor.specs.First.{IsOver}
+use Rattle.task_run.specs.Steps.{memory_at}
+use Rattle.task_run.specs.First.{IsOver}
 use Rattle.task_run.specs.Ran.{RanAs}
 use Rattle.job_run.specs.Passes.{after_planting}
 use Rattle.job_run.specs.declared.outcome.Done.{Done}

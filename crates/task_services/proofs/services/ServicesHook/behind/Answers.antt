@@ -1,6 +1,6 @@
 use Rattle.std.proofs.Common.{◌∙◌, ap}
 use Rattle.s370_state.specs.declared.endings.Next.TheVariants.{Ended}
-use Rattle.observed_step.proofs.Laws.{bad_svc-behind}
+use Rattle.task_run.proofs.Laws.{bad_svc-behind}
 use Rattle.task_services.proofs.services.ServicesHook.behind.Goals as goal
 
 pub call-requires : goal.call-requires

@@ -1,6 +1,0 @@
-use Rattle.std.proofs.Common.{◌≤◌, arith}
-use Rattle.std.proofs.lemmas.List.Elements.{All-replicate}
-use Rattle.observed_step.proofs.turns.no_turns.Goals as goal
-
-pub returns : goal.returns
-returns c = λ n. All-replicate (λ t. t ≤ n) 256 0 (omega arith)

@@ -1,0 +1,30 @@
+-- The place that begins at an address.
+use Rattle.std.proofs.Common.{◌≡◌, ℕ, ◌<◌, ◌≤◌, false, Option, Some, None, List, length, refl, sym, ◌∙◌, arith, ◌≢◌}
+use Rattle.std.specs.Prelude.{IfSome, IsNone}
+use Rattle.cov_base.specs.declared.numbers.PlaceNo.{PlaceNo}
+use Rattle.module_area.specs.declared.places.Place.{Place}
+use Rattle.module_area.specs.Meaning.{is_place, place_of}
+use Rattle.brk_table.specs.Places.{ArePlaces}
+use Rattle.brk_table.proofs.Laws.{one_begins, is_place-there}
+use Rattle.task_run.specs.Sights.{BeginsAt, IsPlaced}
+use Rattle.std.proofs.lemmas.Bool.{both_ways}
+
+pub begins_at : (places : List Place) (a p : ℕ) → ArePlaces places → p < length places → (place_of places p).at ≡ a → BeginsAt places a p
+begins_at places a p are lt at = record {
+  exists = lt;
+  begins = at;
+  only = λ q within same. one_begins places p q are lt within (same ∙ sym at);
+}
+
+-- as the tables have found it
+pub placed_by : (places : List Place) (a : ℕ) (r : Option PlaceNo) → ArePlaces places → IfSome r (λ n. n.0 < length places) → IfSome r (λ n. (place_of places n.0).at ≡ a) → (IsNone r → is_place places a ≡ false) → IsPlaced places a r
+placed_by places a (Some n) are exists begins none = begins_at places a n.0 are exists begins
+placed_by places a None are exists begins none = none refl
+
+pub exists_at_most : (places : List Place) (a : ℕ) (r : Option PlaceNo) → IsPlaced places a r → IfSome r (λ n. n.0 ≤ length places)
+exists_at_most places a (Some n) at = omega (arith, at.exists)
+exists_at_most places a None none = tt
+
+-- no place begins at an address where none does
+pub none_begins : (places : List Place) (a p : ℕ) → is_place places a ≡ false → p < length places → (place_of places p).at ≢ a
+none_begins places a p none lt at = both_ways (is_place places a) none (is_place-there places p a lt at)

@@ -1,0 +1,303 @@
+//! One instruction of a task.
+ghost use Rattle.std.specs.Prelude.{◌≡◌, ◌+◌, ◌<◌, length, IfOk, IfErr, None, Some, false};
+ghost use Rattle.cov_base.specs.Meaning.{half_at};
+ghost use Rattle.module_area.specs.Meaning.{is_place, place_of};
+ghost use Rattle.s370_exec.specs.Meaning.{first_tests};
+ghost use Rattle.space_map.specs.Space.{memory_of_space};
+ghost use Rattle.task_run.specs.Sights.{IsPlaced};
+ghost use Rattle.task_run.specs.Steps.{CanStep, IsFetched, IsShown, StepsAs, StepsTold, StepsOn, GoesOn, GoesOnTold};
+
+use crate::bench::Bench;
+use crate::observer::{Observer, Sight};
+use brk_table::{Kept, Tables};
+use cov_base::{Addr, PlaceNo};
+use s370_decode::Code;
+use s370_exec::{
+    Told, execute, execute_frequent, fetch_first, fetch_rest, fetch_subject, is_execute, next_of,
+    subject_address,
+};
+use s370_state::{Ending, Next};
+use space_map::TaskSpace;
+
+/// The place that begins at the address, if one does, and the first halfword there.
+#[derive(Clone, Copy)]
+struct First {
+    place: Option<PlaceNo>,
+    half: u16,
+}
+
+/// The first halfword of an instruction: at a place the original, which the tables have. Code 6 exactly at an odd address,
+/// else code 5 exactly where the halfword is inaccessible.
+fn first_at(tables: &Tables, space: &TaskSpace<'_>, at: Addr) -> Result<First, Ending>
+    requires shown { IsShown (memory_of_space space.now) tables.now }
+    ensures refused { IfErr result (λ e. first_tests (memory_of_space space.now) at ≡ Some e) }
+    ensures passed { IfOk result (λ _. first_tests (memory_of_space space.now) at ≡ None) }
+    ensures half { IfOk result (λ f. f.half ≡ half_at (memory_of_space space.now) space.now.bytes at) }
+    ensures placed { IfOk result (λ f. IsPlaced tables.now.places at f.place) }
+{
+    if let Some(place) = tables.at(at) {
+        return Ok(First {
+            place: Some(place),
+            half: tables.place(place).original,
+        });
+    }
+    match fetch_first(space, at) {
+        Ok(half) => Ok(First { place: None, half }),
+        Err(e) => Err(e),
+    }
+}
+
+/// Executes the subject of an EX that was begun, and has its visit noted. Code 6 exactly at an odd address, else code 5
+/// exactly where its first halfword is inaccessible, else code 3 exactly where it is itself EX, which is not begun.
+#[inline(never)]
+fn step_subject<O: Observer>(
+    observer: &O,
+    pass: &mut O::Pass,
+    tables: &Tables,
+    bench: &mut Bench<'_>,
+    done: u32,
+    ex: &Code,
+) -> Next
+    requires can { CanStep O.IsReady O.IsTied observer.now tables.now pass.old bench.old done 1 }
+    ensures can { CanStep O.IsReady O.IsTied observer.now tables.now pass.new bench.new (done + 1) 0 }
+    ensures steps { StepsOn O.Observer ex.now observer.now tables.now pass.old bench.old done pass.new bench.new result }
+{
+    let at = subject_address(&bench.cpu, ex);
+    let first = match first_at(tables, &bench.space, at) {
+        Ok(first) => first,
+        Err(e) => return Next::Ended(e),
+    };
+    let sight = Sight {
+        done,
+        at,
+        place: first.place,
+        subject: true,
+    };
+    let subject = match fetch_subject(&bench.cpu, &bench.space, ex, at, first.half) {
+        Ok(code) => code,
+        Err(e) => {
+            observer.refused(pass, tables, sight);
+            return Next::Ended(e);
+        }
+    };
+    observer.begun(pass, tables, &bench.cpu, &subject, sight);
+    observer.called(pass, tables, &mut bench.control, done, subject.first_half());
+    execute(
+        &mut bench.cpu,
+        &mut bench.space,
+        &mut bench.io,
+        &subject,
+        Some(ex.at),
+    )
+}
+
+/// The same in the place where it is called, so that the room of its answer is not cleared where there is no EX.
+#[inline(always)]
+fn step_subject_here<O: Observer>(
+    observer: &O,
+    pass: &mut O::Pass,
+    tables: &Tables,
+    bench: &mut Bench<'_>,
+    done: u32,
+    ex: &Code,
+) -> Next
+    requires can { CanStep O.IsReady O.IsTied observer.now tables.now pass.old bench.old done 1 }
+    ensures can { CanStep O.IsReady O.IsTied observer.now tables.now pass.new bench.new (done + 1) 0 }
+    ensures steps { StepsOn O.Observer ex.now observer.now tables.now pass.old bench.old done pass.new bench.new result }
+{
+    step_subject(observer, pass, tables, bench, done, ex)
+}
+
+/// Carries on an instruction that was fetched whole and shown to the observer: EX executes its subject; else a call is
+/// answered, and the instruction is executed.
+#[inline(always)]
+fn carry_on<O: Observer>(
+    observer: &O,
+    pass: &mut O::Pass,
+    tables: &Tables,
+    bench: &mut Bench<'_>,
+    done: u32,
+    code: &Code,
+) -> Next
+    requires fetched { IsFetched bench.old code.now }
+    requires can { CanStep O.IsReady O.IsTied observer.now tables.now pass.old bench.old done 1 }
+    ensures can { CanStep O.IsReady O.IsTied observer.now tables.now pass.new bench.new (done + 1) 0 }
+    ensures goes { GoesOn O.Observer observer.now tables.now pass.old bench.old done pass.new bench.new result }
+{
+    let half = code.first_half();
+    if is_execute(half) {
+        return step_subject_here(observer, pass, tables, bench, done, code);
+    }
+    observer.called(pass, tables, &mut bench.control, done, half);
+    execute(&mut bench.cpu, &mut bench.space, &mut bench.io, code, None)
+}
+
+/// The same in a call of its own, out of the loop over places. Where the task has ended `end` tells how.
+#[inline(never)]
+fn carry_on_apart<O: Observer>(
+    observer: &O,
+    pass: &mut O::Pass,
+    tables: &Tables,
+    bench: &mut Bench<'_>,
+    done: u32,
+    code: &Code,
+    end: &mut Ending,
+) -> Told
+    requires fetched { IsFetched bench.old code.now }
+    requires can { CanStep O.IsReady O.IsTied observer.now tables.now pass.old bench.old done 1 }
+    ensures can { CanStep O.IsReady O.IsTied observer.now tables.now pass.new bench.new (done + 1) 0 }
+    ensures goes { GoesOnTold O.Observer observer.now tables.now pass.old bench.old done pass.new bench.new result end.new }
+{
+    match carry_on(observer, pass, tables, bench, done, code) {
+        Next::On => Told::GoesOn,
+        Next::Ended(e) => {
+            *end = e;
+            Told::HasEnded
+        }
+    }
+}
+
+/// Carries on an instruction that is kept and was shown to the observer: a frequent one is no EX and no call. Where the task has
+/// ended `end` tells how.
+#[inline(always)]
+fn carry_on_kept<O: Observer>(
+    observer: &O,
+    pass: &mut O::Pass,
+    tables: &Tables,
+    bench: &mut Bench<'_>,
+    done: u32,
+    kept: &Kept,
+    end: &mut Ending,
+) -> Told
+    requires fetched { IsFetched bench.old kept.now.code }
+    requires can { CanStep O.IsReady O.IsTied observer.now tables.now pass.old bench.old done 1 }
+    ensures can { CanStep O.IsReady O.IsTied observer.now tables.now pass.new bench.new (done + 1) 0 }
+    ensures goes { GoesOnTold O.Observer observer.now tables.now pass.old bench.old done pass.new bench.new result end.new }
+{
+    match execute_frequent(
+        &mut bench.cpu,
+        &mut bench.space,
+        &mut bench.io,
+        &kept.code,
+        kept.op,
+        kept.next,
+        end,
+    ) {
+        Some(told) => told,
+        None => carry_on_apart(observer, pass, tables, bench, done, &kept.code, end),
+    }
+}
+
+/// One instruction where no place begins. Out of line, so that the loop over places stays short.
+#[inline(never)]
+fn step_far<O: Observer>(
+    observer: &O,
+    pass: &mut O::Pass,
+    tables: &Tables,
+    bench: &mut Bench<'_>,
+    done: u32,
+    end: &mut Ending,
+) -> Told
+    requires can { CanStep O.IsReady O.IsTied observer.now tables.now pass.old bench.old done 0 }
+    requires no_place { is_place tables.now.places bench.old.cpu.ia ≡ false }
+    ensures can { CanStep O.IsReady O.IsTied observer.now tables.now pass.new bench.new (done + 1) 0 }
+    ensures steps { StepsTold O.Observer observer.now tables.now pass.old bench.old done pass.new bench.new result end.new }
+{
+    let at = bench.cpu.at();
+    let half = match fetch_first(&bench.space, at) {
+        Ok(half) => half,
+        Err(e) => {
+            *end = e;
+            return Told::HasEnded;
+        }
+    };
+    let sight = Sight {
+        done,
+        at,
+        place: None,
+        subject: false,
+    };
+    let code = match fetch_rest(&bench.space, at, half) {
+        Ok(code) => code,
+        Err(e) => {
+            observer.refused(pass, tables, sight);
+            *end = e;
+            return Told::HasEnded;
+        }
+    };
+    observer.begun(pass, tables, &bench.cpu, &code, sight);
+    carry_on_apart(observer, pass, tables, bench, done, &code, end)
+}
+
+/// One instruction where the place begins. The instruction is read where it is kept: a copy would wait for the parts that were
+/// just written.
+#[inline(always)]
+fn step_placed<O: Observer>(
+    observer: &O,
+    pass: &mut O::Pass,
+    tables: &Tables,
+    bench: &mut Bench<'_>,
+    done: u32,
+    place: PlaceNo,
+    end: &mut Ending,
+) -> Told
+    requires can { CanStep O.IsReady O.IsTied observer.now tables.now pass.old bench.old done 0 }
+    requires place { place.0 < length tables.now.places }
+    requires begins { (place_of tables.now.places place.0).at ≡ bench.old.cpu.ia }
+    ensures can { CanStep O.IsReady O.IsTied observer.now tables.now pass.new bench.new (done + 1) 0 }
+    ensures steps { StepsTold O.Observer observer.now tables.now pass.old bench.old done pass.new bench.new result end.new }
+{
+    let sight = Sight {
+        done,
+        at: bench.cpu.at(),
+        place: Some(place),
+        subject: false,
+    };
+    let kept = tables.kept(place);
+    observer.begun(pass, tables, &bench.cpu, &kept.code, sight);
+    carry_on_kept(observer, pass, tables, bench, done, kept, end)
+}
+
+/// One instruction, with the place that begins there, if one does. Where the task has ended `end` tells how.
+#[inline(always)]
+fn step_told<O: Observer>(
+    observer: &O,
+    pass: &mut O::Pass,
+    tables: &Tables,
+    bench: &mut Bench<'_>,
+    done: u32,
+    place: Option<PlaceNo>,
+    end: &mut Ending,
+) -> Told
+    requires can { CanStep O.IsReady O.IsTied observer.now tables.now pass.old bench.old done 0 }
+    requires placed { IsPlaced tables.now.places bench.old.cpu.ia place }
+    ensures can { CanStep O.IsReady O.IsTied observer.now tables.now pass.new bench.new (done + 1) 0 }
+    ensures steps { StepsTold O.Observer observer.now tables.now pass.old bench.old done pass.new bench.new result end.new }
+{
+    match place {
+        Some(place) => step_placed(observer, pass, tables, bench, done, place, end),
+        None => step_far(observer, pass, tables, bench, done, end),
+    }
+}
+
+/// One instruction of the task, which has done so many before, and of which neither budget nor return address is tested, with
+/// the place that begins there, if one does: it ends or goes on as over modules that were never planted, and the observer is
+/// shown its visits, and then its supervisor call, before what the instruction does. `end` is room for an ending.
+#[inline(always)]
+pub fn step<O: Observer>(
+    observer: &O,
+    pass: &mut O::Pass,
+    tables: &Tables,
+    bench: &mut Bench<'_>,
+    done: u32,
+    place: Option<PlaceNo>,
+    end: &mut Ending,
+) -> Next
+    requires can { CanStep O.IsReady O.IsTied observer.now tables.now pass.old bench.old done 0 }
+    requires placed { IsPlaced tables.now.places bench.old.cpu.ia place }
+    ensures can { CanStep O.IsReady O.IsTied observer.now tables.now pass.new bench.new (done + 1) 0 }
+    ensures steps { StepsAs O.Makes O.Answers observer.now tables.now pass.old bench.old done pass.new bench.new result }
+{
+    let told = step_told(observer, pass, tables, bench, done, place, end);
+    next_of(told, end)
+}
