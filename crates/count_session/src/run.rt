@@ -10,8 +10,8 @@ use crate::pass::CountPass;
 use brk_table::Tables;
 use s370_state::Ending;
 use session_book::Service;
-use task_alone::run_alone;
 use task_run::Task;
+use task_services::run_alone;
 
 /// Runs the task until it ends, as `run_alone` does. Ending, state and count are those of its course over modules that were
 /// never planted, and the pass, which has added nothing before, counts each fact of that run's begun visits at planted places

@@ -8,7 +8,7 @@ use brk_table::Tables;
 use cov_base::NoMemory;
 use session_book::Job;
 use std::alloc::Global;
-use task_alone::{begin_alone, run_alone};
+use task_services::{begin_alone, run_alone};
 
 /// Runs task t of the job as its card says, and notes its first visits.
 fn add_task(

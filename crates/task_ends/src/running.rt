@@ -12,8 +12,8 @@ use cov_base::NoMemory;
 use module_area::Images;
 use session_book::Job;
 use std::alloc::Global;
-use task_alone::{begin_alone, run_alone};
 use task_run::TaskEnd;
+use task_services::{begin_alone, run_alone};
 
 /// Of a job, in its order: where each task ended, and for each module how many visits of all tasks were begun in it where
 /// no place begins, up to 2 for each instruction.

@@ -16,7 +16,7 @@ pub const SERVICE_RETURN: u32 = 0xFF_FFFC;
 
 /// A task's services, and its caller while a routine runs: the processor as it stood behind the call.
 #[derive(Drop)]
-pub struct Services<'a> {
+pub(crate) struct Services<'a> {
     pub services: &'a [Service],
     pub caller: Option<Cpu>,
 }

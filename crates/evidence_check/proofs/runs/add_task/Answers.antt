@@ -1,6 +1,6 @@
 use Rattle.std.proofs.Common.{[], ap, refl, ◌∙◌}
 use Rattle.session_book.specs.Meaning.{TaskView}
-use Rattle.task_alone.proofs.Laws.{ran_of}
+use Rattle.task_services.proofs.Laws.{ran_of}
 use Rattle.evidence_check.proofs.runs.add_task.Goals as goal
 
 pub returns : goal.returns

@@ -1,7 +1,7 @@
 use Rattle.std.proofs.Common.{◌≡◌, [], ◌∷◌, ◌++◌, sym, ap, ◌∙◌}
 use Rattle.session_book.specs.Meaning.{TaskView}
 use Rattle.task_run.specs.declared.task.TaskEnd.{TaskEnd}
-use Rattle.task_alone.proofs.Laws.{ran_of}
+use Rattle.task_services.proofs.Laws.{ran_of}
 use Rattle.task_ends.specs.Meaning.{end_of}
 use Rattle.task_ends.proofs.running.add_task.Goals as goal
 

@@ -1,13 +1,13 @@
 //! The whole run of a task without sessions.
 ghost use Rattle.std.specs.Prelude.{◌≡◌, ◌≤◌};
 ghost use Rattle.task_run.specs.Steps.{CanStep, memory_at};
-ghost use Rattle.task_alone.specs.Alone.{IgnoresCalls};
-ghost use Rattle.task_alone.specs.Ends.{Ran};
+ghost use Rattle.task_services.specs.Alone.{IgnoresCalls};
+ghost use Rattle.task_services.specs.Ends.{Ran};
 
+use crate::services::Services;
 use brk_table::Tables;
 use session_book::Service;
 use task_run::{Bench, NoHook, Observer, TaskEnd, Watch, run};
-use task_services::Services;
 
 /// Runs a task until it ends, with its job's services, if it has any: before each instruction it ends Returned at X'FFFFFE',
 /// else Spent where it has done as many instructions as its budget. The observer, which ignores supervisor calls, is shown

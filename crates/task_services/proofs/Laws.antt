@@ -1,2 +1,2 @@
 -- What crates above may cite of this crate's lemmas: the others are its own.
-pub use Rattle.task_alone.proofs.RunLemmas.{ran_of}
+pub use Rattle.task_services.proofs.RunLemmas.{ran_of}

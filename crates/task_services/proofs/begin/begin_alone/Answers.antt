@@ -5,7 +5,7 @@ use Rattle.cov_base.specs.Meaning.{Memory}
 use Rattle.session_book.specs.Meaning.{task_of, no_task}
 use Rattle.space_map.proofs.Laws.{are_kept}
 use Rattle.std.proofs.Common.{sym, subst}
-use Rattle.task_alone.proofs.begin.begin_alone.Goals as goal
+use Rattle.task_services.proofs.begin.begin_alone.Goals as goal
 
 pub begin-requires-clause-tables : goal.begin-requires-clause-tables
 begin-requires-clause-tables c = are_in c.args.job.now.images c.args.tables.now c.requires.tables

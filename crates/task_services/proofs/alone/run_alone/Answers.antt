@@ -1,8 +1,8 @@
 use Rattle.std.proofs.Common.{◌≡◌, ◌<◌, length, sym, subst, [], arith}
 use Rattle.std.proofs.lemmas.Bool.Decides.{nat_tests}
 use Rattle.task_run.proofs.Laws.{goes_made}
-use Rattle.task_alone.proofs.RunLemmas.{course_without, course_with}
-use Rattle.task_alone.proofs.run.run_alone.Goals as goal
+use Rattle.task_services.proofs.RunLemmas.{course_without, course_with}
+use Rattle.task_services.proofs.alone.run_alone.Goals as goal
 
 pub returns-then-is_empty-clause-ran : goal.returns-then-is_empty-clause-ran
 returns-then-is_empty-clause-ran g c =

@@ -11,7 +11,7 @@ use Rattle.session_book.specs.Meaning.{JobView, task_of}
 use Rattle.phase_plan.specs.Meaning.{first_state, of_task, plan_view, task_memory}
 use Rattle.session_book.specs.declared.services.Service.{Service}
 use Rattle.task_services.specs.Meaning.{course_of, with_services}
-use Rattle.task_alone.specs.Ends.{RanAlong}
+use Rattle.task_services.specs.Ends.{RanAlong}
 
 -- a job's course, as a test for services finds it
 

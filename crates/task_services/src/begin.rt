@@ -4,7 +4,7 @@ ghost use Rattle.brk_table.specs.Kept.{AreCodes};
 ghost use Rattle.session_book.specs.Meaning.{task_of};
 ghost use Rattle.phase_plan.specs.Meaning.{first_state, task_memory};
 ghost use Rattle.task_run.specs.Steps.{IsShown, memory_at, stands};
-ghost use Rattle.task_alone.specs.Alone.{no_sessions};
+ghost use Rattle.task_services.specs.Alone.{no_sessions};
 
 use brk_table::Tables;
 use cov_base::NoMemory;
