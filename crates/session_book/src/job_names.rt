@@ -2,7 +2,6 @@
 ghost use Rattle.std.specs.Prelude.{◌≡◌, [], IfOk};
 ghost use Rattle.session_book.specs.JobView.{IsJob};
 ghost use Rattle.session_book.specs.Names.{module_names, session_names, task_names, names_of};
-ghost use Rattle.session_book.specs.Names as spell;
 
 use crate::job::{JobCards, Session, TaskCard};
 use cov_base::{Name, NoMemory};
@@ -60,82 +59,6 @@ impl JobNames {
             sessions: NameList::new(alloc),
             tasks: NameList::new(alloc),
         }
-    }
-
-    /// With the name of a module behind those of the others, where they lack it.
-    pub fn with_module(self, name: Name) -> Result<JobNames, NoMemory>
-        ensures { IfOk result (λ names. names ≡ spell.with_module self name) }
-    {
-        let JobNames {
-            mut modules,
-            phases,
-            sessions,
-            tasks,
-        } = self;
-        modules.add(name)?;
-        Ok(JobNames {
-            modules,
-            phases,
-            sessions,
-            tasks,
-        })
-    }
-
-    /// With the name of a phase behind those of the others, where they lack it.
-    pub fn with_phase(self, name: Name) -> Result<JobNames, NoMemory>
-        ensures { IfOk result (λ names. names ≡ spell.with_phase self name) }
-    {
-        let JobNames {
-            modules,
-            mut phases,
-            sessions,
-            tasks,
-        } = self;
-        phases.add(name)?;
-        Ok(JobNames {
-            modules,
-            phases,
-            sessions,
-            tasks,
-        })
-    }
-
-    /// With the name of a session behind those of the others, where they lack it.
-    pub fn with_session(self, name: Name) -> Result<JobNames, NoMemory>
-        ensures { IfOk result (λ names. names ≡ spell.with_session self name) }
-    {
-        let JobNames {
-            modules,
-            phases,
-            mut sessions,
-            tasks,
-        } = self;
-        sessions.add(name)?;
-        Ok(JobNames {
-            modules,
-            phases,
-            sessions,
-            tasks,
-        })
-    }
-
-    /// With the name of a task behind those of the others, where they lack it.
-    pub fn with_task(self, name: Name) -> Result<JobNames, NoMemory>
-        ensures { IfOk result (λ names. names ≡ spell.with_task self name) }
-    {
-        let JobNames {
-            modules,
-            phases,
-            sessions,
-            mut tasks,
-        } = self;
-        tasks.add(name)?;
-        Ok(JobNames {
-            modules,
-            phases,
-            sessions,
-            tasks,
-        })
     }
 
     /// The names of a job.
