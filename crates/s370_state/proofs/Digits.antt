@@ -1,10 +1,10 @@
 -- The digits of packed decimal fields, a byte at a time.
-use Rattle.std.proofs.Common.{if◌then◌else◌, ◌≡◌, ℕ, ◌+◌, ◌-◌, ◌*◌, ◌/◌, ◌%◌, ◌^◌, ◌<◌, ◌≤◌, zero, suc, Bool, true, false, ◌&&◌, Option, Some, None, List, [], ◌∷◌, ◌++◌, length, length-append, take, drop, slice_set, refl, ap, sym, ◌∙◌, arith, lit<, append_assoc, add-one, ◌⊎◌, inl, inr}
+use Rattle.std.proofs.Common.{if◌then◌else◌, ◌≡◌, ℕ, ◌+◌, ◌-◌, ◌*◌, ◌/◌, ◌%◌, ◌^◌, ◌<◌, ◌≤◌, zero, suc, Bool, true, false, ◌&&◌, Option, Some, None, List, [], ◌∷◌, ◌++◌, length, length-append, take, drop, slice_index, slice_set, refl, ap, sym, ◌∙◌, arith, lit<, append_assoc, add-one, ◌⊎◌, inl, inr}
 use Rattle.std.proofs.Math.Nat.{pow-suc, pow-le-pow_right}
 use Rattle.std.proofs.lemmas.Nat.{pow-add, mul-pow}
 use Rattle.std.proofs.lemmas.Bool.Decides.{nat_tests}
 use Rattle.std.proofs.lemmas.List.{take_more_set, drop-set, drop-drop}
-use Rattle.std.proofs.Math.Seq.{take-add}
+use Rattle.std.proofs.Math.Seq.{take-add, take-suc}
 use Rattle.std.proofs.lemmas.List.Folds.{list_all-append}
 use Rattle.std.specs.List.{list_all}
 use Rattle.std.proofs.lemmas.Bool.{and_parts}
@@ -154,6 +154,18 @@ pub no_row : (row : List ℕ) (n v : ℕ) → n ≡ 0 → take n row ≡ bytes_o
 unfolding bytes_of digits_of
 no_row row zero v e = refl
 no_row row (suc n) v e = absurd (omega (arith, e))
+
+pub zeros_stay : (row : List ℕ) (n v : ℕ) → n ≤ length row → ((i : ℕ) → i < n → slice_index row i ≡ 0) → v ≡ 0 → take n row ≡ bytes_of (digits_of (2 * n) v)
+unfolding bytes_of digits_of
+zeros_stay row zero v l z e = refl
+zeros_stay row (suc n) v l z e =
+    let two : 2 * suc n ≡ suc (suc (2 * n)) = omega arith in
+    let last : slice_index row n ≡ 0 = z n (omega arith) in
+    take-suc row n 0 (omega (arith, l)) ∙ rw (zeros_stay row n 0 (omega (arith, l)) (λ i k. z i (omega (arith, k))) refl, last, e, two, two_digits (2 * n) 0, bytes_of-last n (digits_of (2 * n) 0) 0 0 (length-digits_of (2 * n) 0)) refl
+
+-- both digits of a byte from their number
+pub pair_byte : (v : ℕ) → v % 100 + v % 100 / 10 * 6 ≡ v / 10 % 10 * 16 + v % 10
+pair_byte v = omega arith
 
 pub pair_behind : (row done : List ℕ) (n v b : ℕ) → 0 < n → n ≤ length row → take (n - 1) done ≡ bytes_of (digits_of (2 * (n - 1)) (v / 100)) → drop (n - 1) done ≡ drop (n - 1) (slice_set row (n - 1) b) → b ≡ v / 10 % 10 * 16 + v % 10 →
     take n done ≡ bytes_of (digits_of (2 * n) v)

@@ -5,3 +5,4 @@ pub mod Meaning
 pub mod Parts
 pub mod Plain
 pub mod Row
+pub mod Halves

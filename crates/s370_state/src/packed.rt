@@ -1,9 +1,10 @@
 //! Packed decimal fields in storage (Principles of Operation, "Decimal Instructions", "Data Format"). A field of length code
 //! l has l + 1 bytes: 2l + 1 digits, then the sign in the last half byte.
-ghost use Rattle.std.specs.Prelude.{◌≡◌, ◌+◌, ◌-◌, ◌*◌, ◌/◌, ◌%◌, ◌^◌, ◌<◌, ◌≤◌, ◌&&◌, true, false, take, drop, length, IfSome, IfNone, ℤ, pos, neg_ℤ, ◌<ℤ◌};
+ghost use Rattle.std.specs.Prelude.{◌≡◌, ◌+◌, ◌-◌, ◌*◌, ◌/◌, ◌%◌, ◌^◌, ◌<◌, ◌≤◌, ◌&&◌, true, false, take, drop, length, slice_index, ℕ, IfSome, IfNone, Some, ℤ, pos, neg_ℤ, ◌<ℤ◌};
 ghost use Rattle.std.specs.List.{list_all};
 ghost use Rattle.cov_base.specs.Meaning.{can_reach, can_store};
 ghost use Rattle.s370_state.specs.Fields.{AreBytes};
+ghost use Rattle.s370_state.specs.Halves.{halves_of, number_from};
 ghost use Rattle.s370_state.specs.Meaning.{is_sign, is_minus, sign_half, is_digit, halves_at, decimal, field_at, number, digits_of, bytes_of, store_field};
 
 use crate::operands::byte_of;
@@ -123,8 +124,9 @@ fn gathered<P: Space>(space: &P, at: Addr, n: u32) -> [u8; 16]
     row
 }
 
-/// What the field of length code l holds, whose bytes were tested; none where a digit or the sign is bad.
-pub fn field_at<P: Space>(space: &P, at: Addr, l: u8) -> Option<Field>
+/// What a field holds, by its bytes one at a time.
+#[inline(never)]
+fn any_field<P: Space>(space: &P, at: Addr, l: u8) -> Option<Field>
     requires length { l ≤ 15 }
     requires reach { can_reach (P.memory space.now) at (l + 1) ≡ true }
     ensures field { result ≡ field_at (P.memory space.now) (P.bytes space.now) at l }
@@ -135,6 +137,97 @@ pub fn field_at<P: Space>(space: &P, at: Addr, l: u8) -> Option<Field>
     match space.slice(at, n) {
         Some(row) => field_in(space, at, l, row),
         None => field_in(space, at, l, &gathered(space, at, n)[..n as usize]),
+    }
+}
+
+/// The right half of each byte of a doubleword.
+const RIGHT_HALVES: u64 = 0x0F0F_0F0F_0F0F_0F0F;
+
+/// The right byte of each halfword.
+const RIGHT_BYTES: u64 = 0x00FF_00FF_00FF_00FF;
+
+/// The right halfword of each word.
+const RIGHT_HALFWORDS: u64 = 0x0000_FFFF_0000_FFFF;
+
+/// Where it is added, a byte of 10 to 15 has a left half that isn't zero.
+const SIXES: u64 = 0x0606_0606_0606_0606;
+
+/// The left half of each byte.
+const LEFT_HALVES: u64 = 0xF0F0_F0F0_F0F0_F0F0;
+
+/// The number of 16 digits, all at once: two neighbours become a number to 99, two of these one to 9999, and so on. None where a
+/// half byte is no digit.
+#[inline(always)]
+fn number_in(x: u64) -> Option<u64>
+    ensures good { IfSome result (λ _. list_all is_digit (halves_of 16 x) ≡ true) }
+    ensures value { IfSome result (λ v. v ≡ decimal 0 (halves_of 16 x)) }
+{
+    let right = x & RIGHT_HALVES;
+    let left = (x - right) / 16;
+    if (right + SIXES) & LEFT_HALVES != 0 || (left + SIXES) & LEFT_HALVES != 0 {
+        return None;
+    }
+    let pairs = left * 10 + right;
+    let right = pairs & RIGHT_BYTES;
+    let fours = (pairs - right) / 256 * 100 + right;
+    let right = fours & RIGHT_HALFWORDS;
+    let eights = (fours - right) / 65_536 * 10_000 + right;
+    Some(eights / 4_294_967_296 * 100_000_000 + eights % 4_294_967_296)
+}
+
+/// The number of a doubleword's bytes.
+#[inline(always)]
+fn doubleword(row: &[u8]) -> u64
+    requires { length row.now ≡ 8 }
+    ensures number { result ≡ number_from row.now 0 8 }
+    ensures bytes { (i : ℕ) → slice_index row.now i < 256 }
+{
+    u64::from_be_bytes([
+        row[0], row[1], row[2], row[3], row[4], row[5], row[6], row[7],
+    ])
+}
+
+/// What a good field of up to 8 bytes holds, where the doubleword that it ends stands in a row; none of any other.
+#[inline(always)]
+fn short_field<P: Space>(space: &P, at: Addr, l: u8) -> Option<Field>
+    ensures { IfSome result (λ f. Some f ≡ field_at (P.memory space.now) (P.bytes space.now) at l) }
+{
+    if l > 7 {
+        return None;
+    }
+    match space.slice(at.plus(16_777_209 + u32::from(l)), 8) {
+        Some(row) => {
+            let before = 8 * (7 - l);
+            let x = doubleword(row) << before >> before;
+            let sign = (x % 16) as u8;
+            if !is_sign(sign) {
+                return None;
+            }
+            match number_in(x / 16) {
+                Some(v) => Some(Field {
+                    magnitude: u128::from(v),
+                    minus: is_minus(sign),
+                }),
+                None => None,
+            }
+        }
+        None => None,
+    }
+}
+
+/// What the field of length code l holds, whose bytes were tested; none where a digit or the sign is bad.
+#[inline(always)]
+#[tactic(auto, using(crate::proofs::ShortFields::field_below, crate::proofs::ShortFields::field_most))]
+pub fn field_at<P: Space>(space: &P, at: Addr, l: u8) -> Option<Field>
+    requires length { l ≤ 15 }
+    requires reach { can_reach (P.memory space.now) at (l + 1) ≡ true }
+    ensures field { result ≡ field_at (P.memory space.now) (P.bytes space.now) at l }
+    ensures below { IfSome result (λ f. f.magnitude < 10 ^ (2 * l + 1)) }
+    ensures most { IfSome result (λ f. f.magnitude < 10000000000000000000000000000000) }
+{
+    match short_field(space, at, l) {
+        Some(f) => Some(f),
+        None => any_field(space, at, l),
     }
 }
 
@@ -153,18 +246,23 @@ pub fn number(f: Field) -> i128
     }
 }
 
-/// The first n bytes of a row become the 2n low digits of v.
+/// The first n bytes of a row, which are zeros, become the 2n low digits of v.
 fn put_low(row: &mut [u8], n: usize, v: u64)
     requires inside { n ≤ length row.old }
     requires most { n ≤ 15 }
+    requires zeros { (i : ℕ) → i < n → slice_index row.old i ≡ 0 }
     ensures digits { take n row.new ≡ bytes_of (digits_of (2 * n) v) }
     ensures rest { drop n row.new ≡ drop n row.old }
     ensures filled { length row.new ≡ length row.old }
 {
+    if v == 0 {
+        return;
+    }
     if n == 0 {
         return;
     }
-    row[n - 1] = (v / 10 % 10 * 16 + v % 10) as u8;
+    let pair = (v % 100) as u8;
+    row[n - 1] = pair + pair / 10 * 6;
     put_low(row, n - 1, v / 100);
 }
 
@@ -172,6 +270,7 @@ fn put_low(row: &mut [u8], n: usize, v: u64)
 fn put_digits(row: &mut [u8], n: usize, v: u128)
     requires inside { n ≤ length row.old }
     requires most { n ≤ 15 }
+    requires zeros { (i : ℕ) → i < n → slice_index row.old i ≡ 0 }
     ensures digits { take n row.new ≡ bytes_of (digits_of (2 * n) v) }
     ensures rest { drop n row.new ≡ drop n row.old }
     ensures filled { length row.new ≡ length row.old }
