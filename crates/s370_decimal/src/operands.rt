@@ -16,6 +16,7 @@ pub struct Operands {
 }
 
 /// Tests a first field that is replaced and a second that is read.
+#[inline(always)]
 pub fn test_replaced<P: Space>(cpu: &Cpu, space: &P, code: &Code) -> Result<(), Ending>
     ensures tested { Tested (P.memory space.now) (replaces cpu.now code.now) result }
     ensures reach { IfOk result (λ _. can_reach (P.memory space.now) (e1 cpu.now code.now) (l1 code.now + 1) ≡ true) }
@@ -51,6 +52,7 @@ pub fn test_compared<P: Space>(cpu: &Cpu, space: &P, code: &Code) -> Result<(), 
 }
 
 /// What the two fields hold; none where a digit or the sign of either is bad.
+#[inline(always)]
 pub fn read_operands<P: Space>(cpu: &Cpu, space: &P, code: &Code) -> Option<Operands>
     requires reach { can_reach (P.memory space.now) (e1 cpu.now code.now) (l1 code.now + 1) ≡ true }
     requires reach_second { can_reach (P.memory space.now) (e2 cpu.now code.now) (l2 code.now + 1) ≡ true }
