@@ -4,8 +4,8 @@ ghost use Rattle.std.specs.Prelude.{◌≡◌, ◌+◌, ◌-◌, ◌*◌, ◌/�
 ghost use Rattle.std.specs.List.{list_all};
 ghost use Rattle.cov_base.specs.Meaning.{can_reach, can_store};
 ghost use Rattle.s370_state.specs.Fields.{AreBytes};
-ghost use Rattle.s370_state.specs.Halves.{halves_of, number_from};
-ghost use Rattle.s370_state.specs.Meaning.{is_sign, is_minus, sign_half, is_digit, halves_at, decimal, field_at, number, digits_of, bytes_of, store_field};
+ghost use Rattle.s370_state.specs.Halves.{halves_of, number_from, AreSmall};
+ghost use Rattle.s370_state.specs.Meaning.{is_sign, is_minus, sign_half, is_digit, halves_at, decimal, field_at, number_at, number, digits_of, bytes_of, store_field};
 
 use crate::operands::byte_of;
 use crate::space::Space;
@@ -110,8 +110,6 @@ fn field_in<P: Space>(_from: &P, at: Addr, l: u8, row: &[u8]) -> Option<Field>
 }
 
 /// The bytes of an operand, one at a time, in front.
-#[cold]
-#[inline(never)]
 fn gathered<P: Space>(space: &P, at: Addr, n: u32) -> [u8; 16]
     requires most { n ≤ 16 }
     requires reach { can_reach (P.memory space.now) at n ≡ true }
@@ -125,6 +123,7 @@ fn gathered<P: Space>(space: &P, at: Addr, n: u32) -> [u8; 16]
 }
 
 /// What a field holds, by its bytes one at a time.
+#[cold]
 #[inline(never)]
 fn any_field<P: Space>(space: &P, at: Addr, l: u8) -> Option<Field>
     requires length { l ≤ 15 }
@@ -134,10 +133,7 @@ fn any_field<P: Space>(space: &P, at: Addr, l: u8) -> Option<Field>
     ensures most { IfSome result (λ f. f.magnitude < 10000000000000000000000000000000) }
 {
     let n = u32::from(l) + 1;
-    match space.slice(at, n) {
-        Some(row) => field_in(space, at, l, row),
-        None => field_in(space, at, l, &gathered(space, at, n)[..n as usize]),
-    }
+    field_in(space, at, l, &gathered(space, at, n)[..n as usize])
 }
 
 /// The right half of each byte of a doubleword.
@@ -187,18 +183,33 @@ fn doubleword(row: &[u8]) -> u64
     ])
 }
 
+/// The number of up to 8 bytes, where the doubleword that they end stands in a row.
+#[inline(always)]
+fn word_ending<P: Space>(space: &P, at: Addr, l: u8) -> Option<u64>
+    requires { l ≤ 7 }
+    ensures number { IfSome result (λ x. x ≡ number_at (P.memory space.now) (P.bytes space.now) at (l + 1)) }
+    ensures bytes { IfSome result (λ _. AreSmall (P.memory space.now) (P.bytes space.now) at (l + 1)) }
+{
+    match space.slice(at.plus(16_777_209 + u32::from(l)), 8) {
+        Some(row) => {
+            let before = 8 * (7 - l);
+            Some(doubleword(row) << before >> before)
+        }
+        None => None,
+    }
+}
+
 /// What a good field of up to 8 bytes holds, where the doubleword that it ends stands in a row; none of any other.
 #[inline(always)]
 fn short_field<P: Space>(space: &P, at: Addr, l: u8) -> Option<Field>
-    ensures { IfSome result (λ f. Some f ≡ field_at (P.memory space.now) (P.bytes space.now) at l) }
+    ensures field { IfSome result (λ f. Some f ≡ field_at (P.memory space.now) (P.bytes space.now) at l) }
+    ensures most { IfSome result (λ f. f.magnitude < 18446744073709551616) }
 {
     if l > 7 {
         return None;
     }
-    match space.slice(at.plus(16_777_209 + u32::from(l)), 8) {
-        Some(row) => {
-            let before = 8 * (7 - l);
-            let x = doubleword(row) << before >> before;
+    match word_ending(space, at, l) {
+        Some(x) => {
             let sign = (x % 16) as u8;
             if !is_sign(sign) {
                 return None;
@@ -215,6 +226,47 @@ fn short_field<P: Space>(space: &P, at: Addr, l: u8) -> Option<Field>
     }
 }
 
+/// The same of more than 8 bytes, of which the last 8 are a field by themselves.
+#[inline(always)]
+fn long_field<P: Space>(space: &P, at: Addr, l: u8) -> Option<Field>
+    requires { l ≤ 15 }
+    ensures { IfSome result (λ f. Some f ≡ field_at (P.memory space.now) (P.bytes space.now) at l) }
+{
+    if l < 8 {
+        return None;
+    }
+    match word_ending(space, at, l - 8) {
+        Some(x) => match number_in(x) {
+            Some(high) => match short_field(space, at.plus(u32::from(l - 7)), 7) {
+                Some(low) => Some(Field {
+                    magnitude: u128::from(high) * 1_000_000_000_000_000 + low.magnitude,
+                    minus: low.minus,
+                }),
+                None => None,
+            },
+            None => None,
+        },
+        None => None,
+    }
+}
+
+/// What a field holds that isn't a short one, good and in a row. Marked cold, so that the way of those stays straight.
+#[cold]
+#[inline(never)]
+#[tactic(auto, using(crate::proofs::ShortFields::field_below, crate::proofs::ShortFields::field_most))]
+fn other_field<P: Space>(space: &P, at: Addr, l: u8) -> Option<Field>
+    requires length { l ≤ 15 }
+    requires reach { can_reach (P.memory space.now) at (l + 1) ≡ true }
+    ensures field { result ≡ field_at (P.memory space.now) (P.bytes space.now) at l }
+    ensures below { IfSome result (λ f. f.magnitude < 10 ^ (2 * l + 1)) }
+    ensures most { IfSome result (λ f. f.magnitude < 10000000000000000000000000000000) }
+{
+    match long_field(space, at, l) {
+        Some(f) => Some(f),
+        None => any_field(space, at, l),
+    }
+}
+
 /// What the field of length code l holds, whose bytes were tested; none where a digit or the sign is bad.
 #[inline(always)]
 #[tactic(auto, using(crate::proofs::ShortFields::field_below, crate::proofs::ShortFields::field_most))]
@@ -227,7 +279,7 @@ pub fn field_at<P: Space>(space: &P, at: Addr, l: u8) -> Option<Field>
 {
     match short_field(space, at, l) {
         Some(f) => Some(f),
-        None => any_field(space, at, l),
+        None => other_field(space, at, l),
     }
 }
 
