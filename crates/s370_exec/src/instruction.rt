@@ -339,25 +339,6 @@ pub fn execute_frequent<P: Space>(
     }
 }
 
-/// Carries out an instruction that no EX executes. Where the task has ended `end` tells how.
-#[inline(always)]
-fn carry_out<P: Space>(
-    cpu: &mut Cpu,
-    space: &mut P,
-    io: &mut TaskIo,
-    code: &Code,
-    end: &mut Ending,
-) -> Told
-    ensures { Executes P.memory P.bytes code.now None cpu.old space.old io.old cpu.new space.new io.new result end.new }
-{
-    let op = op_of(code.first_half());
-    let next = updated(code, &None);
-    match execute_frequent(cpu, space, io, code, op, next, end) {
-        Some(told) => told,
-        None => carry_out_apart(cpu, space, io, code, None, end),
-    }
-}
-
 /// How a task goes on that was told so; where it has ended `end` tells how.
 #[inline(always)]
 pub fn next_of(told: Told, end: &Ending) -> Next
@@ -400,11 +381,7 @@ pub fn execute<P: Space>(
     ensures { Does P.memory P.bytes (executed code.now ex) cpu.old space.old io.old cpu.new space.new io.new result }
 {
     let mut end = Ending::Spent;
-    let told = match ex {
-        None => carry_out(cpu, space, io, code, &mut end),
-        Some(_) => carry_out_apart(cpu, space, io, code, ex, &mut end),
-    };
-    match told {
+    match carry_out_apart(cpu, space, io, code, ex, &mut end) {
         Told::GoesOn => Next::On,
         Told::HasEnded => how_ended(&end),
     }
