@@ -1,5 +1,5 @@
 //! The registers and the parts of the program status word that a task sees.
-ghost use Rattle.std.specs.Prelude.{◌≡◌, ℕ, ◌+◌, ◌*◌, ◌/◌, ◌%◌, ◌<◌, ◌≤◌, ◌^◌, slice_index, slice_set};
+ghost use Rattle.std.specs.Prelude.{◌≡◌, ℕ, ◌+◌, ◌*◌, ◌/◌, ◌%◌, ◌<◌, ◌≤◌, ◌^◌, slice_index, slice_set, ◌-◌, length};
 ghost use Rattle.cov_base.specs.Meaning.{base, address};
 ghost use Rattle.s370_state.specs.Meaning.{pair, with_pair, with_address};
 
@@ -37,6 +37,16 @@ impl Cpu {
         ensures { result ≡ slice_index self.now.regs r }
     {
         self.regs[r as usize]
+    }
+
+    /// Registers r to q, of which neither is above 15 and the first not above the last.
+    pub fn some_regs(&self, r: u8, q: u8) -> &[u32]
+        requires first { r ≤ q }
+        requires last { q < 16 }
+        ensures size { length result.now ≡ q - r + 1 }
+        ensures each { (i : ℕ) → i < length result.now → slice_index result.now i ≡ slice_index self.now.regs (r + i) }
+    {
+        &self.regs[r as usize..q as usize + 1]
     }
 
     /// Puts the word into register r, which is below 16.

@@ -1,10 +1,10 @@
 //! The tests of operands in storage, made here once for all operations, and the numbers that operands hold.
-ghost use Rattle.std.specs.Prelude.{◌≡◌, ◌+◌, ◌-◌, ◌%◌, ◌/◌, ◌<◌, ◌≤◌, [], ◌∷◌, true, IfOk, IfErr, slice_set, if◌then◌else◌, ◌&&◌};
+ghost use Rattle.std.specs.Prelude.{◌≡◌, ◌+◌, ◌-◌, ◌%◌, ◌/◌, ◌<◌, ◌≤◌, [], ◌∷◌, true, IfOk, IfErr, IsTrue, slice_set, if◌then◌else◌, ◌&&◌};
 ghost use Rattle.cov_base.specs.Meaning.{byte_at, can_reach, can_store, wrap};
 ghost use Rattle.s370_decode.specs.Meaning.{ex};
 ghost use Rattle.s370_state.specs.Meaning.{reads, stores, use_tests, number_at, store_number};
 ghost use Rattle.s370_state.specs.Answers.{ending_of};
-ghost use Rattle.s370_state.specs.Parts.{Tested, both_reach_answer};
+ghost use Rattle.s370_state.specs.Parts.{Pass, Tested, both_reach_answer};
 
 use crate::cpu::Cpu;
 use crate::endings::Ending;
@@ -110,6 +110,45 @@ pub fn test_read_both<P: Space>(space: &P, a: Addr, n: u32, b: Addr, k: u32) -> 
         },
         Err(r) => Err(ending_of(r)),
     }
+}
+
+/// Whether an operand that is read is seen at once to pass its tests. It may be false for any.
+#[inline(always)]
+#[tactic(auto, unfolding(crate::specs::Meaning::use_tests, crate::specs::Meaning::all_reached, crate::specs::Meaning::all_stored, crate::specs::Meaning::touched))]
+pub fn reads_own<P: Space>(space: &P, at: Addr, len: u32) -> bool
+    ensures pass { IsTrue result → Pass (P.memory space.now) (reads at len ∷ []) }
+{
+    space.is_own(at, len)
+}
+
+/// Whether an operand that is stored is seen at once to pass its tests. It may be false for any.
+#[inline(always)]
+#[tactic(auto, unfolding(crate::specs::Meaning::use_tests, crate::specs::Meaning::all_reached, crate::specs::Meaning::all_stored, crate::specs::Meaning::touched))]
+pub fn stores_own<P: Space>(space: &P, at: Addr, len: u32) -> bool
+    ensures pass { IsTrue result → Pass (P.memory space.now) (stores at len ∷ []) }
+    ensures store { IsTrue result → can_store (P.memory space.now) at len ≡ true }
+{
+    space.is_own(at, len)
+}
+
+/// Whether a first operand that is stored and a second that is read are seen at once to pass their tests. It may be false for any.
+#[inline(always)]
+#[tactic(auto, unfolding(crate::specs::Meaning::use_tests, crate::specs::Meaning::all_reached, crate::specs::Meaning::all_stored, crate::specs::Meaning::touched))]
+pub fn stores_reads_own<P: Space>(space: &P, a: Addr, n: u32, b: Addr, k: u32) -> bool
+    ensures pass { IsTrue result → Pass (P.memory space.now) (stores a n ∷ (reads b k ∷ [])) }
+    ensures store { IsTrue result → can_store (P.memory space.now) a n ≡ true }
+    ensures reach { IsTrue result → can_reach (P.memory space.now) b k ≡ true }
+{
+    space.is_own(a, n) && space.is_own(b, k)
+}
+
+/// Whether two operands that are read are seen at once to pass their tests. It may be false for any.
+#[inline(always)]
+#[tactic(auto, unfolding(crate::specs::Meaning::use_tests, crate::specs::Meaning::all_reached, crate::specs::Meaning::all_stored, crate::specs::Meaning::touched))]
+pub fn reads_both_own<P: Space>(space: &P, a: Addr, n: u32, b: Addr, k: u32) -> bool
+    ensures pass { IsTrue result → Pass (P.memory space.now) (reads a n ∷ (reads b k ∷ [])) }
+{
+    space.is_own(a, n) && space.is_own(b, k)
 }
 
 fn reach_both<P: Space>(space: &P, a: Addr, n: u32, b: Addr, k: u32) -> Result<(), Refused>

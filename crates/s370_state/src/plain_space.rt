@@ -106,6 +106,16 @@ impl Space for PlainSpace {
         Ok(())
     }
 
+    fn is_own(&self, at: Addr, len: u32) -> bool {
+        match self.can_reach(at, len) {
+            Ok(()) => match self.can_store(at, len) {
+                Ok(()) => self.can_read(at, len).is_ok(),
+                Err(_) => false,
+            },
+            Err(_) => false,
+        }
+    }
+
     #[tactic(auto, unfolding(crate::specs::Plain::memory_of, cov_base::specs::Meaning::byte_at, cov_base::specs::Meaning::is_accessible, cov_base::specs::Meaning::is_private))]
     fn byte(&self, at: Addr) -> u8 {
         if self.is_private(at) {
@@ -136,6 +146,13 @@ impl Space for PlainSpace {
         self.put(at.plus(2), (value / 256 % 256) as u8);
         self.put(at.plus(1), (value / 65_536 % 256) as u8);
         self.put(at.plus(0), (value / 16_777_216) as u8);
+    }
+
+    #[tactic(auto, using(crate::proofs::Stores::no_words, crate::proofs::Stores::more_words, crate::proofs::Tested::store_part, crate::proofs::Tested::store_wrapped))]
+    fn put_words(&mut self, at: Addr, from: &[u32]) {
+        for i in 0..from.len() {
+            self.put_word(at.plus(4 * i as u32), from[i]);
+        }
     }
 
     fn slice(&self, at: Addr, len: u32) -> Option<&[u8]> {

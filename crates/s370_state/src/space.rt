@@ -1,8 +1,8 @@
 //! A task's storage: what it may reach, store and read.
-ghost use Rattle.std.specs.Prelude.{◌≡◌, ℕ, ◌/◌, ◌<◌, ◌≤◌, ◌^◌, List, true, length, slice_set, IfSome};
-ghost use Rattle.cov_base.specs.Meaning.{Memory, byte_at, is_accessible, is_private, can_reach, can_store, wrap};
+ghost use Rattle.std.specs.Prelude.{◌≡◌, ℕ, ◌*◌, ◌/◌, ◌<◌, ◌≤◌, ◌^◌, List, true, length, slice_set, IfSome, IsTrue, None};
+ghost use Rattle.cov_base.specs.Meaning.{Memory, byte_at, is_accessible, is_private, can_reach, can_store, first_touch, wrap};
 ghost use Rattle.s370_state.specs.Answers.{reach_answer, store_answer, touch_answer, half_answer, first_answer};
-ghost use Rattle.s370_state.specs.Fields.{AreBytes, copied};
+ghost use Rattle.s370_state.specs.Fields.{AreBytes, copied, words_stored};
 ghost use Rattle.s370_state.specs.Meaning.{number_at, store_number, store_bytes};
 
 use cov_base::Addr;
@@ -51,6 +51,12 @@ pub trait Space {
         requires { can_reach (memory self.now) at len ≡ true }
         ensures { result ≡ touch_answer (memory self.now) at len };
 
+    /// Whether the operand is seen at once to lie in private storage, where it passes each test. It may be false for any operand.
+    fn is_own(&self, at: Addr, len: u32) -> bool
+        ensures reach { IsTrue result → can_reach (memory self.now) at len ≡ true }
+        ensures store { IsTrue result → can_store (memory self.now) at len ≡ true }
+        ensures touch { IsTrue result → first_touch (memory self.now) at len ≡ None };
+
     /// The byte at an accessible address.
     fn byte(&self, at: Addr) -> u8
         requires { is_accessible (memory self.now) at ≡ true }
@@ -77,6 +83,13 @@ pub trait Space {
         requires { can_store (memory self.old) at 4 ≡ true }
         ensures memory { memory self.new ≡ memory self.old }
         ensures bytes { bytes self.new ≡ store_number (bytes self.old) at 4 value };
+
+    /// Changes the bytes of words from a private address on, of which each is private, and no other.
+    fn put_words(&mut self, at: Addr, from: &[u32])
+        requires most { length from.now ≤ 16 }
+        requires store { can_store (memory self.old) at (4 * length from.now) ≡ true }
+        ensures memory { memory self.new ≡ memory self.old }
+        ensures bytes { bytes self.new ≡ words_stored (bytes self.old) at from.now (length from.now) };
 
     /// Changes the bytes from a private address on, of which each is private, and no other.
     fn put_slice(&mut self, at: Addr, from: &[u8])

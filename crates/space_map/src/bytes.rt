@@ -1,7 +1,7 @@
 //! The bytes that private storage begins with.
-ghost use Rattle.std.specs.Prelude.{◌≡◌, ◌+◌, ◌<◌, ◌≤◌, length, All, IfOk};
+ghost use Rattle.std.specs.Prelude.{◌≡◌, ◌+◌, ◌*◌, ◌<◌, ◌≤◌, length, All, IfOk};
 ghost use Rattle.cov_base.specs.Meaning.{Memory};
-ghost use Rattle.s370_state.specs.Fields.{copied};
+ghost use Rattle.s370_state.specs.Fields.{copied, words_stored};
 ghost use Rattle.s370_state.specs.Meaning.{store_number, store_bytes};
 ghost use Rattle.module_area.specs.Meaning.{with_card, first_bytes};
 
@@ -45,6 +45,20 @@ pub fn put_bytes(bytes: &mut [u8], a: usize, value: u32)
     bytes[a + 2] = (value / 256 % 256) as u8;
     bytes[a + 1] = (value / 65_536 % 256) as u8;
     bytes[a] = (value / 16_777_216) as u8;
+}
+
+/// Stores the bytes of words.
+#[inline(always)]
+#[tactic(auto, using(s370_state::proofs::Laws::no_words, s370_state::proofs::Laws::more_words))]
+pub fn put_all(bytes: &mut [u8], a: usize, words: &[u32])
+    requires inside { 0 < length words.now → a + 4 * length words.now ≤ length bytes.old }
+    requires most { length bytes.old ≤ PRIVATE_LIMIT }
+    ensures value { bytes.new ≡ words_stored bytes.old a words.now (length words.now) }
+    ensures filled { length bytes.new ≡ length bytes.old }
+{
+    for i in 0..words.len() {
+        put_bytes(bytes, a + 4 * i, words[i]);
+    }
 }
 
 /// Stores the bytes of a list.

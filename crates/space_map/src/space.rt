@@ -12,7 +12,7 @@ ghost use Rattle.brk_table.specs.Places.{IsIn, AreSeen};
 ghost use Rattle.module_area.specs.Meaning.{first_bytes};
 ghost use Rattle.space_map.specs.Space.{row_of, memory_of_space, half_in_space};
 
-use crate::bytes::{copy_bytes, first_bytes, put_bytes, put_list};
+use crate::bytes::{copy_bytes, first_bytes, put_all, put_bytes, put_list};
 use crate::images::{image_byte, image_field, image_half, is_image, is_in_one_image};
 use brk_table::Tables;
 use cov_base::{Addr, NoMemory};
@@ -109,6 +109,7 @@ impl<'a> TaskSpace<'a> {
         ensures value { result ≡ can_store (memory_of_space self.now) at len }
         ensures reach { IsTrue result → can_reach (memory_of_space self.now) at len ≡ true }
         ensures touch { IsTrue result → first_touch (memory_of_space self.now) at len ≡ None }
+        ensures inside { IsTrue result → 0 < len → at + len ≤ length self.now.bytes }
     {
         len == 0 || u64::from(at.get()) + u64::from(len) <= self.bytes.len() as u64
     }
@@ -286,6 +287,11 @@ impl<'a> Space for TaskSpace<'a> {
     }
 
     #[inline(always)]
+    fn is_own(&self, at: Addr, len: u32) -> bool {
+        self.is_private(at, len)
+    }
+
+    #[inline(always)]
     #[tactic(auto, unfolding(brk_table::specs::Meaning::memory_of, cov_base::specs::Meaning::byte_at, cov_base::specs::Meaning::is_accessible))]
     fn byte(&self, at: Addr) -> u8 {
         if (at.get() as usize) < self.bytes.len() {
@@ -298,7 +304,7 @@ impl<'a> Space for TaskSpace<'a> {
     #[inline(always)]
     #[tactic(auto, using(crate::proofs::SpaceLemmas::word_in))]
     fn word(&self, at: Addr) -> u32 {
-        if u64::from(at.get()) + 4 <= self.bytes.len() as u64 {
+        if self.is_private(at, 4) {
             let a = at.get() as usize;
             u32::from_be_bytes([
                 self.bytes[a],
@@ -332,6 +338,11 @@ impl<'a> Space for TaskSpace<'a> {
             Some(list) => Some(list),
             None => None,
         }
+    }
+
+    #[inline(always)]
+    fn put_words(&mut self, at: Addr, from: &[u32]) {
+        put_all(self.bytes.as_mut_slice(), at.get() as usize, from);
     }
 
     #[inline(always)]
