@@ -3,7 +3,7 @@ ghost use Rattle.std.specs.Prelude.{◌≡◌, ℕ, ◌*◌, ◌/◌, ◌<◌, �
 ghost use Rattle.std.specs.declared.option.Option.TheVariants.{Some, None};
 ghost use Rattle.cov_base.specs.Meaning.{Memory, IoView};
 ghost use Rattle.s370_state.specs.Meaning.{machine_of};
-ghost use Rattle.s370_decode.specs.Meaning.{first_half, i2, op_of};
+ghost use Rattle.s370_decode.specs.Meaning.{first_half, i2, b2, d2, op_of};
 ghost use Rattle.s370_decode.specs.Groups.{group_of};
 ghost use Rattle.s370_exec.specs.Does.{Does, Executes, CarriesOut, Branches, GoesOnward, Tries};
 ghost use Rattle.s370_exec.specs.Meaning.{effect, is_completed, updated, link_code, is_execute};
@@ -17,8 +17,8 @@ use crate::fields::{
 };
 use crate::stored::{
     add_half_apart, add_logical_word_apart, add_word_onward, compare_half_apart,
-    compare_word_onward, load_half_onward, store_half_onward, subtract_half_apart,
-    subtract_logical_word_apart, subtract_word_onward,
+    compare_word_apart, load_half_onward, store_half_onward, subtract_half_apart,
+    subtract_logical_word_apart, subtract_word_apart,
 };
 use cov_base::Addr;
 use s370_branch::{
@@ -248,10 +248,15 @@ pub fn execute_frequent<P: Space>(
     code: &Code,
     op: Op,
     next: Addr,
+    base: u8,
+    displacement: u16,
     end: &mut Ending,
 ) -> Option<Told>
     requires op { op ≡ op_of (first_half code.now) }
     requires next { next ≡ updated code.now None }
+    requires base { base ≡ b2 code.now }
+    requires register { base < 16 }
+    requires displacement { displacement ≡ d2 code.now }
     ensures tries { Tries P.memory P.bytes code.now cpu.old space.old io.old cpu.new space.new io.new result end.new }
     ensures plain { IsSome result → is_plain op ≡ true }
 {
@@ -293,31 +298,61 @@ pub fn execute_frequent<P: Space>(
             Some(Told::GoesOn)
         }
         Op::LA => {
-            let n = load_address(cpu, space, code);
+            let at = cpu.address(base, code.x2(), displacement);
+            let n = load_address(cpu, space, code, at);
             Some(onward(cpu, next, n, end))
         }
         Op::L => {
-            let n = load_word(cpu, space, code);
+            let at = cpu.address(base, code.x2(), displacement);
+            let n = load_word(cpu, space, code, at);
             Some(onward(cpu, next, n, end))
         }
         Op::ST => {
-            let n = store_word(cpu, space, code);
+            let at = cpu.address(base, code.x2(), displacement);
+            let n = store_word(cpu, space, code, at);
             Some(onward(cpu, next, n, end))
         }
-        Op::LH => Some(load_half_onward(cpu, space, code, next, end)),
-        Op::STH => Some(store_half_onward(cpu, space, code, next, end)),
-        Op::A => Some(add_word_onward(cpu, space, code, next, end)),
+        Op::LH => {
+            let at = cpu.address(base, code.x2(), displacement);
+            Some(load_half_onward(cpu, space, code, at, next, end))
+        }
+        Op::STH => {
+            let at = cpu.address(base, code.x2(), displacement);
+            Some(store_half_onward(cpu, space, code, at, next, end))
+        }
+        Op::A => {
+            let at = cpu.address(base, code.x2(), displacement);
+            Some(add_word_onward(cpu, space, code, at, next, end))
+        }
         Op::AH => Some(add_half_apart(cpu, space, code, next, end)),
-        Op::S => Some(subtract_word_onward(cpu, space, code, next, end)),
+        Op::S => {
+            let at = cpu.address(base, code.x2(), displacement);
+            Some(subtract_word_apart(cpu, space, code, at, next, end))
+        }
         Op::SH => Some(subtract_half_apart(cpu, space, code, next, end)),
         Op::AL => Some(add_logical_word_apart(cpu, space, code, next, end)),
         Op::SL => Some(subtract_logical_word_apart(cpu, space, code, next, end)),
-        Op::C => Some(compare_word_onward(cpu, space, code, next, end)),
+        Op::C => {
+            let at = cpu.address(base, code.x2(), displacement);
+            Some(compare_word_apart(cpu, space, code, at, next, end))
+        }
         Op::CH => Some(compare_half_apart(cpu, space, code, next, end)),
-        Op::LM => Some(load_multiple_apart(cpu, space, code, next, end)),
-        Op::STM => Some(store_multiple_apart(cpu, space, code, next, end)),
-        Op::IC => Some(insert_character_onward(cpu, space, code, next, end)),
-        Op::STC => Some(store_character_onward(cpu, space, code, next, end)),
+        Op::LM => {
+            let second = cpu.based(base, displacement);
+            Some(load_multiple_apart(cpu, space, code, second, next, end))
+        }
+        Op::STM => {
+            let second = cpu.based(base, displacement);
+            Some(store_multiple_apart(cpu, space, code, second, next, end))
+        }
+        Op::IC => {
+            let at = cpu.address(base, code.x2(), displacement);
+            Some(insert_character_onward(cpu, space, code, at, next, end))
+        }
+        Op::STC => {
+            let at = cpu.address(base, code.x2(), displacement);
+            Some(store_character_onward(cpu, space, code, at, next, end))
+        }
         Op::MVI => Some(move_immediate_onward(cpu, space, code, next, end)),
         Op::CLI => Some(compare_immediate_onward(cpu, space, code, next, end)),
         Op::TM => Some(test_under_mask_onward(cpu, space, code, next, end)),
@@ -333,8 +368,14 @@ pub fn execute_frequent<P: Space>(
             branch_and_link(cpu, code, next, link_code(code, &None));
             Some(Told::GoesOn)
         }
-        Op::MVC => Some(move_characters_apart(cpu, space, code, next, end)),
-        Op::CLC => Some(compare_fields_apart(cpu, space, code, next, end)),
+        Op::MVC => {
+            let second = cpu.based(base, displacement);
+            Some(move_characters_apart(cpu, space, code, second, next, end))
+        }
+        Op::CLC => {
+            let second = cpu.based(base, displacement);
+            Some(compare_fields_apart(cpu, space, code, second, next, end))
+        }
         _ => None,
     }
 }

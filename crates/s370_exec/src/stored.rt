@@ -1,5 +1,7 @@
 //! The operations that load, store or compute with a word or halfword in storage: the most frequent where all operations are told
 //! apart, the others each a call in a frame of its own; but for L and ST, which stand in the match of all operations.
+ghost use Rattle.std.specs.Prelude.{◌≡◌};
+ghost use Rattle.s370_decode.specs.Meaning.{ex};
 ghost use Rattle.s370_exec.specs.Does.{CarriesOut};
 ghost use Rattle.s370_exec.specs.Meaning.{effect};
 
@@ -19,12 +21,14 @@ pub(crate) fn load_half_onward<P: Space>(
     cpu: &mut Cpu,
     space: &mut P,
     code: &Code,
+    at: Addr,
     next: Addr,
     end: &mut Ending,
 ) -> Told
+    requires { at ≡ ex cpu.old code.now }
     ensures { CarriesOut P.memory P.bytes code.now Op.LH next cpu.old space.old cpu.new space.new result end.new }
 {
-    let n = load_half(cpu, space, code);
+    let n = load_half(cpu, space, code, at);
     onward(cpu, next, n, end)
 }
 
@@ -35,12 +39,14 @@ pub(crate) fn store_half_onward<P: Space>(
     cpu: &mut Cpu,
     space: &mut P,
     code: &Code,
+    at: Addr,
     next: Addr,
     end: &mut Ending,
 ) -> Told
+    requires { at ≡ ex cpu.old code.now }
     ensures { CarriesOut P.memory P.bytes code.now Op.STH next cpu.old space.old cpu.new space.new result end.new }
 {
-    let n = store_half(cpu, space, code);
+    let n = store_half(cpu, space, code, at);
     onward(cpu, next, n, end)
 }
 
@@ -51,12 +57,14 @@ pub(crate) fn add_word_onward<P: Space>(
     cpu: &mut Cpu,
     space: &mut P,
     code: &Code,
+    at: Addr,
     next: Addr,
     end: &mut Ending,
 ) -> Told
+    requires { at ≡ ex cpu.old code.now }
     ensures { CarriesOut P.memory P.bytes code.now Op.A next cpu.old space.old cpu.new space.new result end.new }
 {
-    let n = add_word(cpu, space, code);
+    let n = add_word(cpu, space, code, at);
     onward(cpu, next, n, end)
 }
 
@@ -77,18 +85,20 @@ pub(crate) fn add_half_apart<P: Space>(
 }
 
 /// S.
-#[inline(always)]
+#[inline(never)]
 #[tactic(auto, unfolding(crate::specs::Meaning::effect))]
-pub(crate) fn subtract_word_onward<P: Space>(
+pub(crate) fn subtract_word_apart<P: Space>(
     cpu: &mut Cpu,
     space: &mut P,
     code: &Code,
+    at: Addr,
     next: Addr,
     end: &mut Ending,
 ) -> Told
+    requires { at ≡ ex cpu.old code.now }
     ensures { CarriesOut P.memory P.bytes code.now Op.S next cpu.old space.old cpu.new space.new result end.new }
 {
-    let n = subtract_word(cpu, space, code);
+    let n = subtract_word(cpu, space, code, at);
     onward(cpu, next, n, end)
 }
 
@@ -141,18 +151,20 @@ pub(crate) fn subtract_logical_word_apart<P: Space>(
 }
 
 /// C.
-#[inline(always)]
+#[inline(never)]
 #[tactic(auto, unfolding(crate::specs::Meaning::effect))]
-pub(crate) fn compare_word_onward<P: Space>(
+pub(crate) fn compare_word_apart<P: Space>(
     cpu: &mut Cpu,
     space: &mut P,
     code: &Code,
+    at: Addr,
     next: Addr,
     end: &mut Ending,
 ) -> Told
+    requires { at ≡ ex cpu.old code.now }
     ensures { CarriesOut P.memory P.bytes code.now Op.C next cpu.old space.old cpu.new space.new result end.new }
 {
-    let n = compare_word(cpu, space, code);
+    let n = compare_word(cpu, space, code, at);
     onward(cpu, next, n, end)
 }
 

@@ -15,7 +15,7 @@ pub use loads::{
     load_address, load_and_test, load_complement, load_half, load_register, load_word, store_half,
     store_word,
 };
-pub use multiple::{load_multiple, store_multiple};
+pub use multiple::{load_multiple, load_multiple_own, store_multiple, store_multiple_own};
 pub use sums::{
     add_half, add_logical_word, add_register, add_word, compare_half, compare_register,
     compare_word, subtract_half, subtract_logical_word, subtract_register, subtract_word,

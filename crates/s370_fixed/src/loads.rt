@@ -4,12 +4,14 @@
 ghost use Rattle.std.specs.Prelude.{◌≡◌, ◌<◌, ◌≤◌, ℤ, pos, neg_ℤ, ◌≤ℤ◌, ◌<ℤ◌, if◌then◌else◌};
 ghost use Rattle.std.specs.Int.RustNames.{unsigned_abs};
 ghost use Rattle.s370_state.specs.Row.{Performs};
+ghost use Rattle.s370_decode.specs.Meaning.{ex};
 ghost use Rattle.s370_fixed.specs.Meaning.{fixed_row};
 
-use crate::operands::{half, load, set_result, word};
+use crate::operands::{half_at, load, set_result};
 use crate::words::{low_word, put_half, sign_code};
+use cov_base::Addr;
 use s370_decode::{Code, Op};
-use s370_state::{Cpu, Next, Space, indexed, put_word, signed, test_store};
+use s370_state::{Cpu, Next, Space, put_word, read_word, signed, test_store};
 
 /// The magnitude of a register's number.
 fn magnitude(z: i64) -> i64
@@ -31,10 +33,11 @@ pub fn load_register<P: Space>(cpu: &mut Cpu, space: &mut P, code: &Code) -> Nex
 
 /// L: loads R1 from a word.
 #[inline(always)]
-pub fn load_word<P: Space>(cpu: &mut Cpu, space: &mut P, code: &Code) -> Next
+pub fn load_word<P: Space>(cpu: &mut Cpu, space: &mut P, code: &Code, at: Addr) -> Next
+    requires { at ≡ ex cpu.old code.now }
     ensures { Performs P.memory P.bytes (fixed_row Op.L code.now) cpu.old space.old cpu.new space.new result }
 {
-    match word(cpu, space, code) {
+    match read_word(space, at) {
         Ok(v) => load(cpu, code.r1(), v),
         Err(e) => Next::Ended(e),
     }
@@ -42,10 +45,11 @@ pub fn load_word<P: Space>(cpu: &mut Cpu, space: &mut P, code: &Code) -> Next
 
 /// LH: loads R1 from a halfword, extended by its sign.
 #[inline(always)]
-pub fn load_half<P: Space>(cpu: &mut Cpu, space: &mut P, code: &Code) -> Next
+pub fn load_half<P: Space>(cpu: &mut Cpu, space: &mut P, code: &Code, at: Addr) -> Next
+    requires { at ≡ ex cpu.old code.now }
     ensures { Performs P.memory P.bytes (fixed_row Op.LH code.now) cpu.old space.old cpu.new space.new result }
 {
-    match half(cpu, space, code) {
+    match half_at(space, at) {
         Ok(z) => load(cpu, code.r1(), low_word(z)),
         Err(e) => Next::Ended(e),
     }
@@ -88,18 +92,19 @@ pub fn load_negative<P: Space>(cpu: &mut Cpu, space: &mut P, code: &Code) -> Nex
 
 /// LA: loads R1 with the second operand's address, and zeros in bits 0-7; no operand is tested.
 #[inline(always)]
-pub fn load_address<P: Space>(cpu: &mut Cpu, space: &mut P, code: &Code) -> Next
+pub fn load_address<P: Space>(cpu: &mut Cpu, space: &mut P, code: &Code, at: Addr) -> Next
+    requires { at ≡ ex cpu.old code.now }
     ensures { Performs P.memory P.bytes (fixed_row Op.LA code.now) cpu.old space.old cpu.new space.new result }
 {
-    load(cpu, code.r1(), indexed(cpu, code).get())
+    load(cpu, code.r1(), at.get())
 }
 
 /// ST: stores R1 in a word.
 #[inline(always)]
-pub fn store_word<P: Space>(cpu: &mut Cpu, space: &mut P, code: &Code) -> Next
+pub fn store_word<P: Space>(cpu: &mut Cpu, space: &mut P, code: &Code, at: Addr) -> Next
+    requires { at ≡ ex cpu.old code.now }
     ensures { Performs P.memory P.bytes (fixed_row Op.ST code.now) cpu.old space.old cpu.new space.new result }
 {
-    let at = indexed(cpu, code);
     if let Err(e) = test_store(space, at, 4) {
         return Next::Ended(e);
     }
@@ -109,10 +114,10 @@ pub fn store_word<P: Space>(cpu: &mut Cpu, space: &mut P, code: &Code) -> Next
 
 /// STH: stores bits 16-31 of R1 in a halfword.
 #[inline(always)]
-pub fn store_half<P: Space>(cpu: &mut Cpu, space: &mut P, code: &Code) -> Next
+pub fn store_half<P: Space>(cpu: &mut Cpu, space: &mut P, code: &Code, at: Addr) -> Next
+    requires { at ≡ ex cpu.old code.now }
     ensures { Performs P.memory P.bytes (fixed_row Op.STH code.now) cpu.old space.old cpu.new space.new result }
 {
-    let at = indexed(cpu, code);
     if let Err(e) = test_store(space, at, 2) {
         return Next::Ended(e);
     }

@@ -5,12 +5,15 @@ ghost use Rattle.std.specs.Prelude.{◌≡◌, ◌+◌, ◌-◌, ◌*◌, ◌%�
 ghost use Rattle.cov_base.specs.Meaning.{can_reach, can_store};
 ghost use Rattle.s370_state.specs.Fields.{AreBytes};
 ghost use Rattle.s370_state.specs.Meaning.{number_at};
-ghost use Rattle.s370_state.specs.Row.{Performs};
+ghost use Rattle.s370_decode.specs.Meaning.{e2};
+ghost use Rattle.s370_state.specs.Row.{Attempts, Performs};
 ghost use Rattle.s370_fixed.specs.Meaning.{many, loaded, stored, fixed_row};
 
 use cov_base::Addr;
 use s370_decode::{Code, Op};
-use s370_state::{Cpu, Next, Space, put_word, test_read, test_store, word_of};
+use s370_state::{
+    Cpu, Next, Space, put_word, reads_own, stores_own, test_read, test_store, word_of,
+};
 
 /// How many registers there are from R1 to R3, 15 followed by 0.
 fn count(code: &Code) -> u8
@@ -32,23 +35,20 @@ fn word_in_row<P: Space>(_space: &P, at: Addr, n: u8, row: &[u8], i: u8) -> u32
     u32::from_be_bytes([row[k], row[k + 1], row[k + 2], row[k + 3]])
 }
 
-/// Loads n registers, r and on, from words that stand in a row.
+/// Loads n registers, r and on but none behind register 15, from words that stand in a row.
 #[inline(always)]
-#[tactic(auto, using(crate::proofs::Registers::loaded_none, crate::proofs::Registers::loaded_more))]
+#[tactic(auto, using(crate::proofs::Registers::loaded_none, crate::proofs::Registers::loaded_next))]
 fn load_row<P: Space>(cpu: &mut Cpu, _space: &P, r: u8, at: Addr, n: u8, row: &[u8])
-    requires r { r < 16 }
-    requires n { n ≤ 16 }
+    requires last { r + n ≤ 16 }
     requires row { AreBytes (P.memory _space.now) (P.bytes _space.now) at (4 * n) row.now }
     ensures { cpu.new ≡ record cpu.old { regs = loaded (P.memory _space.now) (P.bytes _space.now) cpu.old.regs r at n } }
 {
     for i in 0..n {
-        cpu.set_reg((r + i) % 16, word_in_row(_space, at, n, row, i));
+        cpu.set_reg(r + i, word_in_row(_space, at, n, row, i));
     }
 }
 
 /// Loads n registers, r and on.
-#[cold]
-#[inline(never)]
 #[tactic(auto, using(crate::proofs::Registers::loaded_none, crate::proofs::Registers::loaded_more))]
 fn load_words<P: Space>(cpu: &mut Cpu, space: &P, r: u8, at: Addr, n: u8)
     requires r { r < 16 }
@@ -84,8 +84,47 @@ fn store_words<P: Space>(cpu: &Cpu, space: &mut P, r: u8, at: Addr, n: u8)
     }
 }
 
-/// LM: loads the registers from R1 to R3 from as many words.
+/// LM where the words stand in private storage, and no register 0 comes behind register 15. Else it is false, and nothing is done.
 #[inline(always)]
+pub fn load_multiple_own<P: Space>(cpu: &mut Cpu, space: &mut P, code: &Code, at: Addr) -> bool
+    requires at { at ≡ e2 cpu.old code.now }
+    ensures { Attempts P.memory P.bytes (fixed_row Op.LM code.now) cpu.old space.old cpu.new space.new result }
+{
+    let (r, n) = (code.r1(), count(code));
+    if r + n > 16 {
+        return false;
+    }
+    if !reads_own(space, at, 4 * u32::from(n)) {
+        return false;
+    }
+    match space.slice(at, 4 * u32::from(n)) {
+        Some(row) => {
+            load_row(cpu, space, r, at, n, row);
+            true
+        }
+        None => false,
+    }
+}
+
+/// STM where the words go to private storage, and no register 0 comes behind register 15. Else it is false, and nothing is done.
+#[inline(always)]
+pub fn store_multiple_own<P: Space>(cpu: &mut Cpu, space: &mut P, code: &Code, at: Addr) -> bool
+    requires at { at ≡ e2 cpu.old code.now }
+    ensures { Attempts P.memory P.bytes (fixed_row Op.STM code.now) cpu.old space.old cpu.new space.new result }
+{
+    let (r, q) = (code.r1(), code.r3());
+    if r > q {
+        return false;
+    }
+    let n = q - r + 1;
+    if !stores_own(space, at, 4 * u32::from(n)) {
+        return false;
+    }
+    space.put_words(at, cpu.some_regs(r, q));
+    true
+}
+
+/// LM: loads the registers from R1 to R3 from as many words.
 pub fn load_multiple<P: Space>(cpu: &mut Cpu, space: &mut P, code: &Code) -> Next
     ensures { Performs P.memory P.bytes (fixed_row Op.LM code.now) cpu.old space.old cpu.new space.new result }
 {
@@ -94,15 +133,11 @@ pub fn load_multiple<P: Space>(cpu: &mut Cpu, space: &mut P, code: &Code) -> Nex
     if let Err(e) = test_read(space, at, 4 * u32::from(n)) {
         return Next::Ended(e);
     }
-    match space.slice(at, 4 * u32::from(n)) {
-        Some(row) => load_row(cpu, space, code.r1(), at, n, row),
-        None => load_words(cpu, space, code.r1(), at, n),
-    }
+    load_words(cpu, space, code.r1(), at, n);
     Next::On
 }
 
 /// STM: stores the registers from R1 to R3 in as many words.
-#[inline(always)]
 pub fn store_multiple<P: Space>(cpu: &mut Cpu, space: &mut P, code: &Code) -> Next
     ensures { Performs P.memory P.bytes (fixed_row Op.STM code.now) cpu.old space.old cpu.new space.new result }
 {

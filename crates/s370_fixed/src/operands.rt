@@ -7,6 +7,7 @@ ghost use Rattle.s370_fixed.specs.Results.{signed_half_at, with_result};
 ghost use Rattle.s370_decode.specs.Meaning.{ex};
 
 use crate::words::{half_of, is_word, low_word, sign_code, signed_half};
+use cov_base::Addr;
 use s370_decode::Code;
 use s370_state::{Cpu, Ending, Next, Space, indexed, next_after, read_word, test_read};
 
@@ -27,7 +28,17 @@ pub fn half<P: Space>(cpu: &Cpu, space: &P, code: &Code) -> Result<i64, Ending>
     ensures low { IfOk result (λ z. neg_ℤ (pos 32768) ≤ℤ z) }
     ensures high { IfOk result (λ z. z <ℤ pos 32768) }
 {
-    let at = indexed(cpu, code);
+    half_at(space, indexed(cpu, code))
+}
+
+/// The halfword at the address, extended by its sign.
+#[inline(always)]
+pub fn half_at<P: Space>(space: &P, at: Addr) -> Result<i64, Ending>
+    ensures tested { Tested (P.memory space.now) (reads at 2 ∷ []) result }
+    ensures value { IfOk result (λ z. z ≡ signed_half_at (P.memory space.now) (P.bytes space.now) at) }
+    ensures low { IfOk result (λ z. neg_ℤ (pos 32768) ≤ℤ z) }
+    ensures high { IfOk result (λ z. z <ℤ pos 32768) }
+{
     match test_read(space, at, 2) {
         Ok(()) => Ok(signed_half(half_of(space, at, 0, 2))),
         Err(e) => Err(e),

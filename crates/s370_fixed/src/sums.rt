@@ -5,12 +5,14 @@ ghost use Rattle.std.specs.Prelude.{◌≡◌, ◌+◌, ◌-◌, ◌%◌, ◌<�
 ghost use Rattle.std.specs.Ordering.{int_cmp};
 ghost use Rattle.s370_state.specs.Meaning.{next_after, signed, order_code};
 ghost use Rattle.s370_state.specs.Row.{Performs};
+ghost use Rattle.s370_decode.specs.Meaning.{ex};
 ghost use Rattle.s370_fixed.specs.Meaning.{is_word, fixed_row};
 ghost use Rattle.s370_fixed.specs.Results.{signed_in, with_result, with_sum};
 
 use crate::operands::{half, set_result, word};
+use cov_base::Addr;
 use s370_decode::{Code, Op};
-use s370_state::{Cpu, Next, Space, order_code, signed};
+use s370_state::{Cpu, Next, Space, order_code, read_word, signed};
 
 /// Adds a signed word to the register.
 #[inline(always)]
@@ -96,10 +98,11 @@ pub fn add_register<P: Space>(cpu: &mut Cpu, space: &mut P, code: &Code) -> Next
 
 /// A: adds a word to R1.
 #[inline(always)]
-pub fn add_word<P: Space>(cpu: &mut Cpu, space: &mut P, code: &Code) -> Next
+pub fn add_word<P: Space>(cpu: &mut Cpu, space: &mut P, code: &Code, at: Addr) -> Next
+    requires { at ≡ ex cpu.old code.now }
     ensures { Performs P.memory P.bytes (fixed_row Op.A code.now) cpu.old space.old cpu.new space.new result }
 {
-    match word(cpu, space, code) {
+    match read_word(space, at) {
         Ok(v) => add(cpu, code.r1(), signed(v)),
         Err(e) => Next::Ended(e),
     }
@@ -126,10 +129,11 @@ pub fn subtract_register<P: Space>(cpu: &mut Cpu, space: &mut P, code: &Code) ->
 
 /// S: subtracts a word from R1.
 #[inline(always)]
-pub fn subtract_word<P: Space>(cpu: &mut Cpu, space: &mut P, code: &Code) -> Next
+pub fn subtract_word<P: Space>(cpu: &mut Cpu, space: &mut P, code: &Code, at: Addr) -> Next
+    requires { at ≡ ex cpu.old code.now }
     ensures { Performs P.memory P.bytes (fixed_row Op.S code.now) cpu.old space.old cpu.new space.new result }
 {
-    match word(cpu, space, code) {
+    match read_word(space, at) {
         Ok(v) => subtract(cpu, code.r1(), signed(v)),
         Err(e) => Next::Ended(e),
     }
@@ -194,10 +198,11 @@ pub fn compare_register<P: Space>(cpu: &mut Cpu, space: &mut P, code: &Code) -> 
 
 /// C: compares R1 with a word.
 #[inline(always)]
-pub fn compare_word<P: Space>(cpu: &mut Cpu, space: &mut P, code: &Code) -> Next
+pub fn compare_word<P: Space>(cpu: &mut Cpu, space: &mut P, code: &Code, at: Addr) -> Next
+    requires { at ≡ ex cpu.old code.now }
     ensures { Performs P.memory P.bytes (fixed_row Op.C code.now) cpu.old space.old cpu.new space.new result }
 {
-    match word(cpu, space, code) {
+    match read_word(space, at) {
         Ok(v) => compare(cpu, code.r1(), signed(v)),
         Err(e) => Next::Ended(e),
     }

@@ -1,17 +1,21 @@
 //! Comparisons without signs.
 #![tactic(auto, using(s370_state::proofs::Laws::at_once, s370_state::proofs::Laws::passes, s370_state::proofs::Laws::refuses))]
 
-ghost use Rattle.std.specs.Prelude.{◌≡◌, ◌+◌, ◌<◌, ◌≤◌, true, ◌==◌, if◌then◌else◌, slice_index};
+ghost use Rattle.std.specs.Prelude.{◌≡◌, ℕ, ◌+◌, ◌<◌, ◌≤◌, true, ◌==◌, if◌then◌else◌, length, slice_index};
 ghost use Rattle.std.specs.Ordering.{nat_cmp};
 ghost use Rattle.cov_base.specs.Meaning.{can_reach};
-ghost use Rattle.s370_state.specs.Row.{Performs};
+ghost use Rattle.s370_state.specs.Row.{Attempts, Performs};
+ghost use Rattle.s370_decode.specs.Meaning.{e2};
 ghost use Rattle.s370_state.specs.Fields.{AreBytes};
 ghost use Rattle.s370_state.specs.Meaning.{order_code};
+ghost use Rattle.s370_logic.specs.Rows.{number_in};
 ghost use Rattle.s370_logic.specs.Meaning.{compared, logic_row};
 
 use cov_base::Addr;
 use s370_decode::{Code, Op};
-use s370_state::{Cpu, Next, Space, byte_of, order_code, read_word, test_read, test_read_both};
+use s370_state::{
+    Cpu, Next, Space, byte_of, order_code, read_word, reads_both_own, test_read, test_read_both,
+};
 
 /// Compares the register with a word.
 fn compare(cpu: &mut Cpu, r: u8, v: u32) -> Next
@@ -23,7 +27,27 @@ fn compare(cpu: &mut Cpu, r: u8, v: u32) -> Next
     Next::On
 }
 
-/// Compares n bytes that stand in rows, up to the first unequal pair.
+/// Eight bytes of a row as one number: of two such numbers the one whose first unequal byte is greater is greater.
+#[inline(always)]
+#[tactic(auto, unfolding(crate::specs::Rows::number_in))]
+fn doubleword(row: &[u8], k: usize) -> u64
+    requires { k + 8 ≤ length row.now }
+    ensures value { result ≡ number_in row.now k 8 }
+    ensures below { (j : ℕ) → j < 8 → slice_index row.now (k + j) < 256 }
+{
+    u64::from_be_bytes([
+        row[k],
+        row[k + 1],
+        row[k + 2],
+        row[k + 3],
+        row[k + 4],
+        row[k + 5],
+        row[k + 6],
+        row[k + 7],
+    ])
+}
+
+/// Compares n bytes that stand in rows, eight at once, up to the first unequal pair.
 #[inline(always)]
 #[tactic(auto, using(crate::proofs::Steps::compared_none))]
 fn compare_rows<P: Space>(_space: &P, a: Addr, b: Addr, n: u32, x: &[u8], y: &[u8]) -> u8
@@ -32,7 +56,14 @@ fn compare_rows<P: Space>(_space: &P, a: Addr, b: Addr, n: u32, x: &[u8], y: &[u
     ensures value { result ≡ compared (P.memory _space.now) (P.bytes _space.now) a b n }
     ensures below { result ≤ 2 }
 {
-    for i in 0..n as usize {
+    let eights = n as usize / 8;
+    for k in 0..eights {
+        let (first, second) = (doubleword(x, 8 * k), doubleword(y, 8 * k));
+        if first != second {
+            return order_code(first.cmp(&second));
+        }
+    }
+    for i in 8 * eights..n as usize {
         if x[i] != y[i] {
             return order_code(x[i].cmp(&y[i]));
         }
@@ -106,6 +137,29 @@ pub fn compare_immediate<P: Space>(cpu: &mut Cpu, space: &mut P, code: &Code) ->
     let byte = byte_of(space, at, 0, 1);
     cpu.set_cc(order_code(byte.cmp(&code.i2())));
     Next::On
+}
+
+/// CLC where both operands lie in private storage. Else it is false, and nothing is done.
+#[inline(always)]
+pub fn compare_fields_own<P: Space>(cpu: &mut Cpu, space: &mut P, code: &Code, second: Addr) -> bool
+    requires second { second ≡ e2 cpu.old code.now }
+    ensures { Attempts P.memory P.bytes (logic_row Op.CLC code.now) cpu.old space.old cpu.new space.new result }
+{
+    let n = u32::from(code.l()) + 1;
+    let a = cpu.based(code.b1(), code.d1());
+    if !reads_both_own(space, a, n, second, n) {
+        return false;
+    }
+    match space.slice(a, n) {
+        Some(x) => match space.slice(second, n) {
+            Some(y) => {
+                cpu.set_cc(compare_rows(space, a, second, n, x, y));
+                true
+            }
+            None => false,
+        },
+        None => false,
+    }
 }
 
 /// CLC: compares the operands, left to right.

@@ -8,6 +8,6 @@ mod single_bytes;
 mod swaps;
 mod table;
 
-pub use comparisons::{compare_fields, compare_immediate};
+pub use comparisons::{compare_fields, compare_fields_own, compare_immediate};
 pub use single_bytes::{insert_character, move_immediate, store_character, test_under_mask};
 pub use table::logic;

@@ -2,6 +2,7 @@
 #![tactic(auto, using(s370_state::proofs::Laws::at_once, s370_state::proofs::Laws::passes, s370_state::proofs::Laws::refuses))]
 
 ghost use Rattle.std.specs.Prelude.{◌≡◌, ◌+◌, ◌*◌, ◌/◌, ◌%◌, ◌<◌, ◌≤◌, ◌==◌, if◌then◌else◌};
+ghost use Rattle.s370_decode.specs.Meaning.{ex};
 ghost use Rattle.s370_state.specs.Row.{Performs};
 ghost use Rattle.s370_logic.specs.Meaning.{mask_code, stores_byte, logic_row};
 
@@ -23,10 +24,10 @@ fn store_byte<P: Space>(cpu: &Cpu, space: &mut P, at: Addr, v: u8) -> Next
 
 /// IC: loads bits 24-31 of R1 from a byte.
 #[inline(always)]
-pub fn insert_character<P: Space>(cpu: &mut Cpu, space: &mut P, code: &Code) -> Next
+pub fn insert_character<P: Space>(cpu: &mut Cpu, space: &mut P, code: &Code, at: Addr) -> Next
+    requires { at ≡ ex cpu.old code.now }
     ensures { Performs P.memory P.bytes (logic_row Op.IC code.now) cpu.old space.old cpu.new space.new result }
 {
-    let at = cpu.address(code.b2(), code.x2(), code.d2());
     if let Err(e) = test_read(space, at, 1) {
         return Next::Ended(e);
     }
@@ -37,10 +38,10 @@ pub fn insert_character<P: Space>(cpu: &mut Cpu, space: &mut P, code: &Code) -> 
 
 /// STC: stores bits 24-31 of R1 in a byte.
 #[inline(always)]
-pub fn store_character<P: Space>(cpu: &mut Cpu, space: &mut P, code: &Code) -> Next
+pub fn store_character<P: Space>(cpu: &mut Cpu, space: &mut P, code: &Code, at: Addr) -> Next
+    requires { at ≡ ex cpu.old code.now }
     ensures { Performs P.memory P.bytes (logic_row Op.STC code.now) cpu.old space.old cpu.new space.new result }
 {
-    let at = cpu.address(code.b2(), code.x2(), code.d2());
     store_byte(cpu, space, at, (cpu.reg(code.r1()) % 256) as u8)
 }
 

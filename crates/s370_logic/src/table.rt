@@ -13,7 +13,7 @@ use crate::single_bytes::{
 };
 use crate::swaps::{compare_and_swap, compare_double_and_swap};
 use s370_decode::{Code, Group, Op};
-use s370_state::{Cpu, Next, Space};
+use s370_state::{Cpu, Next, Space, indexed};
 
 /// Performs an operation of logic and tests: NR N NI NC, OR O OI OC, XR X XI XC, CLR CL CLI CLC, IC STC, ICM STCM CLM,
 /// TM MVI TS, CS CDS and SPM (Principles of Operation, "General Instructions"). All tests are made before anything is
@@ -42,8 +42,8 @@ pub fn logic<P: Space>(cpu: &mut Cpu, space: &mut P, code: &Code, op: Op) -> Nex
         Op::CL => compare_word(cpu, space, code),
         Op::CLI => compare_immediate(cpu, space, code),
         Op::CLC => compare_fields(cpu, space, code),
-        Op::IC => insert_character(cpu, space, code),
-        Op::STC => store_character(cpu, space, code),
+        Op::IC => insert_character(cpu, space, code, indexed(cpu, code)),
+        Op::STC => store_character(cpu, space, code, indexed(cpu, code)),
         Op::ICM => insert_under_mask(cpu, space, code),
         Op::STCM => store_under_mask(cpu, space, code),
         Op::CLM => compare_under_mask(cpu, space, code),

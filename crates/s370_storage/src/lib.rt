@@ -7,5 +7,5 @@ mod packing;
 mod table;
 mod translate;
 
-pub use moves::move_characters;
+pub use moves::{move_characters, move_characters_own};
 pub use table::storage;

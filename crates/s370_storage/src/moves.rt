@@ -3,12 +3,13 @@
 
 ghost use Rattle.std.specs.Prelude.{◌≡◌, ◌+◌, ◌-◌, ◌*◌, ◌/◌, ◌%◌, ◌<◌, ◌≤◌, true};
 ghost use Rattle.cov_base.specs.Meaning.{byte_at, can_reach, can_store, wrap};
-ghost use Rattle.s370_state.specs.Row.{Performs};
+ghost use Rattle.s370_state.specs.Row.{Attempts, Performs};
+ghost use Rattle.s370_decode.specs.Meaning.{e2};
 ghost use Rattle.s370_storage.specs.Meaning.{with_part, moved, moves, left_of, inverted, storage_row};
 
 use cov_base::Addr;
 use s370_decode::{Code, Op};
-use s370_state::{Cpu, Next, Space, byte_of, put_into, test_store_read};
+use s370_state::{Cpu, Next, Space, byte_of, put_into, stores_reads_own, test_store_read};
 
 /// What is moved of a byte.
 #[derive(Clone, Copy, Drop)]
@@ -63,6 +64,27 @@ fn move_parts<P: Space>(part: Part, cpu: &Cpu, space: &mut P, code: &Code) -> Ne
         Part::Numeric | Part::Zone => move_halves(part, space, a, b, n),
     }
     Next::On
+}
+
+/// MVC where both operands lie in private storage. Else it is false, and nothing is done.
+#[inline(always)]
+#[tactic(auto, using(s370_state::proofs::Laws::passes, crate::proofs::Steps::moved_copied))]
+pub fn move_characters_own<P: Space>(
+    cpu: &mut Cpu,
+    space: &mut P,
+    code: &Code,
+    second: Addr,
+) -> bool
+    requires second { second ≡ e2 cpu.old code.now }
+    ensures { Attempts P.memory P.bytes (storage_row Op.MVC code.now) cpu.old space.old cpu.new space.new result }
+{
+    let a = cpu.based(code.b1(), code.d1());
+    let n = u32::from(code.l()) + 1;
+    if !stores_reads_own(space, a, n, second, n) {
+        return false;
+    }
+    space.copy(a, second, n);
+    true
 }
 
 /// MVC: moves bytes, left to right.

@@ -181,6 +181,8 @@ fn carry_on_kept<O: Observer>(
         &kept.code,
         kept.op,
         kept.next,
+        kept.base,
+        kept.displacement,
         end,
     ) {
         Some(told) => told,
