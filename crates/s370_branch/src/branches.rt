@@ -10,17 +10,17 @@ use s370_decode::{Code, Group, Op, op_of};
 use s370_state::{Cpu, indexed, signed};
 
 /// Whether the mask selects the condition code: its bits 8, 4, 2 and 1 are for the codes 0 to 3. Without a branch, which the
-/// processor would foresee ill.
+/// processor would foresee ill, and in a few of its instructions.
 fn is_selected(mask: u8, code: u8) -> bool
     requires mask { mask < 16 }
     requires code { code ≤ 3 }
     ensures { result ≡ is_selected mask code }
 {
-    (mask >> (3 - code)) % 2 == 1
+    (mask << code) / 8 % 2 == 1
 }
 
-/// R1 less 1.
-fn less_one(cpu: &Cpu, code: &Code) -> u32
+/// R1 less 1: what is left of a count.
+pub fn less_one(cpu: &Cpu, code: &Code) -> u32
     ensures { result ≡ less_one cpu.now code.now }
 {
     cpu.reg(code.r1()).wrapping_sub(1)
@@ -51,10 +51,10 @@ fn is_high(cpu: &Cpu, code: &Code) -> bool
     signed(comparand(cpu, code)) < signed(index_sum(cpu, code))
 }
 
-/// Whether the operation on these fields branches.
+/// Whether the operation on these fields branches; false for an operation that is no branch. Changes nothing.
 #[inline(always)]
 #[tactic(auto, unfolding(crate::specs::Meaning::goes))]
-fn goes(cpu: &Cpu, code: &Code, op: Op) -> bool
+pub fn goes(cpu: &Cpu, code: &Code, op: Op) -> bool
     ensures { result ≡ goes op cpu.now code.now }
 {
     match op {
@@ -118,11 +118,18 @@ fn link_word(cpu: &Cpu, next: Addr, link: u8) -> u32
 pub fn branch_on_condition(cpu: &mut Cpu, code: &Code, next: Addr)
     ensures { (link : ℕ) → Some cpu.new ≡ branched Op.BC cpu.old code.now next link }
 {
-    let to = if is_selected(code.r1(), cpu.condition()) {
-        indexed(cpu, code)
-    } else {
-        next
-    };
+    let went = goes(cpu, code, Op::BC);
+    go_on_condition(cpu, code, next, went);
+}
+
+/// BC, where it is known whether it branches.
+#[inline(always)]
+#[tactic(auto, unfolding(crate::specs::Meaning::goes))]
+pub fn go_on_condition(cpu: &mut Cpu, code: &Code, next: Addr, went: bool)
+    requires { went ≡ goes Op.BC cpu.old code.now }
+    ensures { (link : ℕ) → Some cpu.new ≡ branched Op.BC cpu.old code.now next link }
+{
+    let to = if went { indexed(cpu, code) } else { next };
     cpu.go(to);
 }
 
@@ -154,12 +161,20 @@ fn count_and_go(cpu: &mut Cpu, code: &Code, to: Addr)
 pub fn branch_on_count(cpu: &mut Cpu, code: &Code, next: Addr)
     ensures { (link : ℕ) → Some cpu.new ≡ branched Op.BCT cpu.old code.now next link }
 {
-    let to = if less_one(cpu, code) != 0 {
-        indexed(cpu, code)
-    } else {
-        next
-    };
-    count_and_go(cpu, code, to);
+    let left = less_one(cpu, code);
+    go_on_count(cpu, code, next, left);
+}
+
+/// BCT, where it is known what is left of the count.
+#[inline(always)]
+#[tactic(auto, unfolding(crate::specs::Meaning::goes))]
+pub fn go_on_count(cpu: &mut Cpu, code: &Code, next: Addr, left: u32)
+    requires { left ≡ less_one cpu.old code.now }
+    ensures { (link : ℕ) → Some cpu.new ≡ branched Op.BCT cpu.old code.now next link }
+{
+    let to = if left != 0 { indexed(cpu, code) } else { next };
+    cpu.set_reg(code.r1(), left);
+    cpu.go(to);
 }
 
 /// BCTR: takes 1 from R1 and branches to R2, as it was, unless 0 is left or R2 is 0.
