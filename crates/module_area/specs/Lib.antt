@@ -1,3 +1,4 @@
+pub mod Again
 pub mod AreasView
 pub mod Control
 pub mod Drained

@@ -6,6 +6,7 @@ ghost use Rattle.cov_base.specs.FactKind.{is_of_kind};
 ghost use Rattle.module_area.specs.Meaning.{PlanView, kind_at, is_over, is_controlled};
 ghost use Rattle.module_area.specs.Rule.{has_task};
 ghost use Rattle.module_area.specs.Notes.{Notes, calls, after_fetch, after_mark, after_lift, after_plant, after_close, after_split, split_notes, after_join, bearer, own_number, is_working, keeps, after_boundary, after_note, after_read, IsAnswer, IsFound, IsWord};
+ghost use Rattle.module_area.specs.Again.{MarksAgain};
 
 use crate::cells::Cell;
 use cov_base::{Bits, Fact, PlaceNo, SessNo, TaskNo};
@@ -49,6 +50,23 @@ pub trait Cells {
         ensures area { is_pass self.now pass.new }
         ensures found { IsFound (plan self.now) (notes pass.old) s.0 place.0 result }
         ensures notes { notes pass.new ≡ after_mark (plan self.now) (notes pass.old) s.0 place.0 fact result };
+
+    /// Marks the fact, as `mark` does, where the session's set at the place has it and no other, which mostly is so: true. Else
+    /// it does nothing, as where cells have no quick way to tell.
+    #[inline(always)]
+    fn mark_again(&self, pass: &mut Self::Pass, s: SessNo, place: PlaceNo, fact: Fact) -> bool
+        requires area { is_pass self.now pass.old }
+        requires working { is_working (notes pass.old) ≡ true }
+        requires place { place.0 < length (plan self.now).places }
+        requires room { calls (notes pass.old) < 2 ^ 62 }
+        requires session { 0 < s.0 }
+        requires pending { (notes pass.old).pending ≡ Some (place.0, 2 * s.0 - 1) }
+        requires kind { is_of_kind (kind_at (plan self.now) place.0) fact ≡ true }
+        ensures area { is_pass self.now pass.new }
+        ensures again { MarksAgain (plan self.now) (notes pass.old) s.0 place.0 fact result (notes pass.new) }
+    {
+        false
+    }
 
     /// Exchanges the session's breakpoint for the original by one try, where the pass knows that the set is full;
     /// true exactly where it exchanged, which it does at most once.

@@ -4,7 +4,7 @@ use prog.Atomic.{either}
 use Rattle.atomic_table.specs.Table.{Allows}
 use Rattle.atomic_table.specs.declared.shared.Seat.{Seat}
 use Rattle.cov_base.specs.declared.facts.Fact.{Fact}
-use Rattle.cov_base.specs.Meaning.{FactSet, breakpoint}
+use Rattle.cov_base.specs.Meaning.{FactSet, has_fact, breakpoint}
 use Rattle.module_area.specs.declared.cells.Cell.{Cell}
 use Rattle.module_area.specs.declared.parties.View.{View}
 use Rattle.module_area.specs.declared.parties.Role.{Role}
@@ -99,9 +99,10 @@ module _ (me : SharedCells) where
     pub word_there : i < me.table.shared.table_id.words
     word_there = set_there s p i may.session may.in_plan may.place at
 
-    pub look_at : Allows (IsArea me.table.shared.key.value) me.table.shared.table_id.slots seat.id seat.me i (λ x. x) (λ w m. Looked plan t q g seat.me.0 (facts_of (kind_at plan q) q w) m.0 × (m.1 ≡ seat.me.1))
-    look_at = subst (λ (z : PlanView × ℕ × PlanView × ℕ × ℕ × Fact). Allows (IsArea z.0) me.table.shared.table_id.slots seat.id seat.me z.1 (λ x. x) (λ w m. Looked z.2 z.3 z.4 z.5 seat.me.0 (facts_of (kind_at z.2 z.4) z.4 w) m.0 × (m.1 ≡ seat.me.1)))
-        (λ j. (sym me.keyed j, sym at j, sym picked.0 j, sym picked.1 j, sym picked.2 j, sym picked.3 j)) (look_stands me.plan me.table.shared.table_id.slots seat.id s p f seat.me may)
+    pub look_at : (is : FactSet → Bool) → ((x : FactSet) → is x ≡ true → has_fact x f ≡ true)
+        → Allows (IsArea me.table.shared.key.value) me.table.shared.table_id.slots seat.id seat.me i (λ x. x) (λ w m. Looked is plan t q g seat.me.0 (facts_of (kind_at plan q) q w) m.0 × (m.1 ≡ seat.me.1))
+    look_at is has = subst (λ (z : PlanView × ℕ × PlanView × ℕ × ℕ × Fact). Allows (IsArea z.0) me.table.shared.table_id.slots seat.id seat.me z.1 (λ x. x) (λ w m. Looked is z.2 z.3 z.4 z.5 seat.me.0 (facts_of (kind_at z.2 z.4) z.4 w) m.0 × (m.1 ≡ seat.me.1)))
+        (λ j. (sym me.keyed j, sym at j, sym picked.0 j, sym picked.1 j, sym picked.2 j, sym picked.3 j)) (look_stands me.plan me.table.shared.table_id.slots seat.id s p f is has seat.me may)
 
     pub mark_at : (k : ℕ) → k ≡ 2 ^ bit_of p f
         → Allows (IsArea me.table.shared.key.value) me.table.shared.table_id.slots seat.id seat.me i (λ x. bit_or x k) (λ w m. Marked plan t q g seat.me.0 (facts_of (kind_at plan q) q w) m.0 × (m.1 ≡ seat.me.1))

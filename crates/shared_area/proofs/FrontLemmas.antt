@@ -95,24 +95,24 @@ module _ (plan : PlanView) where
       (mark_drained plan (cells_in F) (sets_in plan F) (numbers_in plan st.words) st.views r.held r.drained id me.0 at s p may.pending may.session (cells_in (set F i x)) (sets_in plan (set F i x)) (marking plan s p f (sets_in plan F s p) me.0)
       refl refl refl refl refl refl refl (λ q lq. set_no_cell plan F s p x q lq) (λ t q lq pos no. other_set plan F s p f t q may.session pos may.place lq (omega (arith, inside, wide)) no)))
 
-  look_drained : (s : St) (r : IsArea plan s) (id t p : ℕ) (f : Fact) (v w : View) → get_elem? s.views id ≡ some v → MayMark plan t p f v → Looked plan t p f v (sets_in plan (front plan s.words) t p) w
-      → (b : Bool) → has_fact (sets_in plan (front plan s.words) t p) f ≡ b → DrainedOf (front plan s.words) s.words (set s.views id w)
-  look_drained s r id t p f v w at may told true e = let F : List ℕ = front plan s.words in subst (λ (z : View). DrainedOf F s.words (set s.views id z)) (sym (told.there e).after)
+  look_drained : (s : St) (r : IsArea plan s) (id t p : ℕ) (f : Fact) (is : FactSet → Bool) (v w : View) → get_elem? s.views id ≡ some v → MayMark plan t p f v → Looked is plan t p f v (sets_in plan (front plan s.words) t p) w
+      → (b : Bool) → is (sets_in plan (front plan s.words) t p) ≡ b → DrainedOf (front plan s.words) s.words (set s.views id w)
+  look_drained s r id t p f is v w at may told true e = let F : List ℕ = front plan s.words in subst (λ (z : View). DrainedOf F s.words (set s.views id z)) (sym (told.there e).after)
       (mark_drained plan (cells_in F) (sets_in plan F) (numbers_in plan s.words) s.views r.held r.drained id v at t p may.pending may.session (cells_in F) (sets_in plan F) (marking plan t p f (sets_in plan F t p) v)
       refl refl refl refl refl refl refl (λ q _. refl) (λ u q _ _ _. refl))
-  look_drained s r id t p f v w at may told false e = subst (λ (vs : List View). DrainedOf (front plan s.words) s.words vs) (sym (set_again s.views id v at) ∙ ap (set s.views id) (sym (told.wanting e))) r.drained
+  look_drained s r id t p f is v w at may told false e = subst (λ (vs : List View). DrainedOf (front plan s.words) s.words vs) (sym (set_again s.views id v at) ∙ ap (set s.views id) (sym (told.wanting e))) r.drained
 
-  look_plays : (s p : ℕ) (f : Fact) (v w : View) (found : FactSet) → Looked plan s p f v found w → (b : Bool) → has_fact found f ≡ b → w.role ≡ v.role
-  look_plays s p f v w found told true e = ap (λ (u : View). u.role) (told.there e).after
-  look_plays s p f v w found told false e = ap (λ (u : View). u.role) (told.wanting e)
+  look_plays : (s p : ℕ) (f : Fact) (is : FactSet → Bool) (v w : View) (found : FactSet) → Looked is plan s p f v found w → (b : Bool) → is found ≡ b → w.role ≡ v.role
+  look_plays s p f is v w found told true e = ap (λ (u : View). u.role) (told.there e).after
+  look_plays s p f is v w found told false e = ap (λ (u : View). u.role) (told.wanting e)
 
-  pub look_stands : (slots id s p : ℕ) (f : Fact) (me : Me NoSlot View) → MayMark plan s p f me.0
-      → Allows (IsArea plan) slots id me (set_word (length plan.places) s p) (λ x. x) (λ w me'. Looked plan s p f me.0 (facts_of (kind_at plan p) p w) me'.0 × (me'.1 ≡ me.1))
-  look_stands slots id s p f me may = let i : ℕ = set_word (length plan.places) s p in
-      wider slots id i me (λ x. x) (λ w me'. Looked plan s p f me.0 (facts_of (kind_at plan p) p w) me'.0 × (me'.1 ≡ me.1)) (set_front plan s p may.session may.in_plan may.place) (look_allowed plan slots id s p f me may)
-      (λ w m told. look_plays s p f me.0 m.0 (facts_of (kind_at plan p) p w) told.0 (has_fact (facts_of (kind_at plan p) p w) f) refl)
+  pub look_stands : (slots id s p : ℕ) (f : Fact) (is : FactSet → Bool) (has : (x : FactSet) → is x ≡ true → has_fact x f ≡ true) (me : Me NoSlot View) → MayMark plan s p f me.0
+      → Allows (IsArea plan) slots id me (set_word (length plan.places) s p) (λ x. x) (λ w me'. Looked is plan s p f me.0 (facts_of (kind_at plan p) p w) me'.0 × (me'.1 ≡ me.1))
+  look_stands slots id s p f is has me may = let i : ℕ = set_word (length plan.places) s p in
+      wider slots id i me (λ x. x) (λ w me'. Looked is plan s p f me.0 (facts_of (kind_at plan p) p w) me'.0 × (me'.1 ≡ me.1)) (set_front plan s p may.session may.in_plan may.place) (look_allowed plan slots id s p f is has me may)
+      (λ w m told. look_plays s p f is me.0 m.0 (facts_of (kind_at plan p) p w) told.0 (is (facts_of (kind_at plan p) p w)) refl)
       (λ st r at m told. let F : List ℕ = front plan st.words in
-      subst (λ ws. DrainedOf ws st.words (set st.views id m.0)) (sym (set-get_or F i 0)) (look_drained st r id s p f me.0 m.0 at may told.0 (has_fact (sets_in plan F s p) f) refl))
+      subst (λ ws. DrainedOf ws st.words (set st.views id m.0)) (sym (set-get_or F i 0)) (look_drained st r id s p f is me.0 m.0 at may told.0 (is (sets_in plan F s p)) refl))
 
   -- a write to a cell that doesn't lower its tag
   cell_stands : (s : St) (r : IsArea plan s) (id p x : ℕ) (v w : View) → get_elem? s.views id ≡ some v → p < length plan.places → (cells_in (front plan s.words) p).tag ≤ (cell_of x).tag

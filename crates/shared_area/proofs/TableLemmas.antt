@@ -9,7 +9,7 @@ use prog.Atomic.{either}
 use Rattle.atomic_table.proofs.Lists.{set_again}
 use Rattle.atomic_table.specs.Table.{State, Me, keeps, Allows}
 use Rattle.cov_base.specs.declared.facts.Fact.{Fact}
-use Rattle.cov_base.specs.Meaning.{has_fact, breakpoint}
+use Rattle.cov_base.specs.Meaning.{FactSet, has_fact, breakpoint}
 use Rattle.module_area.specs.declared.parties.View.{View}
 use Rattle.module_area.specs.declared.parties.Role.TheVariants.{Spent}
 use Rattle.module_area.specs.Meaning.{PlanView, original_at, kind_at, is_over, is_controlled}
@@ -95,27 +95,27 @@ module _ (plan : PlanView) where
     (record { after = refl; is_found = founds plan (cells_in st.words) (sets_in plan st.words) st.views r.held id me.0 at s p may.place may.session }, refl),
   )
 
-  -- a look that finds the fact is a mark that changes no word, and another changes nothing
-  look_by : (st : St) (r : IsFront plan st) (id s p : ℕ) (f : Fact) (v : View) → get_elem? st.views id ≡ some v → MayMark plan s p f v → (b : Bool) → has_fact (sets_in plan st.words s p) f ≡ b
-      → (w : View) × IsFront plan record { words = st.words; homes = st.homes; views = set st.views id w } × Looked plan s p f v (sets_in plan st.words s p) w
-  look_by st r id s p f v at may true e = (
+  -- a look that finds such a set, which has the fact, is a mark that changes no word, and another changes nothing
+  look_by : (st : St) (r : IsFront plan st) (id s p : ℕ) (f : Fact) (is : FactSet → Bool) (has : (x : FactSet) → is x ≡ true → has_fact x f ≡ true) (v : View) → get_elem? st.views id ≡ some v → MayMark plan s p f v → (b : Bool) → is (sets_in plan st.words s p) ≡ b
+      → (w : View) × IsFront plan record { words = st.words; homes = st.homes; views = set st.views id w } × Looked is plan s p f v (sets_in plan st.words s p) w
+  look_by st r id s p f is has v at may true e = (
     marking plan s p f (sets_in plan st.words s p) v,
     record {
       wide = r.wide;
       held = marks plan (cells_in st.words) (sets_in plan st.words) st.views r.held id v at may.live s p f may.place may.session may.pending may.kind (cells_in st.words) (sets_in plan st.words)
-          (λ q _. refl) (sym (with_fact-there (sets_in plan st.words s p) f e)) (λ t q _ _ _. refl);
+          (λ q _. refl) (sym (with_fact-there (sets_in plan st.words s p) f (has (sets_in plan st.words s p) e))) (λ t q _ _ _. refl);
     },
     record { there = λ _. record { after = refl; is_found = founds plan (cells_in st.words) (sets_in plan st.words) st.views r.held id v at s p may.place may.session }; wanting = λ n. absurd (let z : true ≡ false = sym e ∙ n in cc) },
   )
-  look_by st r id s p f v at may false e = (
+  look_by st r id s p f is has v at may false e = (
     v,
     subst (λ (vs : List View). IsFront plan record { words = st.words; homes = st.homes; views = vs }) (sym (set_again st.views id v at)) record { wide = r.wide; held = r.held },
     record { there = λ h. absurd (let z : false ≡ true = sym e ∙ h in cc); wanting = λ _. refl },
   )
 
-  pub look_allowed : (slots id s p : ℕ) (f : Fact) (me : Me NoSlot View) → MayMark plan s p f me.0
-      → Allows (IsFront plan) slots id me (set_word (length plan.places) s p) (λ x. x) (λ w me'. Looked plan s p f me.0 (facts_of (kind_at plan p) p w) me'.0 × (me'.1 ≡ me.1))
-  look_allowed slots id s p f me may st r _ at _ = let x = look_by st r id s p f me.0 at may (has_fact (sets_in plan st.words s p) f) refl in (
+  pub look_allowed : (slots id s p : ℕ) (f : Fact) (is : FactSet → Bool) (has : (x : FactSet) → is x ≡ true → has_fact x f ≡ true) (me : Me NoSlot View) → MayMark plan s p f me.0
+      → Allows (IsFront plan) slots id me (set_word (length plan.places) s p) (λ x. x) (λ w me'. Looked is plan s p f me.0 (facts_of (kind_at plan p) p w) me'.0 × (me'.1 ≡ me.1))
+  look_allowed slots id s p f is has me may st r _ at _ = let x = look_by st r id s p f is has me.0 at may (is (sets_in plan st.words s p)) refl in (
     x.0,
     keeps,
     tt,

@@ -1,6 +1,9 @@
 -- Cells and sets of facts in words.
-use Rattle.std.proofs.Common.{◌≡◌, ◌≢◌, ℕ, zero, suc, ◌+◌, ◌-◌, ◌*◌, ◌/◌, ◌%◌, ◌^◌, ◌<◌, ◌≤◌, Bool, true, false, ◌||◌, nat_eq, if◌then◌else◌, List, [], ◌∷◌, length, get_or, sym, refl, ap, ◌∙◌, arith, bit_or, eq-eqb, eqb-true, mul-le-mul_right, suc-mul}
+use Rattle.std.proofs.Common.{◌≡◌, ◌≢◌, ℕ, zero, suc, ◌+◌, ◌-◌, ◌*◌, ◌/◌, ◌%◌, ◌^◌, ◌<◌, ◌≤◌, Bool, true, false, ◌||◌, nat_eq, if◌then◌else◌, List, [], ◌∷◌, length, get_or, slice_index, slice_set, subst, sym, refl, ap, ◌∙◌, arith, bit_or, eq-eqb, eqb-true, mul-le-mul_right, suc-mul}
 use Rattle.std.specs.Int.{bit_at}
+use mathlib.Core.Logic.{dite}
+use native.Mathlib.Decide.{ℕ_discrete}
+use Rattle.std.proofs.lemmas.List.{get_or-set_same, get_or-set_other}
 use Rattle.std.proofs.lemmas.Nat.{div-mul-add, mod-mul-add}
 use Rattle.std.proofs.lemmas.Nat.Bits.{bit_at_or, bit_at-lt, bit_at-pow_same, bit_at-pow_other}
 use Rattle.cov_base.specs.declared.facts.Fact.{Fact}
@@ -109,6 +112,12 @@ cell_front plan p l = omega arith
 pub set_front : (plan : PlanView) (s p : ℕ) → 0 < s → s ≤ plan.sessions → p < length plan.places → set_word (length plan.places) s p < base_of plan
 set_front plan s p pos ls l = let n : ℕ = length plan.places in let w : ℕ = session_words n in let m : suc (s - 1) * w ≤ plan.sessions * w = mul-le-mul_right w (omega arith) in let e : suc (s - 1) * w ≡ (s - 1) * w + w = suc-mul (s - 1) w in
     let a = in_session n p l in omega (arith, m, e, a)
+
+-- what holds of the elements before one holds of that too, where it is given
+pub each_set : (P : ℕ → ℕ → Type 0) (l : List ℕ) (i x : ℕ) → i < length l → P i x → ((j : ℕ) → j < i → P j (slice_index l j)) → (j : ℕ) → j < i + 1 → P j (slice_index (slice_set l i x) j)
+each_set P l i x inside here before j lt = dite (ℕ_discrete j i)
+    (λ e. subst (λ (z : ℕ × ℕ). P z.0 z.1) (λ k. (sym e k, sym (ap (λ q. slice_index (slice_set l i x) q) e ∙ get_or-set_same l i x 0 inside) k)) here)
+    (λ n. subst (P j) (sym (get_or-set_other l i j x 0 n)) (before j (omega (arith, n))))
 
 -- ---- the index of a task
 at_step : (u : TaskNo) (us : List TaskNo) (t : ℕ) (b : Bool) → nat_eq u.0 t ≡ b → (has_task us t ≡ true → (position us t < length us) × ((get_or us (position us t) no_task).0 ≡ t))

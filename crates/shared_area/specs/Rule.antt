@@ -1,5 +1,5 @@
 -- The rule over all words and all passes, and what a step tells.
-use Rattle.std.specs.Prelude.{◌≡◌, ◌≢◌, ℕ, ◌+◌, ◌*◌, ◌%◌, ◌<◌, ◌≤◌, true, false, nat_eq, Some, List, length}
+use Rattle.std.specs.Prelude.{◌≡◌, ◌≢◌, ℕ, ◌+◌, ◌*◌, ◌%◌, ◌<◌, ◌≤◌, Bool, true, false, nat_eq, Some, List, length}
 use mathlib.Core.Option.{some}
 use lib.ListN.{get_elem?}
 use Rattle.atomic_table.specs.Table.{State}
@@ -12,10 +12,11 @@ use Rattle.module_area.specs.declared.parties.View.{View}
 use Rattle.module_area.specs.Meaning.{PlanView, kind_at}
 use Rattle.module_area.specs.Rule.{last_tag, window_tag, fetching, marking, lifting, Held}
 use Rattle.module_area.specs.Parties.{reading}
-use Rattle.module_area.specs.Notes.{IsAnswer, IsFound, is_final, no_tally}
+use Rattle.module_area.specs.Again.{only}
+use Rattle.module_area.specs.Notes.{IsAnswer, IsFound, is_final, no_tally, same_set}
 use Rattle.module_area.specs.Drained.{Drained}
 use Rattle.shared_area.specs.declared.rule.NoSlot.{NoSlot}
-use Rattle.shared_area.specs.Words.{cells_in, sets_in, base_of, front, numbers_in}
+use Rattle.shared_area.specs.Words.{facts_of, cells_in, sets_in, base_of, front, numbers_in}
 use Rattle.shared_area.specs.Told.{has_pair, has_settled, notes_in}
 
 -- the first party is the root
@@ -58,10 +59,22 @@ pub record Marked (plan : PlanView) (s p : ℕ) (f : Fact) (v : View) (found : F
   pub after : v' ≡ marking plan s p f found v
   pub is_found : IsFound plan (notes_in v no_tally) s p found
 
--- a look at the set that was found: the mark itself where the fact is there, and else nothing
-pub record Looked (plan : PlanView) (s p : ℕ) (f : Fact) (v : View) (found : FactSet) (v' : View) : Type 0 where
-  pub there : has_fact found f ≡ true → Marked plan s p f v found v'
-  pub wanting : has_fact found f ≡ false → v' ≡ v
+-- whether the set has the fact
+abbrev pub has : Fact → FactSet → Bool
+has f found = has_fact found f
+
+-- and no other
+abbrev pub is_only : Fact → FactSet → Bool
+is_only f found = same_set found (only f)
+
+-- a look at the set that was found: the mark itself where the set is such a one, and else nothing
+pub record Looked (is : FactSet → Bool) (plan : PlanView) (s p : ℕ) (f : Fact) (v : View) (found : FactSet) (v' : View) : Type 0 where
+  pub there : is found ≡ true → Marked plan s p f v found v'
+  pub wanting : is found ≡ false → v' ≡ v
+
+-- by the word of the set
+abbrev pub LookedIn : (FactSet → Bool) → PlanView → ℕ → ℕ → Fact → View → ℕ → View → Type 0
+LookedIn is plan s p f v w v' = Looked is plan s p f v (facts_of (kind_at plan p) p w) v'
 
 -- a lift for session s at place p, of the word `old`, found the word
 pub record Lifted (s p old : ℕ) (v : View) (w : ℕ) (v' : View) : Type 0 where

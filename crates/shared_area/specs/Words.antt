@@ -1,11 +1,12 @@
 -- How a cell, the sets of facts and a task's number lie in words, and where the words lie.
-use Rattle.std.specs.Prelude.{ℕ, ◌+◌, ◌-◌, ◌*◌, ◌/◌, ◌%◌, Bool, false, nat_eq, if◌then◌else◌, List, [], ◌∷◌, length, get_or, take}
+use Rattle.std.specs.Prelude.{◌≡◌, ◌<◌, ◌≤◌, slice_index, ℕ, ◌+◌, ◌-◌, ◌*◌, ◌/◌, ◌%◌, Bool, false, nat_eq, if◌then◌else◌, List, [], ◌∷◌, length, get_or, take}
 use Rattle.std.specs.Int.{bit_at}
 use Rattle.cov_base.specs.declared.facts.Fact.{Fact}
 use Rattle.cov_base.specs.declared.facts.Fact.TheVariants.{Ran, Went, Stayed}
 use Rattle.cov_base.specs.declared.facts.Kind.{Kind}
 use Rattle.cov_base.specs.declared.facts.Kind.TheVariants.{Straight, Conditional}
 use Rattle.cov_base.specs.Meaning.{FactSet}
+use Rattle.cov_base.specs.declared.limits.TheConstants.{SESSION_LIMIT}
 use Rattle.cov_base.specs.declared.numbers.TaskNo.{TaskNo}
 use Rattle.module_area.specs.declared.cells.Cell.{Cell}
 use Rattle.module_area.specs.Meaning.{PlanView, kind_at}
@@ -37,6 +38,11 @@ facts_of Conditional p w = record { ran = false; went = has_bit w (bit_of p Went
 -- the words of one session's sets at n places
 abbrev pub session_words : ℕ → ℕ
 session_words n = (n + 31) / 32
+
+-- of each session its first word, where there are n places
+pub record AreFirsts (n : ℕ) (firsts : List ℕ) : Type 0 where
+  pub each : (i : ℕ) → i < SESSION_LIMIT → slice_index firsts i ≡ n + i * session_words n
+  pub small : (i : ℕ) → i < SESSION_LIMIT → slice_index firsts i ≤ 98304
 
 -- the word of the set of session s at place p, of n places: the cells come first, then session after session
 abbrev pub set_word : ℕ → ℕ → ℕ → ℕ

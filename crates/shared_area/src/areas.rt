@@ -10,7 +10,7 @@ use crate::cells::SharedCells;
 use crate::forks::NO_TALLY;
 use crate::pass::SharedPass;
 use crate::sets::last_sets;
-use crate::words::count;
+use crate::words::{count, firsts};
 use atomic_table::Table;
 use cov_base::NoMemory;
 use module_area::{Areas, Finals, Plan, Tally, first_words};
@@ -62,6 +62,7 @@ fn new_area(alloc: Global, plan: &Plan) -> Result<(SharedCells, SharedPass), NoM
 {
     let plan = plan.to_plan(alloc)?;
     let words = first_words(alloc, &plan, count(&plan))?;
+    let firsts = firsts(&plan);
     let key = Snapshot::of(&plan);
     let (table, seat) = Table::of_words(alloc, words.as_slice(), &key)?;
     let root = SharedPass {
@@ -69,7 +70,12 @@ fn new_area(alloc: Global, plan: &Plan) -> Result<(SharedCells, SharedPass), NoM
         tally: NO_TALLY,
         word: 0,
     };
-    Ok((SharedCells { table, plan }, root))
+    let cells = SharedCells {
+        table,
+        plan,
+        firsts,
+    };
+    Ok((cells, root))
 }
 
 /// The sets that the words show in the end.
@@ -81,7 +87,11 @@ fn end_area(alloc: Global, cells: SharedCells, root: SharedPass) -> Result<Final
     ensures settled { IfOk result (λ f. AreSettled cells.plan (notes_of root) (set_at f)) }
     ensures tally { IfOk result (HasTally cells.plan (notes_of root)) }
 {
-    let SharedCells { table, plan } = cells;
+    let SharedCells {
+        table,
+        plan,
+        firsts: _,
+    } = cells;
     let SharedPass {
         seat,
         tally: _,

@@ -1,9 +1,11 @@
 //! The cells that threads share.
-ghost use Rattle.std.specs.Prelude.{◌≡◌};
-ghost use Rattle.shared_area.specs.Words.{word_count};
+ghost use Rattle.std.specs.Prelude.{◌≡◌, ◌≤◌, length};
+ghost use Rattle.cov_base.specs.declared.limits.TheConstants.{SESSION_LIMIT};
+ghost use Rattle.shared_area.specs.Words.{AreFirsts, word_count};
 
 use crate::rule::{AreaRule, NoSlot};
 use atomic_table::Table;
+use cov_base::SESSION_LIMIT;
 use module_area::{Plan, View};
 use std::alloc::Global;
 use std::snapshot::Snapshot;
@@ -14,7 +16,11 @@ use std::snapshot::Snapshot;
 pub struct SharedCells {
     pub(crate) table: Table<NoSlot, View, Snapshot<Plan>, AreaRule, Global>,
     pub(crate) plan: Plan,
+    // of each session the number of its first word of sets
+    pub(crate) firsts: [usize; SESSION_LIMIT],
     ghost slotless: { table.shared.table_id.slots ≡ 0 },
     ghost keyed: { table.shared.key.value ≡ plan },
+    ghost few: { plan.sessions ≤ SESSION_LIMIT },
+    ghost first: { AreFirsts (length plan.places) firsts },
     ghost wide: { table.shared.table_id.words ≡ word_count plan },
 }

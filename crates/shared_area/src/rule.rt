@@ -1,5 +1,6 @@
 //! The rule of the words, and what a call picks of a step.
-ghost use Rattle.std.specs.Prelude.{◌≡◌, ℕ};
+ghost use Rattle.std.specs.Prelude.{◌≡◌, ℕ, Bool};
+ghost use Rattle.cov_base.specs.Meaning.{FactSet};
 ghost use Rattle.cov_base.specs.declared.facts.Fact.{Fact};
 ghost use Rattle.module_area.specs.Meaning.{PlanView, kind_at};
 
@@ -25,7 +26,8 @@ impl TableRule<NoSlot, View, Snapshot<Plan>> for AreaRule {
     ghost first = { λ _. blank Root };
 }
 
-/// The set that a step is on: under which plan, of which session, at which place; and the fact that it marks.
+/// The set that a step is on: under which plan, of which session, at which place; the fact that it marks, and by which sets a
+/// look does so.
 pub(crate) trait Marking {
     ghost plan: { PlanView };
 
@@ -34,10 +36,12 @@ pub(crate) trait Marking {
     ghost place: { ℕ };
 
     ghost fact: { Fact };
+
+    ghost is: { FactSet → Bool };
 }
 
 impl Marking for Brand {
-    ghost use Rattle.std.specs.Prelude.{[]};
+    ghost use Rattle.std.specs.Prelude.{[], false};
     ghost use Rattle.cov_base.specs.declared.facts.Fact.TheVariants.{Ran};
 
     ghost plan = { record { places = []; windows = []; controlled = []; tasks = []; sessions = 0 } };
@@ -47,6 +51,8 @@ impl Marking for Brand {
     ghost place = { 0 };
 
     ghost fact = { Ran };
+
+    ghost is = { λ _. false };
 }
 
 /// The place whose cell a step fetches, and under which plan.
@@ -91,7 +97,7 @@ impl<K: Marking> Play<NoSlot, View> for Look<K> {
     ghost use Rattle.shared_area.specs.Words.{facts_of};
     ghost use Rattle.shared_area.specs.Rule.{Looked};
 
-    ghost then = { λ _ me w me'. Looked K.plan K.session K.place K.fact me.0 (facts_of (kind_at K.plan K.place) K.place w) me'.0 × (me'.1 ≡ me.1) };
+    ghost then = { λ _ me w me'. Looked K.is K.plan K.session K.place K.fact me.0 (facts_of (kind_at K.plan K.place) K.place w) me'.0 × (me'.1 ≡ me.1) };
 }
 
 /// A fetch_or of the fact's bit.

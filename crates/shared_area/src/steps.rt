@@ -31,6 +31,15 @@ impl Cells for SharedCells {
         found
     }
 
+    #[inline(always)]
+    fn mark_again(&self, pass: &mut SharedPass, s: SessNo, place: PlaceNo, fact: Fact) -> bool {
+        let again = self.look_again(&mut pass.seat, s, place, fact);
+        if again {
+            pass.tally.marks += 1;
+        }
+        again
+    }
+
     // It is seldom called, and stays out of the task's loop.
     #[cold]
     #[inline(never)]

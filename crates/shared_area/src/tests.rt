@@ -160,7 +160,7 @@ fn raced(cells: &SharedCells, pass: SharedPass, other: &mut SharedPass) -> Optio
         tally: _,
         word: _,
     } = pass;
-    let looked = cells.look::<Brand>(&mut seat, SessNo(1), PlaceNo(0), Fact::Went);
+    let looked = cells.look(&mut seat, SessNo(1), PlaceNo(0), Fact::Went);
     if looked.has(Fact::Went) {
         return None;
     }
@@ -180,7 +180,7 @@ fn looked(cells: &SharedCells, pass: SharedPass) -> Shown
         tally: _,
         word: _,
     } = pass;
-    shown(cells.look::<Brand>(&mut seat, SessNo(1), PlaceNo(0), Fact::Went))
+    shown(cells.look(&mut seat, SessNo(1), PlaceNo(0), Fact::Went))
 }
 
 /// An area in which the branch is planted, and the passes of tasks 0, 1 and 2.

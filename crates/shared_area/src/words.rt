@@ -2,10 +2,12 @@
 ghost use Rattle.std.specs.Prelude.{◌≡◌, ◌+◌, ◌*◌, ◌/◌, ◌%◌, ◌^◌, ◌<◌, ◌≤◌, true, nat_eq, length};
 ghost use Rattle.cov_base.specs.FactKind.{is_of_kind};
 ghost use Rattle.cov_base.specs.declared.facts.Kind.{Kind as Kinds};
+ghost use Rattle.cov_base.specs.declared.limits.TheConstants.{SESSION_LIMIT};
 ghost use Rattle.module_area.specs.Rule.{IsPlan, has_task};
-ghost use Rattle.shared_area.specs.Words.{has_bit, facts_of, bit_of, word_of, closed_word_of, session_words, set_word, base_of, word_count, position, task_word};
+ghost use Rattle.shared_area.specs.Rule.{is_only};
+ghost use Rattle.shared_area.specs.Words.{AreFirsts, has_bit, facts_of, bit_of, word_of, closed_word_of, session_words, set_word, base_of, word_count, position, task_word};
 
-use cov_base::{Bits, Fact, Kind, PlaceNo, SessNo, TaskNo};
+use cov_base::{Bits, Fact, Kind, PlaceNo, SESSION_LIMIT, SessNo, TaskNo};
 use module_area::Plan;
 
 /// The word of a cell under the tag of a session's window.
@@ -50,6 +52,17 @@ fn own_bits(place: PlaceNo, word: u64) -> u64
     word >> (2 * (place.0 % 32))
 }
 
+/// Whether the set at the place has the fact and no other, in the word of its session and its 32 places.
+pub(crate) fn is_only(place: PlaceNo, fact: Fact, word: u64) -> bool
+    ensures { (k : Kinds) → is_of_kind k fact ≡ true → result ≡ is_only fact (facts_of k place.0 word) }
+{
+    let own = own_bits(place, word) % 4;
+    match fact {
+        Fact::Ran | Fact::Went => own == 1,
+        Fact::Stayed => own == 2,
+    }
+}
+
 /// The set of facts at a place of the kind, in the word of its session and its 32 places.
 pub(crate) fn facts(kind: Kind, place: PlaceNo, word: u64) -> Bits
     ensures { result ≡ facts_of kind place.0 word }
@@ -81,6 +94,21 @@ fn session_words(plan: &Plan) -> usize
     ensures few { result ≤ 2048 }
 {
     (plan.places_len() as usize + 31) / 32
+}
+
+/// Of each session the number of the first word that has its sets.
+pub(crate) fn firsts(plan: &Plan) -> [usize; SESSION_LIMIT]
+    ensures value { AreFirsts (length plan.now.places) result }
+    ensures sessions { plan.now.sessions ≤ SESSION_LIMIT }
+{
+    let words = session_words(plan);
+    let mut firsts = [0; SESSION_LIMIT];
+    let mut first = plan.places_len() as usize;
+    for i in 0..SESSION_LIMIT {
+        firsts[i] = first;
+        first += words;
+    }
+    firsts
 }
 
 /// The number of the word that has the set of a session at a place.
