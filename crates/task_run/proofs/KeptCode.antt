@@ -1,6 +1,7 @@
 -- The instruction that the tables have for a place is the one that is fetched there.
 use Rattle.std.proofs.Common.{◌≡◌, ℕ, ◌<◌, None, List, [], length, get_or, refl, sym, ap, ◌∙◌}
-use Rattle.cov_base.specs.Meaning.{length_of, Memory, half_at}
+use Rattle.cov_base.specs.Meaning.{length_of, kind_of, Memory, half_at}
+use Rattle.s370_decode.specs.Meaning.{first_half}
 use Rattle.module_area.specs.Meaning.{no_place, place_of}
 use Rattle.module_area.specs.declared.places.Place.{Place}
 use Rattle.s370_decode.specs.declared.code.Code.{Code}
@@ -9,7 +10,7 @@ use Rattle.brk_table.specs.Meaning.{TablesView}
 use Rattle.brk_table.specs.Unpacked.{AreAtPlaces}
 use Rattle.brk_table.specs.Places.{IsPlace, ArePlaces, IsSeen, AreSeen}
 use Rattle.s370_exec.specs.Meaning.{first_tests, rest_tests, code_at}
-use Rattle.s370_exec.proofs.Laws.{rest_none, code_at-halves}
+use Rattle.s370_exec.proofs.Laws.{rest_none, code_at-halves, first_half-code_at}
 use Rattle.task_run.specs.declared.bench.Bench.{Bench}
 use Rattle.task_run.specs.Sights.{BeginsAt}
 use Rattle.task_run.proofs.PlaceLemmas.{begins_at}
@@ -52,6 +53,14 @@ placed_code b tables p c are shown exists at kept =
       rest = kept_rest (memory_at b) tables b.space.bytes b.cpu.ia p (half_at (memory_at b) b.space.bytes b.cpu.ia) are shown begins refl;
       is = kept_code (memory_at b) tables b.space.bytes b.cpu.ia p (half_at (memory_at b) b.space.bytes b.cpu.ia) c are shown begins refl (kept c);
     }
+
+-- the place has its kind
+pub kept_kind : (b : Bench) (tables : TablesView) (p : ℕ) (c : Code) → ArePlaces tables.places → IsShown (memory_at b) tables → p < length tables.places → (place_of tables.places p).at ≡ b.cpu.ia →
+    ((d : Code) → c ≡ get_or tables.codes p d) → (place_of tables.places p).kind ≡ kind_of (first_half c)
+kept_kind b tables p c are shown exists at kept =
+    let q : Place = place_of tables.places p in
+    let half = half_there (memory_at b) tables.places b.space.bytes b.cpu.ia p (half_at (memory_at b) b.space.bytes b.cpu.ia) shown.seen (begins_at tables.places b.cpu.ia p are exists at) refl in
+    (are.each p no_place exists).kind ∙ ap kind_of (sym half ∙ sym (ap first_half (placed_code b tables p c are shown exists at kept).is ∙ first_half-code_at (memory_at b) b.space.bytes b.cpu.ia (half_at (memory_at b) b.space.bytes b.cpu.ia)))
 
 -- the instructions that are kept stand where their places begin
 pub kept_at_places : (m : Memory) (tables : TablesView) → AreKept m tables → AreAtPlaces tables

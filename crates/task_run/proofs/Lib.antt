@@ -1,5 +1,6 @@
 mod AnsweredLemmas
 mod AsideLemmas
+mod BranchLemmas
 mod CallLemmas
 mod CloseLemmas
 mod CourseLemmas
@@ -16,6 +17,7 @@ mod NotesLemmas
 mod NumberLemmas
 mod ObservedLemmas
 mod PlaceLemmas
+mod PlainGoes
 mod PlainLemmas
 mod RanLemmas
 mod RiseLemmas
@@ -26,6 +28,7 @@ mod SvcLemmas
 mod TagLemmas
 mod TallyLemmas
 mod TieLemmas
+mod TrapLemmas
 mod TurnLemmas
 mod VisitLemmas
 mod WindowLemmas

@@ -4,13 +4,14 @@ ghost use Rattle.cov_base.specs.Meaning.{half_at};
 ghost use Rattle.module_area.specs.Meaning.{is_place, place_of};
 ghost use Rattle.s370_exec.specs.Meaning.{first_tests};
 ghost use Rattle.space_map.specs.Space.{memory_of_space};
-ghost use Rattle.task_run.specs.Sights.{IsPlaced};
+ghost use Rattle.task_run.specs.Sights.{IsPlaced, IsKnown};
 ghost use Rattle.task_run.specs.Steps.{CanStep, IsFetched, IsShown, StepsAs, StepsTold, StepsOn, GoesOn, GoesOnTold};
 
 use crate::bench::Bench;
-use crate::observer::{Observer, Sight};
+use crate::observer::{Known, Observer, Sight};
 use brk_table::{Kept, Tables};
 use cov_base::{Addr, PlaceNo};
+use s370_branch::{go_on_condition, go_on_count};
 use s370_decode::Code;
 use s370_exec::{
     Told, execute, execute_frequent, fetch_first, fetch_rest, fetch_subject, is_execute, next_of,
@@ -190,6 +191,37 @@ fn carry_on_kept<O: Observer>(
     }
 }
 
+/// The same by what the observer has found out of it.
+#[inline(always)]
+fn carry_on_known<O: Observer>(
+    observer: &O,
+    pass: &mut O::Pass,
+    tables: &Tables,
+    bench: &mut Bench<'_>,
+    done: u32,
+    kept: &Kept,
+    known: Known,
+    end: &mut Ending,
+) -> Told
+    requires fetched { IsFetched bench.old kept.now.code }
+    requires can { CanStep O.IsReady O.IsTied observer.now tables.now pass.old bench.old done 1 }
+    requires known { IsKnown known kept.now.code bench.old.cpu }
+    ensures can { CanStep O.IsReady O.IsTied observer.now tables.now pass.new bench.new (done + 1) 0 }
+    ensures goes { GoesOnTold O.Observer observer.now tables.now pass.old bench.old done pass.new bench.new result end.new }
+{
+    match known {
+        Known::Nothing => carry_on_kept(observer, pass, tables, bench, done, kept, end),
+        Known::Condition(went) => {
+            go_on_condition(&mut bench.cpu, &kept.code, kept.next, went);
+            Told::GoesOn
+        }
+        Known::Count(left) => {
+            go_on_count(&mut bench.cpu, &kept.code, kept.next, left);
+            Told::GoesOn
+        }
+    }
+}
+
 /// One instruction where no place begins. Out of line, so that the loop over places stays short.
 #[inline(never)]
 fn step_far<O: Observer>(
@@ -256,8 +288,8 @@ fn step_placed<O: Observer>(
         subject: false,
     };
     let kept = tables.kept(place);
-    observer.begun(pass, tables, &bench.cpu, &kept.code, sight);
-    carry_on_kept(observer, pass, tables, bench, done, kept, end)
+    let known = observer.begun_kept(pass, tables, &bench.cpu, kept, sight);
+    carry_on_known(observer, pass, tables, bench, done, kept, known, end)
 }
 
 /// One instruction, with the place that begins there, if one does. Where the task has ended `end` tells how.

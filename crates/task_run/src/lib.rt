@@ -20,7 +20,7 @@ pub use bench::Bench;
 pub use calls::behind_call;
 pub use hook::{Hook, NoHook};
 pub use instruction::step;
-pub use observer::{Observer, Sight, Watch};
+pub use observer::{Known, Observer, Sight, Watch};
 pub use planted::Planted;
 pub use planted_run::run_task;
 pub use runner::{NoExtra, PlainRunner, Runner};

@@ -1,12 +1,13 @@
 //! What looks on as a task runs.
-ghost use Rattle.std.specs.Prelude.{ℕ, ◌+◌, [], ◌∷◌, ◌++◌, List, Option, None};
-ghost use Rattle.cov_base.specs.Meaning.{Visit};
+ghost use Rattle.std.specs.Prelude.{◌≡◌, ℕ, ◌+◌, [], ◌∷◌, ◌++◌, List, Option, None, IfSome};
+ghost use Rattle.cov_base.specs.Meaning.{Visit, kind_of};
 ghost use Rattle.brk_table.specs.Meaning.{TablesView};
-ghost use Rattle.module_area.specs.Meaning.{ControlView};
-ghost use Rattle.task_run.specs.Sights.{IsPlaced, begun_visit, refused_visit, stage_of};
+ghost use Rattle.module_area.specs.Meaning.{ControlView, place_of};
+ghost use Rattle.s370_decode.specs.Meaning.{first_half};
+ghost use Rattle.task_run.specs.Sights.{IsPlaced, IsKnown, begun_visit, refused_visit, stage_of};
 ghost use Rattle.task_run.specs.Called.{call_at};
 
-use brk_table::Tables;
+use brk_table::{Kept, Tables};
 use cov_base::{Addr, PlaceNo};
 use module_area::Control;
 use s370_decode::Code;
@@ -20,6 +21,15 @@ pub struct Sight {
     pub at: Addr,
     pub place: Option<PlaceNo>,
     pub subject: bool,
+}
+
+/// What an observer has found out of an instruction that it was shown: of a BC whether it branches, or of a BCT what is left of
+/// its count.
+#[derive(Clone, Copy)]
+pub enum Known {
+    Nothing,
+    Condition(bool),
+    Count(u32),
 }
 
 /// What looks on, and over which places.
@@ -56,6 +66,29 @@ pub trait Observer {
         ensures ready { IsReady self.now tables.now pass.new sight.done (stage_of sight + 1) }
         ensures tied { (c : ControlView) → IsTied self.now pass.old c → IsTied self.now pass.new c }
         ensures makes { Makes self.now tables.now pass.old (begun_visit sight cpu.now code.now ∷ []) pass.new };
+
+    /// The same of an instruction that the tables keep, where its place begins. What it answers needn't be found out again as the
+    /// instruction is carried out.
+    #[inline(always)]
+    fn begun_kept(
+        &self,
+        pass: &mut Self::Pass,
+        tables: &Tables,
+        cpu: &Cpu,
+        kept: &Kept,
+        sight: Sight,
+    ) -> Known
+        requires placed { IsPlaced tables.now.places sight.at sight.place }
+        requires ready { IsReady self.now tables.now pass.old sight.done (stage_of sight) }
+        requires kind { IfSome sight.place (λ p. (place_of tables.now.places p.0).kind ≡ kind_of (first_half kept.now.code)) }
+        ensures ready { IsReady self.now tables.now pass.new sight.done (stage_of sight + 1) }
+        ensures tied { (c : ControlView) → IsTied self.now pass.old c → IsTied self.now pass.new c }
+        ensures makes { Makes self.now tables.now pass.old (begun_visit sight cpu.now kept.now.code ∷ []) pass.new }
+        ensures known { IsKnown result kept.now.code cpu.now }
+    {
+        self.begun(pass, tables, cpu, &kept.code, sight);
+        Known::Nothing
+    }
 
     /// Takes in that the first halfword of an instruction was fetched that isn't begun.
     fn refused(&self, pass: &mut Self::Pass, tables: &Tables, sight: Sight)

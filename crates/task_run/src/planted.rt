@@ -1,12 +1,11 @@
 //! What looks on through the cells in which breakpoints stand.
 
-use crate::observer::{Observer, Sight};
+use crate::observer::{Known, Observer, Sight};
 use crate::sessions::answer;
-use crate::trap::{settle, settle_once};
-use brk_table::Tables;
-use cov_base::{BREAKPOINT, Kind};
+use crate::trap::{settle_again, settle_apart};
+use brk_table::{Kept, Tables};
+use cov_base::BREAKPOINT;
 use module_area::{Cells, Control, Plan};
-use s370_branch::outcome;
 use s370_decode::Code;
 use s370_state::Cpu;
 
@@ -42,13 +41,33 @@ impl<'a, C: Cells> Observer for Planted<'a, C> {
         };
         let cell = self.cells.fetch(pass, place);
         if cell.half == BREAKPOINT {
-            match tables.place(place).kind {
-                Kind::Straight => settle_once(self.cells, pass, place, cell),
-                Kind::Conditional => {
-                    let fact = Kind::Conditional.fact(outcome(cpu, code));
-                    settle(self.cells, pass, Kind::Conditional, place, cell, fact);
-                }
+            settle_apart(self.cells, pass, tables, cpu, code, place, cell);
+        }
+    }
+
+    #[inline(always)]
+    fn begun_kept(
+        &self,
+        pass: &mut C::Pass,
+        tables: &Tables,
+        cpu: &Cpu,
+        kept: &Kept,
+        sight: Sight,
+    ) -> Known {
+        let Some(place) = sight.place else {
+            return Known::Nothing;
+        };
+        let cell = self.cells.fetch(pass, place);
+        if cell.half != BREAKPOINT {
+            return Known::Nothing;
+        }
+        match settle_again(self.cells, pass, cpu, &kept.code, place, cell) {
+            Known::Nothing => {
+                settle_apart(self.cells, pass, tables, cpu, &kept.code, place, cell);
+                Known::Nothing
             }
+            Known::Condition(went) => Known::Condition(went),
+            Known::Count(left) => Known::Count(left),
         }
     }
 

@@ -1,13 +1,30 @@
 //! What a trap does.
-ghost use Rattle.std.specs.Prelude.{◌≡◌, ◌+◌, ◌/◌, ◌%◌, ◌<◌, ◌^◌, length, true};
+ghost use Rattle.std.specs.Prelude.{◌≡◌, ◌+◌, ◌-◌, ◌*◌, ◌/◌, ◌%◌, ◌<◌, ◌^◌, length, true};
 ghost use Rattle.std.specs.declared.option.Option.TheVariants.{Some};
 ghost use Rattle.cov_base.specs.FactKind.{is_of_kind};
+ghost use Rattle.cov_base.specs.Meaning.{kind_of};
 ghost use Rattle.module_area.specs.Meaning.{kind_at};
 ghost use Rattle.module_area.specs.Notes.{calls, is_working};
-ghost use Rattle.task_run.specs.Traps.{Settles};
+ghost use Rattle.s370_decode.specs.Meaning.{first_half, op_of};
+ghost use Rattle.task_run.specs.Sights.{IsKnown};
+ghost use Rattle.task_run.specs.Traps.{Settles, SettlesAt, SettlesWent, Traps};
 
+use crate::observer::Known;
+use brk_table::Tables;
 use cov_base::{Fact, Kind, PlaceNo, SessNo};
 use module_area::{Cell, Cells};
+use s370_branch::{goes, less_one, outcome};
+use s370_decode::{Code, Op, kind};
+use s370_state::Cpu;
+
+/// The session whose breakpoint the cell is.
+fn session_of(cell: Cell) -> SessNo
+    requires { cell.tag % 2 ≡ 1 }
+    ensures value { result.0 ≡ cell.tag / 2 + 1 }
+    ensures tag { 2 * result.0 - 1 ≡ cell.tag }
+{
+    SessNo(cell.tag / 2 + 1)
+}
 
 /// Marks the fact for the session whose breakpoint the cell is, at a place of this kind, and tries once to lift that exactly
 /// where the set with the fact is full: another pass may have lifted it before.
@@ -31,26 +48,169 @@ pub(crate) fn settle<C: Cells>(
     ensures area { C.is_pass cells.now pass.new }
     ensures settles { Settles (C.plan cells.now) (C.notes pass.old) (C.notes pass.new) (cell.tag / 2 + 1) place.0 fact }
 {
-    let s = SessNo(cell.tag / 2 + 1);
+    let s = session_of(cell);
     let found = cells.mark(pass, s, place, fact);
     if found.with(fact).is_full(kind) {
         let _ = cells.lift(pass, s, place);
     }
 }
 
-/// The same at a straight place, which its first mark fills: out of the task's loop.
-#[cold]
+/// The same of an instruction that is begun at the place, as it is executed.
 #[inline(never)]
-pub(crate) fn settle_once<C: Cells>(cells: &C, pass: &mut C::Pass, place: PlaceNo, cell: Cell)
+pub(crate) fn settle_apart<C: Cells>(
+    cells: &C,
+    pass: &mut C::Pass,
+    tables: &Tables,
+    cpu: &Cpu,
+    code: &Code,
+    place: PlaceNo,
+    cell: Cell,
+)
     requires area { C.is_pass cells.now pass.old }
-    requires plan { Kind.Straight ≡ kind_at (C.plan cells.now) place.0 }
     requires room { calls (C.notes pass.old) < 2 ^ 61 + 2 ^ 16 }
     requires working { is_working (C.notes pass.old) ≡ true }
     requires place { place.0 < length (C.plan cells.now).places }
     requires pending { (C.notes pass.old).pending ≡ Some (place.0, cell.tag) }
     requires planted { cell.tag % 2 ≡ 1 }
+    requires exists { place.0 < length tables.now.places }
+    requires same { (C.plan cells.now).places ≡ tables.now.places }
     ensures area { C.is_pass cells.now pass.new }
-    ensures settles { Settles (C.plan cells.now) (C.notes pass.old) (C.notes pass.new) (cell.tag / 2 + 1) place.0 Fact.Ran }
+    ensures settles { SettlesAt (C.plan cells.now) (C.notes pass.old) (C.notes pass.new) cell place.0 code.now cpu.now }
 {
-    settle(cells, pass, Kind::Straight, place, cell, Fact::Ran)
+    match tables.place(place).kind {
+        Kind::Straight => settle(cells, pass, Kind::Straight, place, cell, Fact::Ran),
+        Kind::Conditional => {
+            let fact = Kind::Conditional.fact(outcome(cpu, code));
+            settle(cells, pass, Kind::Conditional, place, cell, fact);
+        }
+    }
+}
+
+/// Where the set at the place of a conditional branch has the fact of this outcome and not the other, marks it: true. Else does
+/// nothing.
+#[inline(always)]
+fn mark_again<C: Cells>(
+    cells: &C,
+    pass: &mut C::Pass,
+    place: PlaceNo,
+    cell: Cell,
+    went: bool,
+) -> bool
+    requires area { C.is_pass cells.now pass.old }
+    requires room { calls (C.notes pass.old) < 2 ^ 61 + 2 ^ 16 }
+    requires working { is_working (C.notes pass.old) ≡ true }
+    requires place { place.0 < length (C.plan cells.now).places }
+    requires pending { (C.notes pass.old).pending ≡ Some (place.0, cell.tag) }
+    requires planted { cell.tag % 2 ≡ 1 }
+    requires kind { kind_at (C.plan cells.now) place.0 ≡ Kind.Conditional }
+    ensures area { C.is_pass cells.now pass.new }
+    ensures settles { SettlesWent (C.plan cells.now) (C.notes pass.old) (C.notes pass.new) cell place.0 went result }
+{
+    let s = session_of(cell);
+    // Two calls, so that the fact is a constant in each.
+    if went {
+        cells.mark_again(pass, s, place, Fact::Went)
+    } else {
+        cells.mark_again(pass, s, place, Fact::Stayed)
+    }
+}
+
+/// The same of a BC.
+#[inline(always)]
+fn condition_again<C: Cells>(
+    cells: &C,
+    pass: &mut C::Pass,
+    cpu: &Cpu,
+    code: &Code,
+    place: PlaceNo,
+    cell: Cell,
+) -> Known
+    requires area { C.is_pass cells.now pass.old }
+    requires room { calls (C.notes pass.old) < 2 ^ 61 + 2 ^ 16 }
+    requires working { is_working (C.notes pass.old) ≡ true }
+    requires place { place.0 < length (C.plan cells.now).places }
+    requires pending { (C.notes pass.old).pending ≡ Some (place.0, cell.tag) }
+    requires planted { cell.tag % 2 ≡ 1 }
+    requires kind { kind_at (C.plan cells.now) place.0 ≡ kind_of (first_half code.now) }
+    requires op { op_of (first_half code.now) ≡ Op.BC }
+    ensures area { C.is_pass cells.now pass.new }
+    ensures settles { Traps (C.plan cells.now) (C.notes pass.old) (C.notes pass.new) cell place.0 code.now cpu.now result }
+    ensures known { IsKnown result code.now cpu.now }
+{
+    match kind(code.first_half()) {
+        Kind::Straight => Known::Nothing,
+        Kind::Conditional => {
+            let went = goes(cpu, code, Op::BC);
+            if mark_again(cells, pass, place, cell, went) {
+                Known::Condition(went)
+            } else {
+                Known::Nothing
+            }
+        }
+    }
+}
+
+/// The same of a BCT.
+#[inline(always)]
+#[tactic(auto, unfolding(s370_branch::specs::Meaning::goes))]
+fn count_again<C: Cells>(
+    cells: &C,
+    pass: &mut C::Pass,
+    cpu: &Cpu,
+    code: &Code,
+    place: PlaceNo,
+    cell: Cell,
+) -> Known
+    requires area { C.is_pass cells.now pass.old }
+    requires room { calls (C.notes pass.old) < 2 ^ 61 + 2 ^ 16 }
+    requires working { is_working (C.notes pass.old) ≡ true }
+    requires place { place.0 < length (C.plan cells.now).places }
+    requires pending { (C.notes pass.old).pending ≡ Some (place.0, cell.tag) }
+    requires planted { cell.tag % 2 ≡ 1 }
+    requires kind { kind_at (C.plan cells.now) place.0 ≡ kind_of (first_half code.now) }
+    requires op { op_of (first_half code.now) ≡ Op.BCT }
+    ensures area { C.is_pass cells.now pass.new }
+    ensures settles { Traps (C.plan cells.now) (C.notes pass.old) (C.notes pass.new) cell place.0 code.now cpu.now result }
+    ensures known { IsKnown result code.now cpu.now }
+{
+    match kind(code.first_half()) {
+        Kind::Straight => Known::Nothing,
+        Kind::Conditional => {
+            let left = less_one(cpu, code);
+            if mark_again(cells, pass, place, cell, left != 0) {
+                Known::Count(left)
+            } else {
+                Known::Nothing
+            }
+        }
+    }
+}
+
+/// The same of the instruction that begins at the place, where it is a BC or a BCT: mostly all that a trap in a task's loop does.
+#[inline(always)]
+pub(crate) fn settle_again<C: Cells>(
+    cells: &C,
+    pass: &mut C::Pass,
+    cpu: &Cpu,
+    code: &Code,
+    place: PlaceNo,
+    cell: Cell,
+) -> Known
+    requires area { C.is_pass cells.now pass.old }
+    requires room { calls (C.notes pass.old) < 2 ^ 61 + 2 ^ 16 }
+    requires working { is_working (C.notes pass.old) ≡ true }
+    requires place { place.0 < length (C.plan cells.now).places }
+    requires pending { (C.notes pass.old).pending ≡ Some (place.0, cell.tag) }
+    requires planted { cell.tag % 2 ≡ 1 }
+    requires kind { kind_at (C.plan cells.now) place.0 ≡ kind_of (first_half code.now) }
+    ensures area { C.is_pass cells.now pass.new }
+    ensures settles { Traps (C.plan cells.now) (C.notes pass.old) (C.notes pass.new) cell place.0 code.now cpu.now result }
+    ensures known { IsKnown result code.now cpu.now }
+{
+    // Two tests, with no load from a table.
+    match code.first_half() / 256 {
+        0x47 => condition_again(cells, pass, cpu, code, place, cell),
+        0x46 => count_again(cells, pass, cpu, code, place, cell),
+        _ => Known::Nothing,
+    }
 }

@@ -1,22 +1,25 @@
 use Rattle.std.proofs.Common.{Some, [], ◌∷◌, subst, sym, ◌∙◌}
 use Rattle.cov_base.specs.Meaning.{Visit}
 use Rattle.task_run.proofs.FetchedLemmas.{own_begun}
-use Rattle.task_run.proofs.KeptCode.{placed_code}
+use Rattle.task_run.proofs.KeptCode.{placed_code, kept_kind}
 use Rattle.task_run.proofs.PlaceLemmas.{begins_at}
 use Rattle.task_run.proofs.instruction.step_placed.Goals as goal
 
-pub begun-requires-clause-placed : goal.begun-requires-clause-placed
-begun-requires-clause-placed g c = begins_at c.args.tables.now.places c.at.result c.args.place.0 c.kept-kept.ensures.places c.requires.place (c.requires.begins ∙ sym c.at.ensures)
+pub begun_kept-known-requires-clause-placed : goal.begun_kept-known-requires-clause-placed
+begun_kept-known-requires-clause-placed g c = begins_at c.args.tables.now.places c.at.result c.args.place.0 c.kept-kept.ensures.places c.requires.place (c.requires.begins ∙ sym c.at.ensures)
 
-pub carry_on_kept-requires-clause-fetched : goal.carry_on_kept-requires-clause-fetched
-carry_on_kept-requires-clause-fetched g c = placed_code c.args.bench.now c.args.tables.now c.args.place.0 c.kept-kept.result.now.code c.kept-kept.ensures.places c.requires.can.places c.requires.place c.requires.begins c.kept-kept.ensures.value
+pub begun_kept-known-requires-clause-kind : goal.begun_kept-known-requires-clause-kind
+begun_kept-known-requires-clause-kind g c = kept_kind c.args.bench.now c.args.tables.now c.args.place.0 c.kept-kept.result.now.code c.kept-kept.ensures.places c.requires.can.places c.requires.place c.requires.begins c.kept-kept.ensures.value
+
+pub carry_on_known-requires-clause-fetched : goal.carry_on_known-requires-clause-fetched
+carry_on_known-requires-clause-fetched g c = placed_code c.args.bench.now c.args.tables.now c.args.place.0 c.kept-kept.result.now.code c.kept-kept.ensures.places c.requires.can.places c.requires.place c.requires.begins c.kept-kept.ensures.value
 
 pub returns-clause-steps : goal.returns-clause-steps
 returns-clause-steps g c =
-    let goes = c.carry_on_kept.ensures.goes in
+    let goes = c.carry_on_known.ensures.goes in
     let fetched = placed_code c.args.bench.now c.args.tables.now c.args.place.0 c.kept-kept.result.now.code c.kept-kept.ensures.places c.requires.can.places c.requires.place c.requires.begins c.kept-kept.ensures.value in
     let own = own_begun c.args.bench.now c.args.done c.kept-kept.result.now.code fetched c.at.result (Some c.args.place) c.at.ensures in
     record {
       memory = goes.memory;
-      does = goes.does c.args.pass.now (subst (λ (v : Visit). g.O.Observer.Makes c.args.observer.now c.args.tables.now c.args.pass.now (v ∷ []) c.begun.new.pass) own c.begun.ensures.makes);
+      does = goes.does c.args.pass.now (subst (λ (v : Visit). g.O.Observer.Makes c.args.observer.now c.args.tables.now c.args.pass.now (v ∷ []) c.begun_kept-known.new.pass) own c.begun_kept-known.ensures.makes);
     }
