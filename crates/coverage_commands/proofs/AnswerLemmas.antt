@@ -1,90 +1,31 @@
 -- What the program answers with, cause by cause.
-use Rattle.std.proofs.Common.{inl, inr, OnOk, OnErr, ◌≡◌, ℕ, Bool, true, false, not, is_some, if◌then◌else◌, Some, None, Option, Result, Ok, Err, List, length, refl, sym, ◌∙◌, ap, subst}
-use Rattle.cov_outside.specs.Writes.{Writes}
+use Rattle.std.proofs.Common.{◌≡◌, ℕ, true, false, Some, List, refl, sym, ◌∙◌, subst}
 use Rattle.cov_outside.specs.declared.whole.ReadFault.{ReadFault}
 use Rattle.cov_outside.specs.declared.whole.ReadFault.TheVariants as read
-use Rattle.module_area.specs.declared.places.Place.{Place}
-use Rattle.brk_table.specs.Meaning.{TablesView}
-use Rattle.cov_base.specs.Meaning.{FactSet}
-use Rattle.marks_file.specs.Meaning.{MarksView, file_bytes, keeps_rules}
-use Rattle.marks_file.specs.declared.version.Version.TheVariants.{Second}
-use Rattle.session_marks.specs.Meaning.{session_file}
-use Rattle.session_book.specs.Meaning.{ResultView, JobView, session_of}
-use Rattle.job_input.specs.Meaning.{SourceChange, IsReadFault}
-use Rattle.job_input.specs.Inputs.{IsInput, IsInputFault, CameJobless}
-use Rattle.job_input.specs.declared.form.Form.{Form}
-use Rattle.job_input.specs.declared.faults.InputFault.{InputFault}
-use Rattle.job_input.specs.declared.faults.InputFault.TheVariants.{Source, Job}
-use Rattle.job_tables.specs.Meaning.{job_fault}
-use Rattle.job_tables.specs.Faults.{IsFaultOf}
-use Rattle.job_tables.specs.declared.faults.TablesFault.{TablesFault}
-use Rattle.job_text.specs.declared.jobs.JobFault.{JobFault}
-use Rattle.job_text.specs.declared.jobs.JobFault.TheVariants as fault
-use Rattle.report_text.specs.Conditions.{AreResultsOf, AreSetsOf}
-use Rattle.coverage_commands.specs.Meaning.{ReadyView, HoldsBesides, IsReady, Jobless, BadListing, Controlled, if_controlled, controlled_asked, Refused, OfJob, IsAnswerOf, IsPlayed, IsRunText, IsCause, Unread, Came, Finished, NoMemoryToRun, Read, IsMarksText, IsWritten, named_file, Answers, SinkChange, AreasChange, sink_change, HasAsked, Reports, session_number, way_of}
-use Rattle.coverage_commands.specs.declared.asked.Wanted.{Wanted}
-use Rattle.coverage_commands.specs.declared.asked.Asked.{Asked}
-use Rattle.coverage_commands.specs.declared.asked.Asked.TheVariants.{AnyJob, WithSession, AllWhole}
-use Rattle.coverage_commands.specs.declared.ready.Ready.{Ready}
-use Rattle.coverage_commands.specs.Asked.{HasSession}
-use Rattle.coverage_commands.specs.Ready.{IsReadyFor, view_of}
-use Rattle.coverage_commands.specs.Calls.{AtLine, IsChecked, IsReplayed, IsText, IsTold, ToEnd, Told, Wanting}
-use Rattle.refusals.specs.Meaning.{controlled_line, refusal, no_memory_line, RefusalView, read_refusal, jobless_refusal, tables_refusal}
-use Rattle.coverage_commands.specs.Answers.{IsStopped, NotWhole, NoJob, StopsJob}
+use Rattle.session_book.specs.Meaning.{JobView}
+use Rattle.job_input.specs.Meaning.{SourceChange, IsReadFault, CameWhole}
+use Rattle.job_input.specs.Inputs.{IsInput}
+use Rattle.job_answers.specs.Meaning.{IsPlayed, session_number, IsUnited}
+use Rattle.coverage_commands.specs.Meaning.{HoldsBesides, IsReady, Refused, OfJob, IsAnswerOf, IsRunText, IsCause, Unread, Came, Finished, NoMemoryToRun, Read, Answers, way_of, OfFiles}
+use Rattle.run_reports.specs.Meaning.{AreasChange}
+use Rattle.refusals.specs.Meaning.{IsWritten, SinkChange, no_memory_line, RefusalView, read_refusal}
+use Rattle.job_answers.specs.declared.asked.Wanted.{Wanted}
+use Rattle.job_answers.specs.declared.asked.Asked.{Asked}
+use Rattle.job_answers.specs.declared.asked.Asked.TheVariants.{AnyJob, WithSession, AllWhole}
+use Rattle.job_answers.specs.declared.ready.Ready.{Ready}
+use Rattle.job_answers.specs.Asked.{HasSession}
+use Rattle.job_answers.specs.Ready.{IsReadyFor, view_of}
+use Rattle.job_answers.specs.Calls.{AtLine, IsChecked, IsReplayed, ToEnd}
+use Rattle.refusals.specs.Told.{IsTold, Told, Wanting}
+use Rattle.job_answers.specs.Answers.{IsStopped, NotWhole, NoJob}
 use Rattle.coverage_commands.specs.Changes.{no_change}
-use Rattle.job_run.specs.declared.outcome.Done.{Done}
 use Rattle.command_words.specs.declared.words.Command.{Command}
 use Rattle.command_words.specs.declared.words.Command.TheVariants.{Run, Exits, Early, Count, Marks, Trial, Table, Ends, Replay, Combine, Show, Prove, Verify, Unknown}
-use Rattle.job_run.specs.Outcomes.{IsOutcomeBy}
-use Rattle.refusals.specs.Refusals.{input_refusal}
 use Rattle.schedule_play.specs.Meaning.{Play}
 use Rattle.task_run.specs.Meaning.{Course}
 use Rattle.job_run.specs.Meaning.{Account}
-use Rattle.job_run.specs.Runs.{HasLeftBy}
-use Rattle.job_run.specs.Sets.{SetsView, set_in}
-use Rattle.job_run.proofs.Laws.{set_is_left}
-use Rattle.job_run.specs.Tasks.{results_of}
-use Rattle.coverage_commands.proofs.ReadyLemmas.{refused_told}
+use Rattle.job_answers.proofs.Laws.{refused_told}
 use Rattle.coverage_commands.specs.Words.{runs_threads, without_threads}
-
-pub are_sets : (course : Course) (j : JobView) (tables : TablesView) (tasks : List Done) (sets : SetsView) → IsOutcomeBy course j tables.places tasks sets →
-    AreSetsOf j tables (length sets.job.sessions) sets.places (λ s p. set_in sets s p)
-are_sets course j tables tasks sets o = record {
-  count = ap (λ (k : JobView). length k.sessions) o.job;
-  size = o.size;
-  within = λ s some most k d l p from to. o.within s p some most;
-}
-
-pub are_results : (course : Course) (j : JobView) (places : List Place) (tasks : List Done) (sets : SetsView) → IsOutcomeBy course j places tasks sets → AreResultsOf j (length tasks) (λ t. results_of tasks t)
-are_results course j places tasks sets o = record { count = o.count; sizes = o.filled }
-
-pub reports : (course : Course) (j : JobView) (tables : TablesView) (a : AreasChange) (tasks : List Done) (sets : SetsView) (form : (ℕ → ResultView) → (ℕ → ℕ → FactSet) → List ℕ) → HasLeftBy course j tables.places a.before a.after sets.finals → IsOutcomeBy course j tables.places tasks sets →
-    Reports course j tables a form (form (λ t. results_of tasks t) (λ s p. set_in sets s p))
-reports course j tables a tasks sets form l o = record {
-  ran = l.ran;
-  results = λ t. results_of tasks t;
-  sets = λ s p. set_in sets s p;
-  are_results = o.are_results;
-  are_sets = o.are_sets;
-  are_bounded = o.are_bounded;
-  are_final = λ s p some most here. set_is_left course j tables.places a.before a.after sets s p l o.job o.size here;
-  is_text = refl;
-}
-
--- the marks of a session, which keep the rules
-pub marked : (course : Course) (r : ReadyView) (a : AreasChange) (tasks : List Done) (sets : SetsView) (marks : MarksView) → HasLeftBy course r.job r.tables.places a.before a.after sets.finals → IsOutcomeBy course r.job r.tables.places tasks sets →
-    keeps_rules marks ≡ true → marks ≡ session_file r.job r.tables (λ p. set_in sets r.number p) r.number → IsMarksText course r a (file_bytes Second marks)
-unfolding reports
-marked course r a tasks sets marks l o rules is = subst (λ (m : MarksView). IsMarksText course r a (file_bytes Second m)) (sym is) (record {
-  reports = reports course r.job r.tables a tasks sets (λ results sets'. file_bytes Second (named_file r sets')) l o;
-  rules = subst (λ (m : MarksView). keeps_rules m ≡ true) is rules;
-})
-
--- a text that was written, as its status tells
-pub written_as : {K T E : Type 0} {written : K → Option (List ℕ)} {faults : K → ℕ} {old new : K} (text : List ℕ) (r : Result T E) (answer : ℕ) → Writes written faults old new r text →
-    OnOk r (answer ≡ 0) → OnErr r (answer ≡ 6) → IsWritten 0 text (sink_change written faults old new) answer
-written_as text (Ok v) answer w good bad = inl (good, w.whole, w.cause.later)
-written_as text (Err e) answer w good bad = inr (bad, w.some, w.cause.failed)
 
 -- an input that wasn't read whole
 pub unread : (c : Command) (s : SourceChange) (a : Account) (k : SinkChange) (answer : ℕ) (e : ReadFault) → (way_of c).reads_input ≡ true → IsReadFault s e → IsWritten (read_refusal e).status (read_refusal e).line k answer → Answers c s (no_change a) k answer
@@ -157,11 +98,6 @@ answered c s a k answer r is reads ready i of besides (Told status text h told) 
 }
 answered c s a k answer r is reads ready i of besides (Wanting told) = wanting_told c s a k answer (job_read c reads) told
 
--- one text, whole
-pub told_text : {K T E : Type 0} {written : K → Option (List ℕ)} {faults : K → ℕ} {old new : K} (text : List ℕ) (r : Result T E) (answer : ℕ) → Writes written faults old new r text →
-    OnOk r (answer ≡ 0) → OnErr r (answer ≡ 6) → IsTold (IsText text) (sink_change written faults old new) answer
-told_text text r answer w good bad = Told 0 text (refl, refl) (written_as text r answer w good bad)
-
 -- a run along a course that is the job's
 pub with_own : (is : Course → AreasChange → List ℕ → Type 0) {own other : Course} {a : AreasChange} {k : SinkChange} {answer : ℕ} → other ≡ own → IsTold (λ status text. (status ≡ 0) × is other a text) k answer → IsTold (λ status text. (status ≡ 0) × is own a text) k answer
 with_own is {a = a} {k = k} {answer = answer} same told = subst (λ (course : Course). IsTold (λ status text. (status ≡ 0) × is course a text) k answer) same told
@@ -179,6 +115,12 @@ replayed_besides r s i ready status text (AtLine line bad status_is text_is) z =
 pub checked_besides : (name : List ℕ) (r : Ready) (s : SourceChange) (i : IsInput (way_of (Verify name)).form s r.input) → IsReadyFor (way_of (Verify name)).asked r → (status : ℕ) (text : List ℕ) → IsChecked name r.input.job r.tables r.session.0 r.input.rest.items status text → status ≡ 0 → HoldsBesides (Verify name) i.came.bytes
 checked_besides name r s i ready status text h z = record { ready = view_of r; few = i.came.came.within; is = ready_is (Verify name) s r refl i ready; has = h.verified z }
 
+-- ---- files
+
+pub combined : (s : SourceChange) (bytes : List ℕ) (a : Account) (k : SinkChange) (answer : ℕ) → CameWhole s bytes → IsTold (IsUnited bytes) k answer → Answers Combine s (no_change a) k answer
+combined s bytes a k answer came (Told status text is told) = record { status = status; text = text; cause = Came bytes came (OfFiles refl is) (λ z. tt) refl; told = told }
+combined s bytes a k answer came (Wanting told) = wanting_told Combine s a k answer refl told
+
 -- ---- no job
 
 no_job : (c : Command) (s : SourceChange) (a : Account) (r : RefusalView) → (way_of c).reads_job ≡ true → IsStopped (way_of c).form (way_of c).asked s r → IsCause c s (no_change a) r.status r.line
@@ -188,27 +130,6 @@ no_job c s a r job (NoJob bytes came is) = Came bytes came (Refused job is) (λ 
 pub stopped : (c : Command) (s : SourceChange) (a : Account) (k : SinkChange) (answer : ℕ) (r : RefusalView) →
     (way_of c).reads_job ≡ true → IsStopped (way_of c).form (way_of c).asked s r → IsWritten r.status r.line k answer → Answers c s (no_change a) k answer
 stopped c s a k answer r job stop told = record { status = r.status; text = r.line; cause = no_job c s a r job stop; told = told }
-
--- a source that gave no job, and listings that have no tables
-no_lines : (form : Form) (asked : Asked) (s : SourceChange) (e : JobFault) → CameJobless form s e → IsStopped form asked s (jobless_refusal e)
-no_lines form asked s (fault.BadJob n) h = NoJob h.bytes h.came (Jobless (fault.BadJob n) h.is (λ e. absurd cc) refl)
-no_lines form asked s (fault.TooLarge what n) h = NoJob h.bytes h.came (Jobless (fault.TooLarge what n) h.is (λ e. absurd cc) refl)
-no_lines form asked s fault.NoMemory h = NotWhole read.NoMemory tt refl
-
-pub not_come : (form : Form) (asked : Asked) (s : SourceChange) (e : InputFault) → IsInputFault form s e → IsStopped form asked s (input_refusal e)
-not_come form asked s (Source e) h = NotWhole e h refl
-not_come form asked s (Job e) h = no_lines form asked s e h
-
-pub no_tables : (asked : Asked) (j : JobView) (e : TablesFault) → HasAsked asked j → IsFaultOf (job_fault j) e → StopsJob asked j (tables_refusal e)
-no_tables asked j e has (inl wanting) = λ form s came. NotWhole read.NoMemory tt (ap tables_refusal wanting)
-no_tables asked j e has (inr first) = λ form s came. NoJob came.bytes came.came (BadListing j e came.has has first refl)
-
--- a session that must have no controller and has one
-pub is_controlled : (wanted : Wanted) (j : JobView) (number : ℕ) (r : RefusalView) → wanted.whole ≡ true → session_number j wanted.name ≡ Some number → is_some (session_of j number).by ≡ true → r ≡ refusal 14 (controlled_line (session_of j number).name) →
-    StopsJob (WithSession wanted) j r
-is_controlled wanted j number r must is by told = λ form s came.
-    let found : controlled_asked (WithSession wanted) j ≡ Some number = ap (λ (b : Bool). if b then if_controlled j (session_number j wanted.name) else None) must ∙ (ap (if_controlled j) is ∙ ap (λ (b : Bool). if not b then None else Some number) by) in
-    NoJob came.bytes came.came (Controlled j number came.has found told)
 
 -- the words that need no threads are answered alike
 pub alike : (c : Command) → runs_threads c ≡ false → without_threads c ≡ c

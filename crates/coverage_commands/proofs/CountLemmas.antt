@@ -8,8 +8,10 @@ use Rattle.job_run.specs.declared.outcome.Done.{Done}
 use Rattle.report_text.specs.Meaning.{count_text}
 use Rattle.session_book.specs.Meaning.{JobView, SessionView, is_whole}
 use Rattle.session_book.specs.Sessions.{AreWhole}
-use Rattle.coverage_commands.specs.Meaning.{IsWritten, SinkChange, first_controlled_from, first_controlled}
-use Rattle.coverage_commands.specs.Calls.{IsCount, IsTold, Told}
+use Rattle.refusals.specs.Meaning.{IsWritten, SinkChange}
+use Rattle.job_answers.specs.Meaning.{first_controlled_from, first_controlled}
+use Rattle.coverage_commands.specs.Calls.{IsCount}
+use Rattle.refusals.specs.Told.{IsTold, Told}
 
 -- no session has a controller where none is found
 free_from : (n : ℕ) (ss : List SessionView) → first_controlled_from n ss ≡ None → All (λ s. is_whole s ≡ true) ss

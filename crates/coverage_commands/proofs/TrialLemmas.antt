@@ -5,24 +5,21 @@ use Rattle.std.proofs.lemmas.List.FromFn.{length-map-range_with_len}
 use Rattle.brk_table.specs.Meaning.{TablesView}
 use Rattle.job_gen.specs.Meaning.{trial_code, trial_module, trial_task, trial_job, made_listing}
 use Rattle.job_gen.proofs.Laws.{trial_lines, trial_listing, trial_matches, trial_listing_size}
-use Rattle.job_run.specs.Outcomes.{IsOutcome}
-use Rattle.job_run.specs.Runs.{HasLeft}
-use Rattle.job_run.specs.Sets.{SetsView, set_in}
-use Rattle.job_run.specs.Tasks.{results_of}
-use Rattle.job_run.specs.declared.outcome.Done.{Done}
 use Rattle.session_book.specs.Meaning.{JobView}
 use Rattle.report_text.specs.Conditions.{HasFewLines}
 use Rattle.report_text.specs.Meaning.{trial_text}
-use Rattle.coverage_commands.specs.Meaning.{ReadyView, Finished, NoMemoryToRun, NoMemoryToMake, Made, IsWritten, Answers, SinkChange, AreasChange, IsUnread}
-use Rattle.refusals.specs.Meaning.{no_memory_line}
+use Rattle.job_answers.specs.Meaning.{ReadyView}
+use Rattle.coverage_commands.specs.Meaning.{Finished, NoMemoryToRun, NoMemoryToMake, Made, Answers, IsUnread}
+use Rattle.refusals.specs.Meaning.{IsWritten, SinkChange, no_memory_line}
+use Rattle.run_reports.specs.Meaning.{AreasChange, Reports}
 use Rattle.coverage_commands.specs.Changes.{no_change}
 use Rattle.job_run.specs.Meaning.{Account}
 use Rattle.job_input.specs.Meaning.{SourceChange}
 use Rattle.job_tables.specs.Meaning.{job_fault, Match}
 use Rattle.job_tables.proofs.Laws.{no_listing_fault}
 use Rattle.command_words.specs.declared.words.Command.TheVariants.{Trial}
-use Rattle.coverage_commands.proofs.AnswerLemmas.{reports}
 use Rattle.task_run.specs.Meaning.{solo}
+use Rattle.refusals.specs.Told.{IsTold, Told, Wanting}
 
 -- ---- the generated job
 
@@ -51,32 +48,28 @@ trial_sessions number tasks = refl
 abbrev made_ready : ℕ → ℕ → TablesView → ReadyView
 made_ready number tasks tables = record { job = trial_job number tasks; tables = tables; number = 0; lines = 0; rest = [] }
 
-tried_own : (number tasks : ℕ) (s : SourceChange) (tables : TablesView) (a : AreasChange) (done : List Done) (sets : SetsView) (k : SinkChange) (answer : ℕ) → IsUnread s →
-    IsWritten 0 (trial_text number tasks tables.places (λ t. results_of done t) (λ s p. set_in sets s p)) k answer → Match (trial_job number tasks) tables → HasLeft (trial_job number tasks) tables.places a.before a.after sets.finals → IsOutcome (trial_job number tasks) tables.places done sets →
-    Answers (Trial number tasks) s a k answer
-tried_own number tasks s tables a done sets k answer unread told match' left outcome = record {
-  status = 0;
-  text = trial_text number tasks tables.places (λ t. results_of done t) (λ s p. set_in sets s p);
-  cause = Finished (made_ready number tasks tables) (Made number tasks refl unread refl match') refl (reports solo (trial_job number tasks) tables a done sets (trial_text number tasks tables.places) left outcome);
+tried_own : (number tasks : ℕ) (s : SourceChange) (tables : TablesView) (a : AreasChange) (k : SinkChange) (answer : ℕ) → IsUnread s → Match (trial_job number tasks) tables →
+    IsTold (λ status text. (status ≡ 0) × Reports solo (trial_job number tasks) tables a (trial_text number tasks tables.places) text) k answer → Answers (Trial number tasks) s a k answer
+tried_own number tasks s tables a k answer unread match' (Told status text h told) = record {
+  status = status;
+  text = text;
+  cause = Finished (made_ready number tasks tables) (Made number tasks refl unread refl match') h.0 h.1;
+  told = told;
+}
+tried_own number tasks s tables a k answer unread match' (Wanting told) = record {
+  status = 7;
+  text = no_memory_line;
+  cause = NoMemoryToRun (made_ready number tasks tables) (Made number tasks refl unread refl match') refl refl refl;
   told = told;
 }
 
 -- of a job that is the generated one
-pub tried : (number tasks : ℕ) (j : JobView) (s : SourceChange) (tables : TablesView) (a : AreasChange) (done : List Done) (sets : SetsView) (k : SinkChange) (answer : ℕ) → j ≡ trial_job number tasks → IsUnread s →
-    IsWritten 0 (trial_text number tasks tables.places (λ t. results_of done t) (λ s p. set_in sets s p)) k answer → Match j tables → HasLeft j tables.places a.before a.after sets.finals → IsOutcome j tables.places done sets →
-    Answers (Trial number tasks) s a k answer
-tried number tasks j s tables a done sets k answer e unread told =
-    subst (λ (i : JobView). Match i tables → HasLeft i tables.places a.before a.after sets.finals → IsOutcome i tables.places done sets → Answers (Trial number tasks) s a k answer)
-    (sym e) (tried_own number tasks s tables a done sets k answer unread told)
+pub tried : (number tasks : ℕ) (j : JobView) (s : SourceChange) (tables : TablesView) (a : AreasChange) (k : SinkChange) (answer : ℕ) → j ≡ trial_job number tasks → IsUnread s → Match j tables →
+    IsTold (λ status text. (status ≡ 0) × Reports solo j tables a (trial_text number tasks tables.places) text) k answer → Answers (Trial number tasks) s a k answer
+tried number tasks j s tables a k answer e unread =
+    subst (λ (i : JobView). Match i tables → IsTold (λ status text. (status ≡ 0) × Reports solo i tables a (trial_text number tasks tables.places) text) k answer → Answers (Trial number tasks) s a k answer)
+    (sym e) (tried_own number tasks s tables a k answer unread)
 
--- memory was wanting, before the run and in it
+-- memory was wanting before the run
 pub unmade : (number tasks : ℕ) (s : SourceChange) (a : Account) (k : SinkChange) (answer : ℕ) → IsUnread s → IsWritten 7 no_memory_line k answer → Answers (Trial number tasks) s (no_change a) k answer
 unmade number tasks s a k answer unread told = record { status = 7; text = no_memory_line; cause = NoMemoryToMake number tasks refl unread refl refl refl; told = told }
-
-pub untried : (number tasks : ℕ) (j : JobView) (s : SourceChange) (tables : TablesView) (a : AreasChange) (k : SinkChange) (answer : ℕ) → j ≡ trial_job number tasks → IsUnread s → Match j tables → IsWritten 7 no_memory_line k answer → Answers (Trial number tasks) s a k answer
-untried number tasks j s tables a k answer e unread match' told = record {
-  status = 7;
-  text = no_memory_line;
-  cause = NoMemoryToRun (record { job = j; tables = tables; number = 0; lines = 0; rest = [] }) (Made number tasks refl unread e match') refl refl refl;
-  told = told;
-}

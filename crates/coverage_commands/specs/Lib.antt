@@ -1,9 +1,4 @@
-pub mod Answers
-pub mod Asked
 pub mod Calls
 pub mod Changes
-pub mod Checked
-pub mod Files
 pub mod Meaning
-pub mod Ready
 pub mod Words

@@ -4,27 +4,22 @@ ghost use Rattle.command_words.specs.Words.{HasFewTasks};
 ghost use Rattle.coverage_commands.specs.Words.{runs_threads, without_threads};
 ghost use Rattle.coverage_commands.specs.Meaning.{Serves, way_of};
 ghost use Rattle.coverage_commands.specs.Calls.{Answered, AnsweredAlone, AnsweredJob, AnsweredJobAlone, ServedAlone};
-ghost use Rattle.coverage_commands.specs.Ready.{HasNumbers, IsReadyFor};
+ghost use Rattle.job_answers.specs.Ready.{HasNumbers, IsReadyFor};
 
 use crate::combining::answer_combine;
 use crate::counting::write_counts;
-use crate::early::write_drained;
-use crate::ending::write_job_ends;
-use crate::playing::write_schedule;
-use crate::proving::write_evidence;
-use crate::ready::{Ready, make_ready};
-use crate::running::{write_marks, write_report};
-use crate::showing::write_shown;
-use crate::status::{Status, status_of, told};
 use crate::trial::answer_trial;
-use crate::verifying::write_verdict;
 use crate::ways::{asked_of, form_of};
 use check_exits::ExitRunner;
 use command_words::{Command, command_of};
 use cov_outside::{Gate, Sink, Source};
+use job_answers::{
+    Ready, make_ready, write_evidence, write_job_ends, write_schedule, write_shown, write_verdict,
+};
 use module_area::Areas;
-use refusals::USAGE;
+use refusals::{Status, USAGE, status_of, told};
 use report_text::table;
+use run_reports::{write_drained, write_marks, write_report};
 use std::alloc::Global;
 use std::sync::Wait;
 use std::thread::Threads;
@@ -46,15 +41,27 @@ fn answer_tasks<T: Threads + Wait + Sync, K: Sink, A: Areas, G: Gate + Sync>(
     requires room { A.made areas.old < 2 ^ 61 }
     ensures { AnsweredJob A.Areas K.Sink command.now ready.now areas.old areas.new sink.old sink.new result }
 {
+    let job = &ready.input.job;
+    let tables = &ready.tables;
     let runner = JobRunner {
-        services: ready.input.job.services(),
+        services: job.services(),
     };
     match command {
-        Command::Run(_) => write_report(rt, alloc, &runner, ready, sink, areas, gate),
-        Command::Exits => write_report(rt, alloc, &ExitRunner, ready, sink, areas, gate),
-        Command::Early => write_drained(rt, alloc, ready, sink, areas, gate),
-        Command::Count(_) => write_counts(rt, alloc, &ready.input.job, &ready.tables, sink, gate),
-        Command::Marks { .. } => write_marks(rt, alloc, &runner, ready, sink, areas, gate),
+        Command::Run(_) => write_report(rt, alloc, &runner, job, tables, sink, areas, gate),
+        Command::Exits => write_report(rt, alloc, &ExitRunner, job, tables, sink, areas, gate),
+        Command::Early => write_drained(rt, alloc, job, tables, sink, areas, gate),
+        Command::Count(_) => write_counts(rt, alloc, job, tables, sink, gate),
+        Command::Marks { .. } => write_marks(
+            rt,
+            alloc,
+            &runner,
+            job,
+            tables,
+            ready.session,
+            sink,
+            areas,
+            gate,
+        ),
         Command::Table(_)
         | Command::Ends(_)
         | Command::Replay

@@ -1,14 +1,14 @@
 //! The counts of a job's sessions.
 ghost use Rattle.std.specs.Prelude.{◌≡◌, None};
 ghost use Rattle.job_tables.specs.Tables.{IsReadyJob};
-ghost use Rattle.coverage_commands.specs.Meaning.{first_controlled};
-ghost use Rattle.coverage_commands.specs.Calls.{IsCount, Tells};
+ghost use Rattle.job_answers.specs.Meaning.{first_controlled};
+ghost use Rattle.coverage_commands.specs.Calls.{IsCount};
+ghost use Rattle.refusals.specs.Told.{Tells};
 
-use crate::status::{Status, status_of, told};
 use brk_table::Tables;
 use count_session::count_job;
 use cov_outside::{Gate, Sink};
-use refusals::NO_MEMORY;
+use refusals::{NO_MEMORY, Status, status_of, told};
 use report_text::count_text;
 use session_book::Job;
 use std::alloc::Global;

@@ -2,21 +2,18 @@
 ghost use Rattle.std.specs.Prelude.{◌≡◌, ◌<◌, ◌≤◌, ◌^◌, None, IfOk};
 ghost use Rattle.job_tables.specs.Meaning.{job_fault};
 ghost use Rattle.job_tables.specs.Tables.{IsReadyJob};
-ghost use Rattle.job_gen.specs.Meaning.{trial_job};
 ghost use Rattle.report_text.specs.Conditions.{HasFewLines};
 ghost use Rattle.coverage_commands.specs.Calls.{AnsweredUnread};
 
-use crate::status::{Status, status_of, told};
 use brk_table::Tables;
 use command_words::Command;
 use cov_base::NoMemory;
 use cov_outside::{Gate, Sink};
 use job_gen::trial;
-use job_run::run_job;
 use job_tables::{TablesFault, tables_of};
 use module_area::Areas;
-use refusals::NO_MEMORY;
-use report_text::trial_text;
+use refusals::{NO_MEMORY, Status, status_of, told};
+use run_reports::write_trial;
 use session_book::Job;
 use std::alloc::Global;
 use std::sync::Wait;
@@ -33,30 +30,6 @@ pub fn faultless_tables(alloc: Global, job: &Job) -> Result<Tables, NoMemory>
         Err(TablesFault::NoMemory) => Err(NoMemory),
         Err(TablesFault::List { .. } | TablesFault::Build { .. }) => unreachable!(),
     }
-}
-
-/// Runs a generated job, and writes its summary.
-#[tactic(auto, using(brk_table::proofs::Laws::are_in))]
-fn answer_job<T: Threads + Wait + Sync, K: Sink, A: Areas, G: Gate + Sync>(
-    rt: &T,
-    alloc: Global,
-    number: u32,
-    tasks: u32,
-    job: &Job,
-    tables: &Tables,
-    sink: &mut K,
-    areas: &mut A,
-    gate: &G,
-) -> Status
-    requires job { job.now ≡ trial_job number tasks }
-    requires ready { IsReadyJob job.now tables.now }
-    requires room { A.made areas.old < 2 ^ 61 }
-    ensures { AnsweredUnread A.Areas K.Sink (Command.Trial number tasks) areas.old areas.new sink.old sink.new result }
-{
-    let Ok(outcome) = run_job(rt, alloc, areas, gate, job, tables) else {
-        return told(sink, NO_MEMORY, 7);
-    };
-    status_of(trial_text(sink, number, tasks, tables, &outcome))
 }
 
 /// Makes the job of this number and so many tasks, runs it, and writes its summary.
@@ -80,5 +53,5 @@ pub fn answer_trial<T: Threads + Wait + Sync, K: Sink, A: Areas, G: Gate + Sync>
     let Ok(tables) = faultless_tables(alloc, &job) else {
         return told(sink, NO_MEMORY, 7);
     };
-    answer_job(rt, alloc, number, tasks, &job, &tables, sink, areas, gate)
+    write_trial(rt, alloc, number, tasks, &job, &tables, sink, areas, gate)
 }

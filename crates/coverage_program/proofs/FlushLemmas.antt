@@ -5,7 +5,9 @@ use Rattle.std.proofs.Math.Seq.{take-length}
 use Rattle.cov_outside.specs.Meaning.{raised}
 use Rattle.command_words.specs.declared.words.Command.{Command}
 use Rattle.job_input.specs.Meaning.{SourceChange}
-use Rattle.coverage_commands.specs.Meaning.{AreasChange, IsServed, IsWritten, SinkChange}
+use Rattle.run_reports.specs.Meaning.{AreasChange}
+use Rattle.coverage_commands.specs.Meaning.{IsServed}
+use Rattle.refusals.specs.Meaning.{IsWritten, SinkChange}
 
 kept : (old mid new : Option (List ℕ)) (text : List ℕ) → Keeps mid new → Appends old mid text → Appends old new text
 kept None mid new text k a = tt

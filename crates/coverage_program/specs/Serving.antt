@@ -9,7 +9,7 @@ use Rattle.cov_outside.specs.declared.streams.Sink as sink
 use Rattle.cov_outside.specs.declared.streams.Source as source
 use Rattle.module_area.specs.declared.areas.Areas as areas
 use Rattle.coverage_commands.specs.Meaning.{Serves}
-use Rattle.coverage_commands.specs.declared.status.Status.{Status}
+use Rattle.refusals.specs.declared.status.Status.{Status}
 
 -- a sink over this writer: written is what the writer has handed on, and what it holds
 abbrev pub over : {W B : Type 0} → write.Ghosts W → sink.Ghosts (StdSink (BufWriter W B))

@@ -1,5 +1,5 @@
 -- What the claim of the program says by this crate's clauses.
-use Rattle.std.specs.Prelude.{ℕ, List, Option, Some, None, [], ◌∷◌, ◌++◌, codes, decimal, take}
+use Rattle.std.specs.Prelude.{ℕ, List, Option, Some, None, [], ◌∷◌, ◌++◌, codes, decimal, take, ◌≡◌, ◌≤◌, ◌⊎◌}
 use Rattle.cov_base.specs.Meaning.{unpadded, wrap}
 use Rattle.cov_base.specs.declared.facts.Fact.{Fact}
 use Rattle.cov_base.specs.declared.facts.Fact.TheVariants.{Ran, Went, Stayed}
@@ -19,6 +19,8 @@ use Rattle.job_tables.specs.declared.faults.TablesFault.{TablesFault}
 use Rattle.job_tables.specs.declared.faults.TablesFault.TheVariants as first
 use Rattle.job_text.specs.declared.jobs.JobFault.{JobFault}
 use Rattle.job_text.specs.declared.jobs.JobFault.TheVariants as fault
+use Rattle.std.specs.Io.KnownBytes.{Appends}
+use Rattle.cov_outside.specs.Meaning.{Rose, AppendsSome}
 
 -- The lines that refusals, and a `verify` that passes, are told by.
 
@@ -151,3 +153,20 @@ abbrev pub tables_refusal : TablesFault → RefusalView
 tables_refusal (first.List name e) = list_refusal name e
 tables_refusal (first.Build name loc e) = build_refusal name loc e
 tables_refusal first.NoMemory = refusal 7 no_memory_line
+
+-- What a text and its status make of a sink, which tells what was written before it and after it.
+
+-- what was written to a sink, and its count of faults
+pub record SinkChange : Type 0 where
+  pub written : Option (List ℕ)
+  pub grown : Option (List ℕ)
+  pub faults : ℕ
+  pub later : ℕ
+
+abbrev pub sink_change : {K : Type 0} → (K → Option (List ℕ)) → (K → ℕ) → K → K → SinkChange
+sink_change written faults old new = record { written = written old; grown = written new; faults = faults old; later = faults new }
+
+-- the text was written whole, or its first bytes where the sink failed; its count of faults never falls
+abbrev pub IsWritten : ℕ → List ℕ → SinkChange → ℕ → Type 0
+IsWritten status text k answer =
+    ((answer ≡ status) × Appends k.written k.grown text × (k.faults ≤ k.later)) ⊎ ((answer ≡ 6) × AppendsSome k.written k.grown text × Rose k.faults k.later)

@@ -1,9 +1,10 @@
-//! How a command tells that it has nothing to write: each refusal by its status and a line.
+//! How a command tells what it answers: a text with its status, and each refusal, where it has nothing to write, by a line.
 //! Faults come as values from the stages below; which of them comes is decided above.
 #![tactic(auto)]
 
 mod faults;
 mod lines;
+mod status;
 
 pub use faults::{
     Refusal, bad_marks, input_refusal, other_table, plain_refusal, read_refusal, tables_refusal,
@@ -12,3 +13,4 @@ pub use lines::{
     NO_MEMORY, USAGE, bad_evidence_line, bad_schedule_line, controlled_line, no_session_line,
     refuted_line, verified_line,
 };
+pub use status::{Status, status_of, told};

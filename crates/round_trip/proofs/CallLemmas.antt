@@ -16,8 +16,10 @@ use Rattle.brk_table.specs.Meaning.{TablesView}
 use Rattle.session_book.specs.Meaning.{JobView, SessionView, ResultView}
 use Rattle.report_text.specs.Meaning.{text_of, lines_from, task_parts, session_part, report_of}
 use Rattle.refusals.specs.Meaning.{refusal, read_refusal}
-use Rattle.coverage_commands.specs.Meaning.{AreasChange, ReadyView, IsReady, IsCause, Usage, Unread, Came, Finished, NoMemoryToRun, NoMemoryToMake, Read, Made, Refused, OfFiles, OfJob, IsAnswerOf, IsRunText, way_of, number_from, session_number}
-use Rattle.coverage_commands.proofs.Laws.{not_both, read_told, refused_told, status_is}
+use Rattle.run_reports.specs.Meaning.{AreasChange}
+use Rattle.job_answers.specs.Meaning.{ReadyView, number_from, session_number}
+use Rattle.coverage_commands.specs.Meaning.{IsReady, IsCause, Usage, Unread, Came, Finished, NoMemoryToRun, NoMemoryToMake, Read, Made, Refused, OfFiles, OfJob, IsAnswerOf, IsRunText, way_of}
+use Rattle.job_answers.proofs.Laws.{not_both, read_told, refused_told, status_is}
 use Rattle.round_trip.specs.Laws.{HasText, IsPart}
 
 -- ---- where a text of status 0 is from

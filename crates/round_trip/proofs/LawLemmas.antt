@@ -24,9 +24,12 @@ use Rattle.report_text.specs.Meaning.{text_of, session_part, report_of, module_l
 use Rattle.task_run.specs.Meaning.{Course, solo}
 use Rattle.task_services.specs.Meaning.{course_of}
 use Rattle.command_words.specs.declared.words.Command.TheVariants.{Run, Marks, Show, Prove, Verify}
-use Rattle.coverage_commands.specs.declared.asked.Wanted.{Wanted}
-use Rattle.coverage_commands.specs.Meaning.{AreasChange, ReadyView, IsReady, Finished, Read, OfJob, HasStatus, ToAnswer, BeginsWith, HoldsTrue, IsShown, Shown, Fileless, OtherShown, IsMarksText, Reports, named_file, session_number, show_text}
-use Rattle.coverage_commands.proofs.Laws.{any_job, is_free, one_ready, one_rest, one_number, one_marks, IsSame}
+use Rattle.job_answers.specs.declared.asked.Wanted.{Wanted}
+use Rattle.run_reports.specs.Meaning.{AreasChange, IsMarksText, Reports, named_file}
+use Rattle.job_answers.specs.Meaning.{ReadyView, BeginsWith, IsShown, Shown, Fileless, OtherShown, session_number, show_text}
+use Rattle.coverage_commands.specs.Meaning.{IsReady, Finished, Read, OfJob, HasStatus, ToAnswer, HoldsTrue}
+use Rattle.job_answers.proofs.Laws.{any_job, is_free, one_marks, IsSame}
+use Rattle.coverage_commands.proofs.Laws.{one_ready, one_rest, one_number}
 use Rattle.round_trip.specs.Laws.{HasText, HasWhole, IsMarked, IsPart, HasReport}
 use Rattle.round_trip.proofs.TableLemmas.{place_module}
 use Rattle.round_trip.proofs.SetLemmas.{same_marks, same_part}
@@ -39,7 +42,7 @@ pub record IsOfMarks (g : Grammar) (name bytes marks : List ℕ) (h : HasText (M
   pub ready : ReadyView
   pub is : IsReady (Marks name g) bytes ready
   pub came : CameWhole h.source bytes
-  pub text_is : IsMarksText (course_of ready.job.services) ready h.areas marks
+  pub text_is : IsMarksText (course_of ready.job.services) ready.job ready.tables ready.number h.areas marks
 
 of_marks : (g : Grammar) (name bytes marks : List ℕ) (h : HasText (Marks name g) bytes marks) → IsOfMarks g name bytes marks h
 of_marks g name bytes marks h = by (of_job (Marks name g) bytes marks h refl)
@@ -159,7 +162,7 @@ verifies name job marks text m p few = by (of_job (Prove name) job text p refl)
     by (Answered o is text_is) =
         let w = of_marks Plain name job marks m.file in
         let r : ReadyView = w.ready in
-        let file : MarksView = named_file r w.text_is.reports.sets in
+        let file : MarksView = named_file r.job r.tables r.number w.text_is.reports.sets in
         let same = one_ready (Marks name Plain) job o r (marks_ready name job o is) w.is in
         let numbers : r.number ≡ o.number = one_number (Marks name Plain) job o r (by_name name false) refl (marks_ready name job o is) w.is in
         let named : session_number r.job name ≡ Some r.number = w.is.named (by_name name false) refl in
@@ -184,8 +187,8 @@ verifies name job marks text m p few = by (of_job (Prove name) job text p refl)
 
 -- ---- what is shown
 
-own_file : (g : Grammar) (name job marks : List ℕ) (m : IsMarked g name job marks) (w : IsOfMarks g name job marks m.file) → BeginsWith marks (named_file w.ready w.text_is.reports.sets).modules (length marks)
-own_file g name job marks m w = begins (named_file w.ready w.text_is.reports.sets) marks [] marks w.text_is.reports.is_text w.text_is.rules (sym (append-nil marks))
+own_file : (g : Grammar) (name job marks : List ℕ) (m : IsMarked g name job marks) (w : IsOfMarks g name job marks m.file) → BeginsWith marks (named_file w.ready.job w.ready.tables w.ready.number w.text_is.reports.sets).modules (length marks)
+own_file g name job marks m w = begins (named_file w.ready.job w.ready.tables w.ready.number w.text_is.reports.sets) marks [] marks w.text_is.reports.is_text w.text_is.rules (sym (append-nil marks))
 
 pub shows : (g : Grammar) (name job marks : List ℕ) → IsMarked g name job marks → length (job ++ marks) ≤ input_limit → HasStatus (Show name g) (job ++ marks) 0
 shows g name job marks m few =
@@ -208,12 +211,12 @@ shown_is g name job marks text m w o h (Shown sets file z t) =
     let same = one_ready (Show name g) (job ++ marks) own o is h in
     let numbers : o.number ≡ r.number = one_number (Show name g) (job ++ marks) own o (by_name name false) refl is h in
     let mine : ℕ → ℕ → FactSet = w.text_is.reports.sets in
-    let modules : (named_file r mine).modules ≡ session_marks r.job r.tables sets r.number =
-    same_file (named_file r mine) marks o.rest (session_marks o.job o.tables sets o.number) (length o.rest) w.text_is.reports.is_text w.text_is.rules (one_rest (Show name g) (job ++ marks) own o refl is h) file
+    let modules : (named_file r.job r.tables r.number mine).modules ≡ session_marks r.job r.tables sets r.number =
+    same_file (named_file r.job r.tables r.number mine) marks o.rest (session_marks o.job o.tables sets o.number) (length o.rest) w.text_is.reports.is_text w.text_is.rules (one_rest (Show name g) (job ++ marks) own o refl is h) file
     ∙ one_marks own o sets same numbers in
     let part : session_part o.job o.tables (λ n. sets) o.number ≡ session_part r.job r.tables mine r.number =
     one_part own o (λ n. sets) o.number same ∙ (ap (session_part r.job r.tables (λ n. sets)) numbers
-    ∙ same_part r.job r.tables (λ n. sets) mine r.number w.is.match (sets_one r.job r.tables sets (mine r.number) r.number (named_file r mine).modules modules refl)) in
+    ∙ same_part r.job r.tables (λ n. sets) mine r.number w.is.match (sets_one r.job r.tables sets (mine r.number) r.number (named_file r.job r.tables r.number mine).modules modules refl)) in
     t ∙ ap (λ x. text_of (codes "COVERAGE SHOW" ∷ (x ++ (codes "END" ∷ [])))) part
 
 told_is : (g : Grammar) (name job marks text : List ℕ) (m : IsMarked g name job marks) (w : IsOfMarks g name job marks m.file) → HasText (Show name g) (job ++ marks) text → text ≡ shown_by w.ready w.text_is.reports.sets

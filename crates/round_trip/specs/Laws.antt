@@ -8,7 +8,9 @@ use Rattle.job_text.specs.declared.grammar.Grammar.{Grammar}
 use Rattle.job_text.specs.declared.grammar.Grammar.TheVariants.{Plain}
 use Rattle.report_text.specs.Meaning.{text_of}
 use Rattle.session_book.specs.Meaning.{session_of}
-use Rattle.coverage_commands.specs.Meaning.{AreasChange, ReadyView, IsReady, IsCause, HasStatus, HoldsTrue}
+use Rattle.run_reports.specs.Meaning.{AreasChange}
+use Rattle.job_answers.specs.Meaning.{ReadyView}
+use Rattle.coverage_commands.specs.Meaning.{IsReady, IsCause, HasStatus, HoldsTrue}
 
 -- a call of this command, whose source told these bytes, has this text with status 0
 pub record HasText (c : Command) (bytes text : List ℕ) : Type 0 where

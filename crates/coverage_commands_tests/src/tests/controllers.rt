@@ -3,8 +3,8 @@
 use super::jobs::PLAIN;
 use cov_base::{PlaceNo, SessNo, TaskNo};
 use cov_outside::MemSource;
-use coverage_commands::{Asked, make_ready};
 use interleave_core::{Core, Event, start};
+use job_answers::{Asked, make_ready};
 use std::test::Fail;
 
 /// Task 1 controls sessions 1 and 2 over places 0 to 2, and task 2 session 3 over place 3.

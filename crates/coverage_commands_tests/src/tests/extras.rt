@@ -7,7 +7,7 @@ use super::jobs::PLAIN;
 use brk_table::Tables;
 use cov_base::{NoMemory, TaskNo};
 use cov_outside::{MemSource, OpenGate};
-use coverage_commands::{Asked, make_ready};
+use job_answers::{Asked, make_ready};
 use job_run::run_job_with;
 use module_area::{Areas, Cells, Plan};
 use s370_state::Ending;

@@ -9,7 +9,7 @@ use super::notation::{Row, row_of};
 use brk_table::Tables;
 use cov_base::PlaceNo;
 use cov_outside::MemSource;
-use coverage_commands::{Asked, make_ready};
+use job_answers::{Asked, make_ready};
 use job_gen::trial;
 use job_tables::tables_of;
 use phase_plan::begin;

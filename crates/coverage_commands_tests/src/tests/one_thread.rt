@@ -15,7 +15,7 @@ use super::order::{COUNT_DOWN, EXECUTED};
 use brk_table::Tables;
 use cov_base::{NoMemory, PlaceNo, SessNo, TaskNo};
 use cov_outside::MemSource;
-use coverage_commands::{Asked, make_ready};
+use job_answers::{Asked, make_ready};
 use module_area::{Areas, Cell, Cells, Control, Forks, Plan};
 use phase_plan::{Begun, begin, plan_of};
 use s370_state::Ending;

@@ -1,11 +1,13 @@
 use Rattle.std.proofs.Common.{◌≡◌, false, true, rules, subst}
-use Rattle.coverage_commands.specs.Answers.{IsStopped}
-use Rattle.coverage_commands.specs.Meaning.{Answers, sink_change, areas_change, way_of}
+use Rattle.job_answers.specs.Answers.{IsStopped}
+use Rattle.coverage_commands.specs.Meaning.{Answers, way_of}
+use Rattle.refusals.specs.Meaning.{sink_change}
+use Rattle.run_reports.specs.Meaning.{areas_change}
 use Rattle.job_input.specs.Meaning.{SourceChange, source_change}
 use Rattle.command_words.specs.declared.words.Command.{Command}
 use Rattle.coverage_commands.specs.Words.{runs_threads}
 use Rattle.coverage_commands.proofs.AnswerLemmas.{alike, stopped}
-use Rattle.coverage_commands.proofs.FileLemmas.{told_as}
+use Rattle.refusals.proofs.Laws.{told_as}
 use Rattle.coverage_commands.proofs.answering.answer.Goals as goal
 
 pub returns-in-Table : goal.returns-in-Table

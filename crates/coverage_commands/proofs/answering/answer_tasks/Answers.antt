@@ -1,8 +1,7 @@
 use Rattle.std.proofs.Common.{ap, refl}
 use Rattle.report_text.specs.Meaning.{report_of}
 use Rattle.task_services.specs.Meaning.{course_of}
-use Rattle.coverage_commands.specs.Meaning.{IsMarksText, Reports}
-use Rattle.coverage_commands.specs.Ready.{view_of}
+use Rattle.run_reports.specs.Meaning.{IsMarksText, Reports}
 use Rattle.job_text.proofs.Laws.{job_keeps}
 use Rattle.coverage_commands.proofs.AnswerLemmas.{answered, ran, with_own}
 use Rattle.command_words.specs.declared.words.Command.TheVariants.{Run, Exits, Early, Count, Marks}
@@ -33,4 +32,4 @@ pub returns-in-Marks : goal.returns-in-Marks
 returns-in-Marks g c =
     let ready = rw c.in-Marks.is at c.requires.ready in
     rw c.in-Marks.is (λ s i. ran (Marks c.in-Marks.name c.in-Marks.grammar) s _ _ _ c.args.ready.now _ refl refl ready i (λ status text h. h)
-    (with_own (λ course. IsMarksText course (view_of c.args.ready.now)) (ap course_of c.services.ensures) c.write_marks.ensures))
+    (with_own (λ course. IsMarksText course c.args.ready.now.input.job c.args.ready.now.tables c.args.ready.now.session.0) (ap course_of c.services.ensures) c.write_marks.ensures))

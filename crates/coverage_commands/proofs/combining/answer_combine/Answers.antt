@@ -1,9 +1,12 @@
 use Rattle.std.proofs.Common.{refl, ◌∙◌}
 use Rattle.refusals.specs.Meaning.{read_refusal}
+use Rattle.refusals.proofs.Laws.{told_as}
 use Rattle.command_words.specs.declared.words.Command.TheVariants.{Combine}
-use Rattle.coverage_commands.proofs.AnswerLemmas.{unread}
-use Rattle.coverage_commands.proofs.FileLemmas.{told_as}
+use Rattle.coverage_commands.proofs.AnswerLemmas.{combined, unread}
 use Rattle.coverage_commands.proofs.combining.answer_combine.Goals as goal
+
+pub returns-in-Ok : goal.returns-in-Ok
+returns-in-Ok g c a = combined _ c.in-Ok.input.items a _ _ c.in-Ok.ensures.bytes (rw c.deref.ensures.value at c.write_union.ensures)
 
 pub returns-in-Err : goal.returns-in-Err
 returns-in-Err g c a =

@@ -1,5 +1,5 @@
-use Rattle.coverage_commands.specs.Calls.{Wanting}
-use Rattle.coverage_commands.proofs.AnswerLemmas.{written_as}
+use Rattle.refusals.specs.Told.{Wanting}
+use Rattle.refusals.proofs.Laws.{written_as}
 use Rattle.coverage_commands.proofs.CountLemmas.{are_whole, counted}
 use Rattle.coverage_commands.proofs.counting.write_counts.Goals as goal
 

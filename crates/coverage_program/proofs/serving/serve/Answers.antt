@@ -1,6 +1,6 @@
 use Rattle.std.proofs.Common.{refl}
 use Rattle.cov_outside.specs.Adapters.{write_faults, written_by}
-use Rattle.coverage_commands.specs.Meaning.{sink_change}
+use Rattle.refusals.specs.Meaning.{sink_change}
 use Rattle.coverage_program.proofs.FlushLemmas.{handed_on, lost}
 use Rattle.coverage_program.proofs.serving.serve.Goals as goal
 

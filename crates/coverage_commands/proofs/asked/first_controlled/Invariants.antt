@@ -1,6 +1,0 @@
-use Rattle.std.proofs.Common.{◌≡◌, ◌+◌, drop}
-use Rattle.coverage_commands.specs.Meaning.{first_controlled_from, first_controlled}
-use Rattle.coverage_commands.proofs.asked.first_controlled.Given as goal
-
-abbrev pub invariant-loop-i : goal.invariant-loop-i
-invariant-loop-i l = first_controlled_from (l.i + 1) (drop l.i l.job.sessions) ≡ first_controlled l.job

@@ -1,7 +1,0 @@
-use Rattle.std.proofs.Common.{sym}
-use Rattle.coverage_commands.specs.Answers.{NoJob}
-use Rattle.coverage_commands.specs.Meaning.{Controlled}
-use Rattle.coverage_commands.proofs.asked.whole_sessions.Goals as goal
-
-pub returns-in-Some-clause-stopped : goal.returns-in-Some-clause-stopped
-returns-in-Some-clause-stopped c = λ form s came. NoJob came.bytes came.came (Controlled c.args.job.now c.in-Some.session.0 came.has (sym c.in-Some.ensures.value) c.controlled.ensures)

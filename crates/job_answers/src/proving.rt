@@ -1,0 +1,35 @@
+//! The evidence of a session's facts.
+ghost use Rattle.std.specs.Prelude.{◌≡◌, ◌<◌, ◌≤◌, None, length};
+ghost use Rattle.evidence_check.specs.Meaning.{evidence};
+ghost use Rattle.job_tables.specs.Tables.{IsReadyJob};
+ghost use Rattle.session_book.specs.Meaning.{session_of};
+ghost use Rattle.refusals.specs.Told.{IsText, Tells};
+
+use brk_table::Tables;
+use cov_base::SessNo;
+use cov_outside::Sink;
+use evidence_check::{ProveFault, prove};
+use refusals::{NO_MEMORY, Status, told};
+use session_book::Job;
+use std::alloc::Global;
+
+/// Writes the evidence of session s of a job.
+pub fn write_evidence<K: Sink>(
+    alloc: Global,
+    job: &Job,
+    tables: &Tables,
+    s: SessNo,
+    sink: &mut K,
+) -> Status
+    requires from { 0 < s.0 }
+    requires to { s.0 ≤ length job.now.sessions }
+    requires whole { (session_of job.now s.0).by ≡ None }
+    requires job { IsReadyJob job.now tables.now }
+    ensures { Tells K.Sink (IsText (evidence job.now tables.now s.0)) sink.old sink.new result }
+{
+    match prove(alloc, sink, job, tables, s) {
+        Ok(()) => Status(0),
+        Err(ProveFault::Failed) => Status(6),
+        Err(ProveFault::NoMemory) => told(sink, NO_MEMORY, 7),
+    }
+}

@@ -1,0 +1,2 @@
+mod DrainedLemmas
+mod ReportLemmas

@@ -1,0 +1,10 @@
+//! What a run of a job's tasks over areas tells: its report, the marks of a session, the report with drains, a summary.
+#![tactic(auto)]
+
+mod early;
+mod running;
+mod trial;
+
+pub use early::write_drained;
+pub use running::{write_marks, write_report};
+pub use trial::write_trial;

@@ -1,0 +1,40 @@
+//! The run of a generated job.
+ghost use Rattle.std.specs.Prelude.{◌<◌, ◌≤◌, ◌^◌, length};
+ghost use Rattle.job_tables.specs.Tables.{IsReadyJob};
+ghost use Rattle.run_reports.specs.Calls.{Tried};
+
+use brk_table::Tables;
+use cov_outside::{Gate, Sink};
+use job_run::run_job;
+use module_area::Areas;
+use refusals::{NO_MEMORY, Status, status_of, told};
+use report_text::trial_text;
+use session_book::Job;
+use std::alloc::Global;
+use std::sync::Wait;
+use std::thread::Threads;
+
+/// Runs a job, of so many tasks or more and of a session or more, and writes the summary of its first session by this number.
+#[tactic(auto, using(brk_table::proofs::Laws::are_in))]
+pub fn write_trial<T: Threads + Wait + Sync, K: Sink, A: Areas, G: Gate + Sync>(
+    rt: &T,
+    alloc: Global,
+    number: u32,
+    tasks: u32,
+    job: &Job,
+    tables: &Tables,
+    sink: &mut K,
+    areas: &mut A,
+    gate: &G,
+) -> Status
+    requires tasks { tasks ≤ length job.now.tasks }
+    requires session { 0 < length job.now.sessions }
+    requires job { IsReadyJob job.now tables.now }
+    requires room { A.made areas.old < 2 ^ 61 }
+    ensures { Tried A.Areas K.Sink number tasks job.now tables.now areas.old areas.new sink.old sink.new result }
+{
+    let Ok(outcome) = run_job(rt, alloc, areas, gate, job, tables) else {
+        return told(sink, NO_MEMORY, 7);
+    };
+    status_of(trial_text(sink, number, tasks, tables, &outcome))
+}
