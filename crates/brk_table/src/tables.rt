@@ -19,8 +19,8 @@ use s370_decode::Code;
 use std::alloc::Global;
 use std::marker::Model;
 
-/// A module's places in order of address, and for each line of its listing the index of its place, none for a
-/// text line.
+/// A module, by its index among the job's, its places in order of address, and for each line of its listing the index of its
+/// place among these, none for a text line.
 #[derive(Drop)]
 pub struct Table {
     pub module: u32,
@@ -171,8 +171,8 @@ impl Tables {
         Some(PlaceNo(entry - 1))
     }
 
-    /// The place behind the last one where it begins at the address, unless a task returns there, which executes nothing. Found by
-    /// one load: it is mostly the next one that a task comes to.
+    /// The place behind the one of the number `last`, where there is such a place and it begins at the address, unless a task
+    /// returns there, which executes nothing. Found by one load: it is mostly the next one that a task comes to.
     #[inline(always)]
     pub fn next_at(&self, last: u32, a: Addr) -> Option<PlaceNo>
         requires codes { AreAtPlaces self.now }

@@ -1,4 +1,4 @@
-//! Names, numbers, addresses, limits, facts and marks, on which every other crate stands.
+//! Names, numbers, addresses, limits, facts, marks and want of memory, on which every other crate stands.
 #![tactic(auto)]
 
 mod address;

@@ -48,8 +48,8 @@ impl WriteBuffer {
     }
 
     /// Puts the bytes behind those held. When it is full the sink gets all that is held, and then at once what is left
-    /// of the bytes where that is 4,096 or more. Failed only where the sink's count of faults rose; the sink has then
-    /// taken a first part, and what it has not taken is lost.
+    /// of the bytes where that is 4,096 or more. Failed only where the sink's count of faults rose or stands at its end;
+    /// the sink has then taken a first part, and what it has not taken is lost.
     pub fn put<K: Sink>(&mut self, sink: &mut K, bytes: &[u8]) -> Result<(), Failed>
         ensures put { Puts K.written K.faults sink.old sink.new self.old self.new result bytes.now }
         ensures waits { length self.old + length bytes.now < 4096 → sink.new ≡ sink.old }

@@ -241,8 +241,8 @@ pub record IsAnswer (plan : PlanView) (n : Notes) (p : ℕ) (cell : Cell) : Type
   pub over : cell.tag ≢ 0 → is_over plan ((cell.tag + 1) / 2) p ≡ true
   pub lifted : (s : ℕ) → n.free s p ≡ true → cell.half ≡ breakpoint → cell.tag + 1 ≢ 2 * s
 
--- The set that a mark found has what the pass marked before, and facts of the place's kind alone; it is full where
--- the pass met it full.
+-- The set that a mark or a look found has what the pass marked before, and facts of the place's kind alone; it is full
+-- where the pass met it full.
 pub record IsFound (plan : PlanView) (n : Notes) (s p : ℕ) (found : FactSet) : Type 0 where
   pub own : (f : Fact) → n.marked s p f ≡ true → has_fact found f ≡ true
   pub within : is_within (kind_at plan p) found ≡ true

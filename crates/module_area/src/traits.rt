@@ -12,7 +12,7 @@ use crate::cells::Cell;
 use cov_base::{Bits, Fact, PlaceNo, SessNo, TaskNo};
 
 /// The cells of one area. Each call names a place of the plan and needs a pass of this area whose tally sums to
-/// less than 2^62; it raises the count of its own kind by one, `lift` only where it answers true.
+/// less than 2^62; it raises the count of its own kind by one, `lift` and `mark_again` only where they answer true.
 pub trait Cells {
     /// In which a task's thread carries what it has done and knows.
     type Pass: Drop;
@@ -139,8 +139,8 @@ pub trait Forks: Cells {
 /// closed. The number is 0 before the task runs, rises by 2 at each boundary and by 1 at the last, and so is odd once the
 /// task has ended.
 pub trait Drains: Forks {
-    /// The pass's task has ended an instruction, or its run: its number rises by 2, or by 1, and what the pass fetched
-    /// last can no longer be marked. After its run's end the pass doesn't fetch.
+    /// The pass's task has ended an instruction, or its run: its number, below 2^62 before, rises by 2, or by 1, and what
+    /// the pass fetched last can no longer be marked. After its run's end the pass doesn't fetch.
     fn boundary(&self, pass: &mut Self::Pass, ended: bool)
         requires area { Self.is_pass self.now pass.old }
         requires working { is_working (Self.notes pass.old) ≡ true }

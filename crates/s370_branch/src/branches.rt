@@ -9,8 +9,8 @@ use cov_base::Addr;
 use s370_decode::{Code, Group, Op, op_of};
 use s370_state::{Cpu, indexed, signed};
 
-/// Whether the mask selects the condition code: its bits 8, 4, 2 and 1 are for the codes 0 to 3. Without a branch, which the
-/// processor would foresee ill, and in a few of its instructions.
+/// Whether the mask selects the condition code: its bits 8, 4, 2 and 1 are for the codes 0 to 3. Without a branch of
+/// the host's, which it would foresee ill, and in a few of its instructions.
 fn is_selected(mask: u8, code: u8) -> bool
     requires mask { mask < 16 }
     requires code { code ≤ 3 }

@@ -134,8 +134,8 @@ fn edit_pattern<P: Space>(cpu: &mut Cpu, space: &mut P, code: &Code, marks: bool
 /// that the last one stays. All tests are made, and the whole result is formed, before anything is changed. The task
 /// ends with code 5 where a byte of the pattern, or a source byte up to the last that is read, is inaccessible, 4 where
 /// the pattern is not private, Touched by a touch byte among those source bytes, and 7 by a left digit above 9, behind
-/// which no source byte is read; all without a change. The condition code is 0 for a last field that is zero, else 1
-/// where the significance indicator is on, 2 where it is off. The instruction address is left as it is. Takes no
+/// which no source byte is read; all without a change. The condition code is 0 for a last field that is zero or empty,
+/// else 1 where the significance indicator is on, 2 where it is off. The instruction address is left as it is. Takes no
 /// memory.
 pub fn edit<P: Space>(cpu: &mut Cpu, space: &mut P, code: &Code, op: Op) -> Next
     requires { group_of op ≡ Group.Edit }

@@ -13,7 +13,7 @@ pub struct Digit {
     pub value: u8,
     /// The digit behind it in its byte, where it is a left digit and no sign follows.
     pub right: Option<u8>,
-    /// The source bytes that have been read.
+    /// How many source bytes have been read.
     pub taken: u32,
     /// A plus sign follows it in its byte.
     pub plus: bool,
@@ -22,7 +22,7 @@ pub struct Digit {
 /// How far a pattern has been worked.
 #[derive(Clone, Copy)]
 pub struct Working {
-    /// The source bytes that have been read.
+    /// How many source bytes have been read.
     pub taken: u32,
     /// The right digit of the last of them, while it waits to be taken.
     pub right: Option<u8>,

@@ -7,13 +7,13 @@ use cov_base::Addr;
 /// How a task ends.
 #[derive(Clone, Copy, PartialEq, Eq)]
 pub enum Ending {
-    /// It returned to the address in register 14 as it began, X'FFFFFE'.
+    /// Before an instruction the instruction address was X'FFFFFE', `RETURN_ADDRESS`.
     Returned,
     /// By the task call SVC 3.
     Exit,
     /// By a program interruption with this code, X'1' to X'B'.
     Abend(u8),
-    /// By an SVC whose number is no task call.
+    /// By an SVC of this number, which is no task call and which nothing else answers.
     BadSvc(u8),
     /// It read a touch byte, the first at this address.
     Touched(Addr),

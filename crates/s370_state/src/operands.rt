@@ -12,8 +12,8 @@ use crate::space::{Refused, Space};
 use cov_base::Addr;
 use s370_decode::Code;
 
-/// The second operand's address in the RX format. Below six bytes its fields are the first operand's, which are read without a
-/// test of the length: a caller mostly knows it.
+/// The second operand's address in the RX format. Below six bytes its fields stand where the first operand's do, so that the
+/// length is asked once for both.
 #[inline(always)]
 #[tactic(auto, unfolding(s370_decode::specs::Meaning::b1, s370_decode::specs::Meaning::d1, s370_decode::specs::Meaning::b2, s370_decode::specs::Meaning::d2))]
 pub fn indexed(cpu: &Cpu, code: &Code) -> Addr

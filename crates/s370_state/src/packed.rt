@@ -14,7 +14,7 @@ use cov_base::Addr;
 /// What a field holds.
 #[derive(Clone, Copy)]
 pub struct Field {
-    /// The number of its digits, at most 31.
+    /// The number that its digits make, below 10^31.
     pub magnitude: u128,
     /// Whether its sign is minus, which that of a zero may be too.
     pub minus: bool,
@@ -283,7 +283,7 @@ pub fn field_at<P: Space>(space: &P, at: Addr, l: u8) -> Option<Field>
     }
 }
 
-/// The field as a number, where a zero has no sign.
+/// The field, whose magnitude is below 10^31, as a number, where a zero has no sign.
 #[tactic(auto, unfolding(crate::specs::Meaning::number))]
 pub fn number(f: Field) -> i128
     requires { f.magnitude < 10000000000000000000000000000000 }

@@ -1,4 +1,4 @@
-//! The bytes that private storage begins with.
+//! The bytes that private storage begins with, and stores and copies that lie in it whole.
 ghost use Rattle.std.specs.Prelude.{◌≡◌, ◌+◌, ◌*◌, ◌<◌, ◌≤◌, length, All, IfOk};
 ghost use Rattle.cov_base.specs.Meaning.{Memory};
 ghost use Rattle.s370_state.specs.Fields.{copied, words_stored};
