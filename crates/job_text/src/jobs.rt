@@ -29,6 +29,7 @@ pub enum JobFault {
     /// The first line with which a limit is passed, where the lines up to it begin a job. Of several limits it is
     /// the first in the order of `Limit`.
     TooLarge { what: Limit, line: u32 },
+    /// A growth was refused by the allocator, which may come at any line.
     NoMemory,
 }
 

@@ -1,4 +1,4 @@
-//! Which bytes spell a job, and reading one.
+//! Which bytes spell a job, reading one, and the items of a schedule behind it.
 #![tactic(auto)]
 
 mod binding;

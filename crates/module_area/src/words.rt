@@ -7,7 +7,7 @@ use crate::plan::Plan;
 use cov_base::PlaceNo;
 use std::alloc::{AllocError, Global};
 
-/// The cell of a word.
+/// The cell of a word below 2^48: the halfword is its last 16 bits, and the tag what stands above them.
 pub fn cell(word: u64) -> Cell
     requires { word / 65536 < 2 ^ 32 }
     ensures { result ≡ cell_of word }

@@ -238,8 +238,9 @@ fn carry_out_apart<P: Space>(
     }
 }
 
-/// Executes an instruction of a frequent operation, with the updated address; one of another operation it leaves as it is.
-/// The frequent ones have their steps here or in a call of their own. Where the task has ended `end` tells how.
+/// Executes an instruction of a frequent operation, under no EX, with the updated address and the second operand's base and
+/// displacement. None of another operation, which it leaves as it is. The frequent ones have their steps here or in a call of
+/// their own. Where the task has ended `end` tells how.
 #[inline(always)]
 pub fn execute_frequent<P: Space>(
     cpu: &mut Cpu,

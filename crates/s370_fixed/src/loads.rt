@@ -1,4 +1,5 @@
-//! Loads and stores of one register, and complements. Each call does what `fixed` does for its operation, refusals too.
+//! Loads and stores of one register, and complements. Each call does what `fixed` does for its operation, refusals too. Where
+//! it is given an address, that is the second operand's, with its index.
 #![tactic(auto, using(s370_state::proofs::Laws::at_once, s370_state::proofs::Laws::passes, s370_state::proofs::Laws::refuses))]
 
 ghost use Rattle.std.specs.Prelude.{◌≡◌, ◌<◌, ◌≤◌, ℤ, pos, neg_ℤ, ◌≤ℤ◌, ◌<ℤ◌, if◌then◌else◌};

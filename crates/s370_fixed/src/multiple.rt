@@ -1,4 +1,4 @@
-//! Loads and stores of several registers.
+//! Loads and stores of several registers. Where a call is given an address, that is the second operand's.
 #![tactic(auto, using(s370_state::proofs::Laws::at_once, s370_state::proofs::Laws::passes, s370_state::proofs::Laws::refuses))]
 
 ghost use Rattle.std.specs.Prelude.{◌≡◌, ◌+◌, ◌-◌, ◌*◌, ◌%◌, ◌<◌, ◌≤◌, true};
@@ -84,7 +84,8 @@ fn store_words<P: Space>(cpu: &Cpu, space: &mut P, r: u8, at: Addr, n: u8)
     }
 }
 
-/// LM where the words stand in private storage, and no register 0 comes behind register 15. Else it is false, and nothing is done.
+/// LM where the words are seen at once to stand in private storage, and no register 0 comes behind register 15. Else it is
+/// false, and nothing is done.
 #[inline(always)]
 pub fn load_multiple_own<P: Space>(cpu: &mut Cpu, space: &mut P, code: &Code, at: Addr) -> bool
     requires at { at ≡ e2 cpu.old code.now }
@@ -106,7 +107,8 @@ pub fn load_multiple_own<P: Space>(cpu: &mut Cpu, space: &mut P, code: &Code, at
     }
 }
 
-/// STM where the words go to private storage, and no register 0 comes behind register 15. Else it is false, and nothing is done.
+/// STM where the words are seen at once to go to private storage, and no register 0 comes behind register 15. Else it is
+/// false, and nothing is done.
 #[inline(always)]
 pub fn store_multiple_own<P: Space>(cpu: &mut Cpu, space: &mut P, code: &Code, at: Addr) -> bool
     requires at { at ≡ e2 cpu.old code.now }

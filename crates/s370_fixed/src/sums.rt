@@ -1,4 +1,5 @@
-//! Sums, differences and comparisons. Each call does what `fixed` does for its operation, refusals too.
+//! Sums, differences and comparisons. Each call does what `fixed` does for its operation, refusals too. Where it is given an
+//! address, that is the second operand's, with its index.
 #![tactic(auto, using(s370_state::proofs::Laws::at_once, s370_state::proofs::Laws::passes, s370_state::proofs::Laws::refuses))]
 
 ghost use Rattle.std.specs.Prelude.{◌≡◌, ◌+◌, ◌-◌, ◌%◌, ◌<◌, ◌≤◌, ℤ, pos, neg_ℤ, ◌+ℤ◌, ◌-ℤ◌, ◌≤ℤ◌, ◌<ℤ◌, if◌then◌else◌, slice_set, slice_index};

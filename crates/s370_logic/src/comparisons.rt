@@ -139,7 +139,8 @@ pub fn compare_immediate<P: Space>(cpu: &mut Cpu, space: &mut P, code: &Code) ->
     Next::On
 }
 
-/// CLC where both operands lie in private storage. Else it is false, and nothing is done.
+/// CLC where both operands, of which the second's address is given, are seen at once to lie in private storage. Else it is
+/// false, and nothing is done.
 #[inline(always)]
 pub fn compare_fields_own<P: Space>(cpu: &mut Cpu, space: &mut P, code: &Code, second: Addr) -> bool
     requires second { second ≡ e2 cpu.old code.now }

@@ -1,4 +1,5 @@
-//! One byte in storage, and the program mask.
+//! One byte in storage, and the program mask. Each call does what `logic` does for its operation, refusals too. Where it is
+//! given an address, that is the second operand's, with its index.
 #![tactic(auto, using(s370_state::proofs::Laws::at_once, s370_state::proofs::Laws::passes, s370_state::proofs::Laws::refuses))]
 
 ghost use Rattle.std.specs.Prelude.{◌≡◌, ◌+◌, ◌*◌, ◌/◌, ◌%◌, ◌<◌, ◌≤◌, ◌==◌, if◌then◌else◌};

@@ -84,14 +84,14 @@ pub trait Space {
         ensures memory { memory self.new ≡ memory self.old }
         ensures bytes { bytes self.new ≡ store_number (bytes self.old) at 4 value };
 
-    /// Changes the bytes of words from a private address on, of which each is private, and no other.
+    /// Changes the bytes of at most 16 words from a private address on, of which each is private, and no other.
     fn put_words(&mut self, at: Addr, from: &[u32])
         requires most { length from.now ≤ 16 }
         requires store { can_store (memory self.old) at (4 * length from.now) ≡ true }
         ensures memory { memory self.new ≡ memory self.old }
         ensures bytes { bytes self.new ≡ words_stored (bytes self.old) at from.now (length from.now) };
 
-    /// Changes the bytes from a private address on, of which each is private, and no other.
+    /// Changes at most 2^24 bytes from a private address on, of which each is private, and no other.
     fn put_slice(&mut self, at: Addr, from: &[u8])
         requires most { length from.now ≤ 16777216 }
         requires store { can_store (memory self.old) at (length from.now) ≡ true }

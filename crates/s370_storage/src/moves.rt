@@ -66,7 +66,8 @@ fn move_parts<P: Space>(part: Part, cpu: &Cpu, space: &mut P, code: &Code) -> Ne
     Next::On
 }
 
-/// MVC where both operands lie in private storage. Else it is false, and nothing is done.
+/// MVC where both operands, of which the second's address is given, are seen at once to lie in private storage. Else it is
+/// false, and nothing is done.
 #[inline(always)]
 #[tactic(auto, using(s370_state::proofs::Laws::passes, crate::proofs::Steps::moved_copied))]
 pub fn move_characters_own<P: Space>(
