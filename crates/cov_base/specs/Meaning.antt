@@ -130,6 +130,7 @@ pub record Memory : Type 0 where
   -- the address is in the first two bytes of a place
   pub is_touch : ℕ → Bool
 
+-- a number as an address, modulo 2^24
 abbrev pub wrap : ℕ → ℕ
 wrap a = a % 16777216
 
@@ -190,6 +191,7 @@ abbrev pub unpadded : List ℕ → List ℕ
 unpadded [] = []
 unpadded (b ∷ bs) = if nat_eq b 32 then [] else b ∷ unpadded bs
 
+-- the name that the word spells, filled with blanks
 abbrev pub name_at : List ℕ → Option (List ℕ)
 name_at w = if is_name w then Some (padded w) else None
 
@@ -199,6 +201,7 @@ is_filled field = is_name (unpadded field) && bytes_eq (padded (unpadded field))
 
 -- A text's words.
 
+-- the byte in front of the first word
 abbrev pub put_first : ℕ → List (List ℕ) → List (List ℕ)
 put_first b [] = (b ∷ []) ∷ []
 put_first b (w ∷ ws) = (b ∷ w) ∷ ws
@@ -210,7 +213,7 @@ words (b ∷ bs) = if nat_eq b 32 then [] ∷ words bs else put_first b (words b
 
 -- The state of a task, and what its run visits.
 
--- registers, instruction address, condition code and program mask
+-- registers 0 to 15, instruction address, condition code (0 to 3) and program mask (0 to 15)
 pub record CpuView : Type 0 where
   pub regs : List ℕ
   pub ia : ℕ

@@ -500,6 +500,7 @@ IsWithin j = (what : Limit) → keeps what j ≡ true
 abbrev pub Passes : Grammar → Limit → List LineView → Type 0
 Passes g what lines = (rest : List LineView) (job : JobView) → Spells g Named (lines ++ rest) job → keeps what job ≡ false
 
+-- the order in which limits are told
 abbrev pub rank : Limit → ℕ
 rank limit.Input = 0
 rank limit.Modules = 1

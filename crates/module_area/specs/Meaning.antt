@@ -25,7 +25,7 @@ fresh_word p = record { tag = 0; half = p.original }
 
 -- A phase's plan: the places, what observes each of them, and the tasks.
 
--- a session that a task opens and closes, and its places
+-- a session that a task opens and closes, both by their numbers, and its places, rising
 pub record ControlledView : Type 0 where
   pub session : ℕ
   pub by : ℕ
@@ -33,9 +33,13 @@ pub record ControlledView : Type 0 where
 
 pub record PlanView : Type 0 where
   pub places : List Place
+  -- for each place the number of the whole session over it, or 0
   pub windows : List ℕ
+  -- in job order
   pub controlled : List ControlledView
+  -- those of the phase
   pub tasks : List TaskNo
+  -- how many the whole job has
   pub sessions : ℕ
 
 abbrev pub no_place : Place
@@ -130,6 +134,7 @@ fact_count s = (if s.ran then 1 else 0) + (if s.went then 1 else 0) + (if s.stay
 
 -- The sets that an area ends with.
 
+-- how many places there are, and the sets of session 1 at each of them, then those of session 2, and so on
 pub record FinalsView : Type 0 where
   pub places : ℕ
   pub sets : List FactSet

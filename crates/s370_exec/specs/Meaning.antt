@@ -94,6 +94,7 @@ pub record Effect : Type 0 where
 abbrev pub unchanged : Machine → IoView → Next → Effect
 unchanged s io next = record { machine = s; io = io; next = next }
 
+-- with this instruction address
 abbrev pub at_address : Machine → ℕ → Machine
 at_address s a = record { cpu = record { regs = s.cpu.regs; ia = a; condition = s.cpu.condition; mask = s.cpu.mask }; bytes = s.bytes }
 

@@ -125,13 +125,17 @@ pub data Outcome : Type 0 where
   Completes : Machine → Outcome
   -- completes; a code that isn't 0 then ends the task, if the mask has its bit
   Overflows : Machine → ℕ → Outcome
+  -- ends the task by a program interruption with this code, and changes nothing
   Program : ℕ → Outcome
 
+-- whether registers, lengths and alignment are as the operation needs them, its uses in the order of their tests, and what
+-- comes of it where every test passes
 pub record Row : Type 0 where
   pub well : Bool
   pub uses : List Use
   pub outcome : Outcome
 
+-- what an operation has made of the machine, and how the task goes on
 pub record After : Type 0 where
   pub machine : Machine
   pub next : Next
@@ -142,6 +146,7 @@ reads a n = record { at = a; size = n; stores = false }
 abbrev pub stores : ℕ → ℕ → Use
 stores a n = record { at = a; size = n; stores = true }
 
+-- each byte of these uses is accessible; each that is stored is private; the first touch byte of those that are only read
 unfoldable pub all_reached : Memory → List Use → Bool
 all_reached m [] = true
 all_reached m (u ∷ us) = can_reach m u.at u.size && all_reached m us
@@ -165,6 +170,7 @@ use_tests m us = if all_reached m us then (if all_stored m us then touch_ending 
 unfoldable pub tests : Memory → Bool → List Use → Option Ending
 tests m well us = if well then use_tests m us else Some (Abend 6)
 
+-- the mask's first bit is that of code 8, and its second that of code X'A'
 unfoldable pub is_enabled : ℕ → ℕ → Bool
 is_enabled mask code = if code == 8 then nat_le 8 mask else (mask / 4) % 2 == 1
 

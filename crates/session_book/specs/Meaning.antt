@@ -18,6 +18,7 @@ pub record SessionView : Type 0 where
   pub modules : List ℕ
   pub by : Option ℕ
 
+-- a task: its phase by index, its private storage and its output's room in bytes, its budget in instructions
 pub record TaskView : Type 0 where
   pub name : List ℕ
   pub phase : ℕ
