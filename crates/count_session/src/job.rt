@@ -47,8 +47,8 @@ fn has_module(session: &Session, m: u32) -> bool
 }
 
 impl<'a> JobCounts<'a> {
-    /// How often the executions of the session, which is one of the job, gave the fact at the place, which is one of the
-    /// tables.
+    /// How often the fact was counted for the session, which is one of the job, at the place, which is one of the tables; 0 at
+    /// a place of a module that the session doesn't name.
     pub fn get(&self, s: SessNo, place: PlaceNo, fact: Fact) -> u64
         requires some { 0 < s.0 }
         requires session { s.0 ≤ length self.now.job.sessions }
@@ -71,7 +71,7 @@ pub struct Counted<'a> {
 }
 
 impl<'a> Counted<'a> {
-    /// How often the session's executions gave the fact at the place; the numbers exist.
+    /// The same of its counts.
     pub fn get(&self, s: SessNo, place: PlaceNo, fact: Fact) -> u64
         requires some { 0 < s.0 }
         requires session { s.0 ≤ length self.now.counts.job.sessions }

@@ -1,4 +1,4 @@
-//! The commands of the coverage utility: what the words of a command line ask for, and its answer over a source and a sink.
+//! The commands of the coverage utility: what each asks of its input, and its answer over a source, a sink and areas.
 #![tactic(auto)]
 
 mod answering;

@@ -34,6 +34,7 @@ fn words_of(rt: &HostRuntime) -> Result<Vec<String>, AllocError> {
 fn main(rt: HostRuntime) -> ExitCode {
     let alloc = rt.alloc();
     let writer = BufWriter::with_capacity(alloc, 65_536, rt.stdout());
+    // One for each phase of a job.
     let areas = SharedAreas::new(alloc, 16);
     let (Ok(words), Ok(writer), Ok(mut areas)) = (words_of(&rt), writer, areas) else {
         return ExitCode::from(7);

@@ -1,4 +1,4 @@
-//! Sets of sessions that are final before all tasks of their phase have returned, and the report that tells of it.
+//! Sets of sessions that are final before all tasks of their phase have ended, and the report that tells of it.
 #![tactic(auto)]
 
 mod drains;

@@ -24,10 +24,10 @@ pub enum ProveFault {
 
 /// Writes evidence of the facts of a whole session of the job: for each place of its marks, in the order of its marks
 /// files, and each fact of its set in the order Ran, Went, Stayed, which visit of which task was the first to show it.
-/// The tables are those of the job's listings. Each task of the session's phase is run once, alone. Memory is linear in
-/// the places, beside one task's storage at a time, and all of it is taken before the first byte is written, so
-/// NoMemory leaves the sink as it was. Failed comes only where the sink's count of faults rose; the sink has then taken
-/// a first part of the evidence.
+/// The tables are those of the job's listings. Each task of the session's phase is run once, alone and without services, also
+/// where the job has some. Memory is linear in the places, beside one task's storage at a time, and all of it is taken before
+/// the first byte is written, so NoMemory leaves the sink as it was. Failed comes only where the sink's count of faults rose;
+/// the sink has then taken a first part of the evidence.
 pub fn prove<K: Sink>(
     alloc: Global,
     sink: &mut K,

@@ -31,8 +31,8 @@ pub enum VerifyFault {
 /// Verifies that the marks have the sets of a whole session of the job, and that the bytes are their evidence as `prove`
 /// writes it; the answer is the number of facts. The marks have the table of the session, whatever their name and runs.
 /// Evidence is read as so many entries as the marks have facts, and BadEvidence comes before Refuted. Each task of the
-/// session's phase is run once, alone, and nothing is kept of its trace: memory is linear in the places, beside one
-/// task's storage at a time.
+/// session's phase is run once, as `prove` runs it, and nothing is kept of its trace: memory is linear in the places,
+/// beside one task's storage at a time.
 pub fn verify(
     alloc: Global,
     job: &Job,

@@ -24,8 +24,8 @@ fn letter(letter: u8) -> Name
 }
 
 /// The generated job of a number and 1 to 64 tasks. Its module M at X'100000' has 400 blocks, drawn from the number
-/// on by a linear congruential generator, and has at most 3,206 bytes. It is monitored in its one phase P by session
-/// S. Each task goes through it 200 times, in fewer than 250,000 instructions, and then returns.
+/// on by a linear congruential generator, at most 3,206 bytes, and a listing. Session S observes it in the one phase P.
+/// Each task goes through it 200 times, in fewer than 250,000 instructions, and then returns.
 pub fn trial(alloc: Global, number: u32, tasks: u32) -> Result<Job, NoMemory>
     requires some { 1 ≤ tasks }
     requires most { tasks ≤ 64 }

@@ -47,7 +47,7 @@ pub fn is_set(of_kind: Kind, number: u8) -> bool
     }
 }
 
-/// Whether a module may stand there: on a doubleword from X'100000' on, with room for two bytes.
+/// Whether a module may stand there: on a doubleword from X'100000' to X'FFEFF8'.
 #[tactic(auto, unfolding(crate::specs::Meaning::is_base))]
 pub fn is_base(base: u32) -> bool
     ensures { result ≡ is_base base }
@@ -80,7 +80,7 @@ pub fn is_size(earlier: &[MarkedModule], base: u32, size: u32) -> bool
         && are_clear(earlier, base, size)
 }
 
-/// Whether so many places may follow those of the earlier modules, which are so many.
+/// Whether so many places may follow those of the earlier modules, which are `before`: 65,536 together at most.
 #[tactic(auto, unfolding(crate::specs::Meaning::is_count))]
 pub fn is_count(before: u32, count: u32) -> bool
     requires { before ≤ 65536 }
@@ -89,7 +89,7 @@ pub fn is_count(before: u32, count: u32) -> bool
     count <= 65_536 - before
 }
 
-/// Whether a file may have so many modules.
+/// Whether a file may have so many modules: 1 to 16.
 #[tactic(auto, unfolding(crate::specs::Meaning::is_module_count))]
 pub fn is_module_count(count: u16) -> bool
     ensures { result ≡ is_module_count count }

@@ -81,7 +81,7 @@ row_text (Some row) = hex_bytes row
 abbrev pub other_table_line : Difference → List ℕ
 other_table_line d = codes "OTHER TABLE ROW " ++ decimal d.row ++ codes " LEFT " ++ row_text d.left ++ codes " RIGHT " ++ row_text d.right ++ 10 ∷ []
 
--- the first bad field of evidence, by its offset from the evidence's first byte
+-- the first bad field, or the first byte past the last entry, by its offset from the evidence's first byte
 abbrev pub bad_evidence_line : ℕ → List ℕ
 bad_evidence_line offset = codes "BAD EVIDENCE OFFSET " ++ decimal offset ++ 10 ∷ []
 

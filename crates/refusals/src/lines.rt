@@ -139,7 +139,7 @@ pub fn other_table_line(other: &OtherTable) -> ArrayVec<u8, 160>
     line
 }
 
-/// The field of the evidence at the offset is the first bad one, counted from the evidence's first byte.
+/// The first bad field, or the first byte past the last entry, is at the offset from the evidence's first byte.
 pub fn bad_evidence_line(offset: usize) -> ArrayVec<u8, 160>
     ensures { result.items ≡ bad_evidence_line offset }
 {

@@ -13,7 +13,7 @@ use Rattle.phase_plan.specs.Sets.{AreWithin}
 abbrev pub HasFewLines : JobView → Type 0
 HasFewLines job = All (λ listing. IfSome listing (λ lines. length lines ≤ INPUT_LIMIT)) job.listings
 
--- each place lies in its module
+-- each place lies in its module, and each line has a number
 pub record AreTablesOf (job : JobView) (tables : TablesView) : Type 0 where
   pub within : All (IsIn job.images) tables.places
   pub lines : HasFewLines job

@@ -14,7 +14,8 @@ use std::alloc::Global;
 use std::sync::Wait;
 use std::thread::Threads;
 
-/// Runs a job, of so many tasks or more and of a session or more, and writes the summary of its first session by this number.
+/// Runs a job that has so many tasks at least and a session, each task alone, and writes the summary of the first session, in
+/// which the job bears this number.
 #[tactic(auto, using(brk_table::proofs::Laws::are_in))]
 pub fn write_trial<T: Threads + Wait + Sync, K: Sink, A: Areas, G: Gate + Sync>(
     rt: &T,

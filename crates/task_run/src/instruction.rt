@@ -48,8 +48,9 @@ fn first_at(tables: &Tables, space: &TaskSpace<'_>, at: Addr) -> Result<First, E
     }
 }
 
-/// Executes the subject of an EX that was begun, and has its visit noted. Code 6 exactly at an odd address, else code 5
-/// exactly where its first halfword is inaccessible, else code 3 exactly where it is itself EX, which is not begun.
+/// Executes the subject of an EX that was begun, and has its visit noted. It has no visit at an odd address, code 6, nor where its
+/// first halfword is inaccessible, code 5. It isn't begun where it is itself EX, code 3, nor where a later halfword is refused,
+/// code 5 or Touched.
 #[inline(never)]
 fn step_subject<O: Observer>(
     observer: &O,

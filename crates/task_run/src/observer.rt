@@ -98,7 +98,8 @@ pub trait Observer {
         ensures tied { (c : ControlView) → IsTied self.now pass.old c → IsTied self.now pass.new c }
         ensures makes { Makes self.now tables.now pass.old (refused_visit sight ∷ []) pass.new };
 
-    /// Takes in an instruction whose visits it was shown, by its first halfword: a supervisor call is answered.
+    /// Takes in an instruction whose visits it was shown, by its first halfword, which of a subject of EX is as the EX changes it: a
+    /// supervisor call is answered.
     fn called(
         &self,
         pass: &mut Self::Pass,
