@@ -22,7 +22,7 @@ pub enum Command {
     Count(Grammar),
     /// `marks NAME`: the marks file of a session of a job that is run.
     Marks { name: Name, grammar: Grammar },
-    /// `trial NUMBER TASKS`: the summary of a generated job that is run.
+    /// `trial NUMBER TASKS`: the summary of a generated job that is run, of 1 to 64 tasks.
     Trial { number: u32, tasks: u32 },
     /// `table`: the places of its modules.
     Table(Grammar),

@@ -12,7 +12,7 @@ pub enum Event {
     Mark(TaskNo),
     /// It takes the breakpoint out by one try, where its mark left the set full.
     Lift(TaskNo),
-    /// It executes the instruction, or ends before one.
+    /// It executes the instruction, an EX only up to its subject where a place begins there, or ends before one.
     Do(TaskNo),
     /// The session's breakpoint is planted at the place: by the planter for a whole session, by its controller as it
     /// opens it for another.

@@ -96,7 +96,7 @@ fn whole_sessions(job: &Job) -> Result<(), Refusal>
 }
 
 /// The number of the session that is asked for by its name, and 0 where none is; or why the job's sessions are not as is
-/// asked.
+/// asked: 13 where none has the name, 14 where one has a controller that may have none.
 pub fn asked_session(job: &Job, asked: &Asked) -> Result<SessNo, Refusal>
     ensures session { IfOk result (λ s. HasSession asked.now job.now s.0) }
     ensures asked { IfOk result (λ _. HasAsked asked.now job.now) }

@@ -23,7 +23,8 @@ fn combine_refusal(fault: CombineFault) -> Refusal
     }
 }
 
-/// Unites the files that the bytes are, and writes the file of their union.
+/// Unites the files that the bytes are, and writes the file of their union. Refused by 10 at the first bad field, and by 11 at the
+/// first file of another table than the first one's.
 pub fn write_union<K: Sink>(alloc: Global, bytes: &[u8], sink: &mut K) -> Status
     ensures { Tells K.Sink (IsUnited bytes.now) sink.old sink.new result }
 {

@@ -1,4 +1,5 @@
 //! What commands answer of a job that is ready, or of marks files, without threads or areas; and how a job is made ready.
+//! A status is 0 where the text was written whole, 6 where the sink failed, 7 where memory was wanting, or that of a refusal.
 #![tactic(auto)]
 
 mod asked;

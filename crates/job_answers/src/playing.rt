@@ -11,7 +11,8 @@ use schedule_play::{ScheduleFault, replay, replay_text};
 use session_book::Job;
 use std::alloc::Global;
 
-/// Plays the schedule behind a job's lines, so many, and writes what its items have shown.
+/// Plays the schedule behind a job's lines, so many, and writes what its items have shown. Refused by 9 at the first line that is no
+/// item or isn't possible, where the schedule has no end or lines behind it, and where the job hasn't one phase.
 pub fn write_schedule<K: Sink>(
     alloc: Global,
     job: &Job,

@@ -13,7 +13,7 @@ use refusals::{NO_MEMORY, Status, told};
 use session_book::Job;
 use std::alloc::Global;
 
-/// Writes the evidence of session s of a job.
+/// Writes the evidence of session s of a job, which has no controller. No refusal.
 pub fn write_evidence<K: Sink>(
     alloc: Global,
     job: &Job,

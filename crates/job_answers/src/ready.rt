@@ -52,7 +52,8 @@ fn read_tables(alloc: Global, job: &Job) -> Result<Tables, Refusal>
 }
 
 /// Reads the source to its end, the job of its lines, the number of the session that is asked for by its name, and the
-/// tables of the job's listings; or the first refusal of these, in this order. What stands behind the job is the caller's
+/// tables of the job's listings; or the first refusal of these, in this order: 5 or 4 of the source, 2 or 4 of the job, 13 or 14
+/// of its sessions, 12, 4, 8 or 3 of its listings; and 7 where memory is wanting. What stands behind the job is the caller's
 /// where the form lets more stand there; else nothing does.
 pub fn make_ready<S: Source>(
     alloc: Global,

@@ -85,7 +85,8 @@ fn show_text<K: Sink, R: FactSets>(
     put(sink, words_line(b"END"))
 }
 
-/// Writes the listings of the session that is named, marked by the file that stands behind a job.
+/// Writes the listings of the session that is named, marked by the file that stands behind a job. Refused by 10 where what stands
+/// there isn't one marks file, and by 11 where the file's table isn't the session's.
 pub fn write_shown<K: Sink>(alloc: Global, ready: &Ready, sink: &mut K) -> Status
     requires from { 0 < ready.now.session.0 }
     requires to { ready.now.session.0 ≤ length ready.now.input.job.sessions }

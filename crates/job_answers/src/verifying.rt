@@ -81,7 +81,9 @@ fn facts_behind(
     }
 }
 
-/// Says whether the marks and the evidence that stand behind a job are those of session s of it, of that name.
+/// Says whether the marks and the evidence that stand behind a job are those of session s of it, of that name, which has no
+/// controller. Refused by 10 where no marks file begins there, by 11 where its table isn't the session's, by 15 at the evidence's
+/// first bad field, and by 16 at the first claim that the session's executions refute.
 pub fn write_verdict<K: Sink>(
     alloc: Global,
     name: &Name,

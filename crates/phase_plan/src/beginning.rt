@@ -28,7 +28,7 @@ fn images_of(job: &Job) -> &Images
     &job.images
 }
 
-/// A task as its card says, over the job's modules and the tables of their listings.
+/// Task t of the job, which numbers from 0, as its card says, over the job's modules and the tables of their listings.
 pub fn begin<'a>(
     alloc: Global,
     job: &'a Job,

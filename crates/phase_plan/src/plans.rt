@@ -126,8 +126,9 @@ fn controlled_of(
     Ok(controlled)
 }
 
-/// The plan of a phase of the job, over the tables of the job's listings: every place, the number of the whole
-/// session that observes it in this phase, or 0, the phase's controlled sessions with their places, and its tasks.
+/// The plan of a phase of the job, which numbers from 0, over the tables of the job's listings: every place, the number of the
+/// whole session that observes it in this phase, or 0, the phase's controlled sessions with their places, its tasks, and how many
+/// sessions the whole job has.
 pub fn plan_of(alloc: Global, job: &Job, tables: &Tables, phase: u32) -> Result<Plan, NoMemory>
     requires phase { phase < length job.now.phases }
     ensures { IfOk result (λ plan. plan ≡ plan_view job.now tables.now.places phase) }

@@ -1,4 +1,5 @@
-//! What a run of a job's tasks over areas tells: its report, the marks of a session, the report with drains, a summary.
+//! What a run of a job's tasks over areas tells: its report, the marks of a session, the report with drains, a summary. No
+//! function refuses: its status is 0 where the text was written whole, 6 where the sink failed, and 7 where memory was wanting.
 #![tactic(auto)]
 
 mod early;

@@ -7,8 +7,8 @@ ghost use Rattle.table_combine.specs.Combine.{first_row, IsDifference, IsDiffere
 use arrayvec::ArrayVec;
 use marks_file::{MarkedModule, MarkedPlace, module_row, place_row};
 
-/// The tables differ: the first row that differs, numbered from 0 over the table, and what it is in each table; none
-/// where the table has no such row.
+/// The tables differ: the first row that differs, numbered from 0 over the table, and what it is in each table, 20 bytes of a
+/// module or 8 of a place; none where the table has no such row.
 #[derive(Drop)]
 pub struct OtherTable {
     pub row: u32,
