@@ -40,7 +40,7 @@ const LATE: [(Event, bool); 16] = [
     (Event::Do(A), true),
 ];
 
-/// Without task A, session 1 is quiet from its last close on.
+/// Task A fetches nothing before the last close: session 1 is quiet from that on.
 const ALONE: [(Event, bool); 9] = [
     (Event::Plant(S1, PlaceNo(0)), false),
     (Event::Plant(S1, PlaceNo(1)), false),
@@ -77,7 +77,7 @@ fn session(alloc: Global, name: &[u8]) -> Result<Session, Fail>
     })
 }
 
-/// Task A begins in the module, and task C opens and closes both sessions.
+/// A task that begins at this address, with these bytes from address 0 on.
 fn task(alloc: Global, name: &[u8], entry: u32, bytes: &[u8]) -> Result<TaskCard, Fail>
     requires entry { entry ≤ 2000000 }
     requires bytes { length bytes.now ≤ 16 }

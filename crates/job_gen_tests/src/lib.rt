@@ -1,4 +1,4 @@
-//! Tests of job_gen: generated jobs, byte by byte.
+//! Tests of job_gen: the bytes, the lines and the tasks of generated jobs.
 #![tactic(auto)]
 
 #[cfg(test)]

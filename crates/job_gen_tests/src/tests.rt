@@ -1,4 +1,4 @@
-//! A job's first and last bytes and lines, and its tasks; and that a number makes one job.
+//! A job's first and last bytes and lines, and its tasks; and that a number makes one module, for however many tasks.
 ghost use Rattle.std.specs.Prelude.{◌≤◌};
 
 use cov_base::Name;

@@ -1,4 +1,4 @@
-//! Faults of source and sink at each call in turn, of every command.
+//! Faults of source and sink at each call in turn, of every command that reads.
 
 use super::FIRST_JOB;
 use super::evidence::{fields, proved, refuted, unproved};

@@ -19,7 +19,7 @@ const TURNS: u64 = 1_000_000_000;
 const HELD: u32 = 0;
 
 /// The look at which the held task goes on, if it does at one, and how many instructions of other tasks it waits for; how many
-/// looks there were at words of tasks, whether the held task has ended an instruction, and how many others have.
+/// looks there were at words of tasks, how many instructions the held task has ended, and how many the others have.
 #[derive(Drop)]
 pub struct Held {
     look: u64,

@@ -162,12 +162,14 @@ impl Kept {
     }
 }
 
+/// A pass, and the calls that it has made.
 #[derive(Drop)]
 pub struct NotedPass<P> {
     pass: P,
     kept: Kept,
 }
 
+/// Cells, and the gate at which their passes' tasks arrive.
 #[derive(Drop)]
 pub struct NotedCells<'a, C> {
     cells: C,
