@@ -240,9 +240,10 @@ fn carry_out_apart<P: Space>(
 
 /// Executes an instruction of a frequent operation, under no EX, with the updated address and the second operand's base and
 /// displacement. None of another operation, which it leaves as it is. The frequent ones have their steps here or in a call of
-/// their own. Where the task has ended `end` tells how.
+/// their own. Where the task has ended `end` tells how. `Caller` is for the compiler alone, which takes a function into the only
+/// place that calls it: each caller with another one has its own.
 #[inline(always)]
-pub fn execute_frequent<P: Space>(
+pub fn execute_frequent<P: Space, Caller>(
     cpu: &mut Cpu,
     space: &mut P,
     io: &mut TaskIo,

@@ -162,7 +162,7 @@ fn carry_on_apart<O: Observer>(
 /// Carries on an instruction that is kept and was shown to the observer: a frequent one is no EX and no call. Where the task has
 /// ended `end` tells how.
 #[inline(always)]
-fn carry_on_kept<O: Observer>(
+fn carry_on_kept<O: Observer, Caller>(
     observer: &O,
     pass: &mut O::Pass,
     tables: &Tables,
@@ -176,7 +176,7 @@ fn carry_on_kept<O: Observer>(
     ensures can { CanStep O.IsReady O.IsTied observer.now tables.now pass.new bench.new (done + 1) 0 }
     ensures goes { GoesOnTold O.Observer observer.now tables.now pass.old bench.old done pass.new bench.new result end.new }
 {
-    match execute_frequent(
+    match execute_frequent::<_, Caller>(
         &mut bench.cpu,
         &mut bench.space,
         &mut bench.io,
@@ -194,7 +194,7 @@ fn carry_on_kept<O: Observer>(
 
 /// The same by what the observer has found out of it.
 #[inline(always)]
-fn carry_on_known<O: Observer>(
+fn carry_on_known<O: Observer, Caller>(
     observer: &O,
     pass: &mut O::Pass,
     tables: &Tables,
@@ -211,7 +211,9 @@ fn carry_on_known<O: Observer>(
     ensures goes { GoesOnTold O.Observer observer.now tables.now pass.old bench.old done pass.new bench.new result end.new }
 {
     match known {
-        Known::Nothing => carry_on_kept(observer, pass, tables, bench, done, kept, end),
+        Known::Nothing => carry_on_kept::<O, Caller>(
+            observer, pass, tables, bench, done, kept, end,
+        ),
         Known::Condition(went) => {
             go_on_condition(&mut bench.cpu, &kept.code, kept.next, went);
             Told::GoesOn
@@ -267,7 +269,7 @@ fn step_far<O: Observer>(
 /// One instruction where the place begins. The instruction is read where it is kept: a copy would wait for the parts that were
 /// just written.
 #[inline(always)]
-fn step_placed<O: Observer>(
+fn step_placed<O: Observer, Caller>(
     observer: &O,
     pass: &mut O::Pass,
     tables: &Tables,
@@ -290,12 +292,12 @@ fn step_placed<O: Observer>(
     };
     let kept = tables.kept(place);
     let known = observer.begun_kept(pass, tables, &bench.cpu, kept, sight);
-    carry_on_known(observer, pass, tables, bench, done, kept, known, end)
+    carry_on_known::<O, Caller>(observer, pass, tables, bench, done, kept, known, end)
 }
 
 /// One instruction, with the place that begins there, if one does. Where the task has ended `end` tells how.
 #[inline(always)]
-fn step_told<O: Observer>(
+fn step_told<O: Observer, Caller>(
     observer: &O,
     pass: &mut O::Pass,
     tables: &Tables,
@@ -310,16 +312,17 @@ fn step_told<O: Observer>(
     ensures steps { StepsTold O.Observer observer.now tables.now pass.old bench.old done pass.new bench.new result end.new }
 {
     match place {
-        Some(place) => step_placed(observer, pass, tables, bench, done, place, end),
+        Some(place) => step_placed::<O, Caller>(observer, pass, tables, bench, done, place, end),
         None => step_far(observer, pass, tables, bench, done, end),
     }
 }
 
 /// One instruction of the task, which has done so many before, and of which neither budget nor return address is tested, with
 /// the place that begins there, if one does: it ends or goes on as over modules that were never planted, and the observer is
-/// shown its visits, and then its supervisor call, before what the instruction does. `end` is room for an ending.
+/// shown its visits, and then its supervisor call, before what the instruction does. `end` is room for an ending. `Caller` is
+/// that of `execute_frequent`.
 #[inline(always)]
-pub fn step<O: Observer>(
+pub fn step<O: Observer, Caller>(
     observer: &O,
     pass: &mut O::Pass,
     tables: &Tables,
@@ -333,6 +336,6 @@ pub fn step<O: Observer>(
     ensures can { CanStep O.IsReady O.IsTied observer.now tables.now pass.new bench.new (done + 1) 0 }
     ensures steps { StepsAs O.Makes O.Answers observer.now tables.now pass.old bench.old done pass.new bench.new result }
 {
-    let told = step_told(observer, pass, tables, bench, done, place, end);
+    let told = step_told::<O, Caller>(observer, pass, tables, bench, done, place, end);
     next_of(told, end)
 }

@@ -129,7 +129,7 @@ pub fn run<O: Observer, H: Hook<O>>(
             };
         };
         last = number_or(place, last);
-        let next = step(observer, pass, tables, bench, done, place, &mut end);
+        let next = step::<O, (O, H)>(observer, pass, tables, bench, done, place, &mut end);
         if let Next::Ended(ending) = hook.behind(observer, pass, tables, bench, done + 1, next) {
             return TaskEnd {
                 ending,
