@@ -19,10 +19,10 @@ use Rattle.job_text.specs.declared.jobs.JobFault.TheVariants as fault
 use Rattle.job_text.proofs.Laws as excluded
 use Rattle.session_book.specs.Meaning.{JobView, session_of}
 use Rattle.session_marks.specs.Meaning.{session_marks}
-use Rattle.job_answers.specs.Meaning.{ReadyView, IsRefused, Jobless, NoSession, Controlled, BadListing, HasAsked, HasNamed, controlled_asked, first_controlled, if_controlled, session_number, asks_session}
+use Rattle.job_answers.specs.Meaning.{ReadyView, IsRefused, Jobless, NoSession, Controlled, BadListing, HasAsked, HasNamed, controlled_asked, if_controlled, session_number, asks_session}
 use Rattle.job_answers.specs.declared.asked.Wanted.{Wanted}
 use Rattle.job_answers.specs.declared.asked.Asked.{Asked}
-use Rattle.job_answers.specs.declared.asked.Asked.TheVariants.{AnyJob, WithSession, AllWhole}
+use Rattle.job_answers.specs.declared.asked.Asked.TheVariants.{AnyJob, WithSession}
 use Rattle.job_input.specs.declared.form.Form.{Form}
 use Rattle.refusals.specs.Meaning.{RefusalView, read_refusal, jobless_refusal, list_refusal, build_refusal, tables_refusal}
 
@@ -51,9 +51,6 @@ missing_free asked j wanted number e none controlled = by_whole wanted.whole (sy
 -- of which none is asked, and of which none has one
 pub any_job : (j : JobView) → HasAsked AnyJob j
 any_job j = record { named = tt; free = refl }
-
-pub all_whole : (j : JobView) → first_controlled j ≡ None → HasAsked AllWhole j
-all_whole j free = record { named = tt; free = free }
 
 -- the session that is named has none where it must be whole
 pub is_free : (name : List ℕ) (j : JobView) (s : ℕ) → HasAsked (asks_session name true) j → session_number j name ≡ Some s → (session_of j s).by ≡ None

@@ -8,10 +8,9 @@ use Rattle.cov_outside.specs.declared.whole.ReadFault.TheVariants as read
 use Rattle.session_book.specs.Meaning.{JobView}
 use Rattle.job_text.specs.Meaning.{LineView, lines_of, put_on, Present}
 use Rattle.job_text.proofs.Laws.{one_first}
-use Rattle.job_input.specs.Meaning.{SourceChange, HasJob, CameWhole, IsJobFault, IsReadFault, input_limit}
-use Rattle.job_input.specs.Inputs.{CameJob, CameJobless, CameWith}
+use Rattle.job_input.specs.Meaning.{SourceChange, HasJob, CameWhole, IsReadFault, input_limit}
+use Rattle.job_input.specs.Inputs.{CameJob, CameWith}
 use Rattle.job_input.specs.declared.form.Form.{Form}
-use Rattle.job_text.specs.declared.jobs.JobFault.{JobFault}
 
 all_of : (b bytes : List ℕ) (rest : Option (List ℕ)) → IsWhole (Some b) rest bytes → b ≡ bytes
 all_of b bytes None w = absurd w.taken
@@ -33,10 +32,6 @@ came_job form s j count rest c = record { bytes = c.bytes; came = c.came; has = 
 
 pub same_job : (form : Form) (s : SourceChange) (b : List ℕ) (j k : JobView) → s.left ≡ Some b → HasJob form (lines_of b) j → CameJob form s k → j ≡ k
 same_job form s b j k e has c = (one_job form (lines_of b) j k has (left_is (λ t. HasJob form (lines_of t) k) s b c.bytes e c.came c.has)).1
-
--- a fault of those that came is one of those that were left
-pub fault_left : (form : Form) (s : SourceChange) (b : List ℕ) (e : JobFault) → s.left ≡ Some b → CameJobless form s e → IsJobFault form b e
-fault_left form s b e left c = left_is (λ t. IsJobFault form t e) s b c.bytes left c.came c.is
 
 pub too_many : (s : SourceChange) (b bytes : List ℕ) → s.left ≡ Some b → input_limit < length b → CameWhole s bytes → ⊥
 too_many s b bytes e l c = let same = ap length (came_is s b bytes e c) in absurd (omega (arith, same, c.within))

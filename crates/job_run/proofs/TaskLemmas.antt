@@ -1,8 +1,8 @@
 -- Tasks before and after their runs.
-use Rattle.std.proofs.Common.{◌≡◌, ◌≢◌, ◌⊎◌, inl, inr, ℕ, ◌+◌, ◌*◌, ◌<◌, ◌≤◌, ◌^◌, Bool, true, false, nat_eq, nat_lt, Option, Some, None, List, [], ◌∷◌, ◌++◌, length, get_or, set, take, drop, min, slice_range, ◌-◌, refl, sym, ◌∙◌, ap, subst, arith}
+use Rattle.std.proofs.Common.{◌≡◌, ◌≢◌, ◌⊎◌, inl, inr, ℕ, ◌+◌, ◌*◌, ◌<◌, ◌≤◌, ◌^◌, Bool, true, false, nat_eq, nat_lt, Option, Some, None, List, [], ◌∷◌, ◌++◌, length, get_or, take, drop, min, slice_range, ◌-◌, refl, sym, ◌∙◌, ap, subst, arith}
 use Rattle.std.proofs.lemmas.Bool.Decides.{nat_tests}
-use Rattle.std.proofs.lemmas.Bool.{both_ways, eq-eqb, ltb-true, lt-ltb}
-use Rattle.std.proofs.lemmas.List.{get_or-map, get_or_append_left, get_or-set_other, length-map, length-set, length-drop, take_all}
+use Rattle.std.proofs.lemmas.Bool.{eq-eqb, ltb-true, lt-ltb}
+use Rattle.std.proofs.lemmas.List.{get_or-map, get_or_append_left, length-map, length-drop, take_all}
 use Rattle.std.proofs.Math.Seq.{get_or-append_seam}
 use Rattle.std.proofs.lemmas.List.Elements.{All-get_or}
 use Rattle.cov_base.specs.Meaning.{FactSet, Memory, ImageView, State}
@@ -125,15 +125,6 @@ AreRun-next course j places phase old new a same ended kept = record {
     is_begun t d l h true e = absurd (not_next (task_of j t).phase phase e h)
     is_begun t d l h false e = subst (λ (x : Done). HasNotRun j places t x) (sym (kept t d l e)) (a.begun t d l (earlier_or (task_of j t).phase phase e ∙ h))
 
--- only passes were given or taken
-pub AreRun-same : {P E : Type 0} (course : Course) (j : JobView) (places : List Place) (phase : ℕ) (old new : List (Slot P E)) → AreRun course j places phase old → length new ≡ length old →
-    ((t : ℕ) (d : Slot P E) → t < length old → (get_or new t d).done ≡ (get_or old t d).done) → AreRun course j places phase new
-AreRun-same course j places phase old new a same kept = record {
-  count = same ∙ a.count;
-  ended = λ t d l h. subst (λ (x : Done). IsEnded course j places t x) (sym (kept t d (omega (arith, l, same)))) (a.ended t d (omega (arith, l, same)) h);
-  begun = λ t d l h. subst (λ (x : Done). HasNotRun j places t x) (sym (kept t d (omega (arith, l, same)))) (a.begun t d (omega (arith, l, same)) h);
-}
-
 pub is_task : (j : JobView) (t : ℕ) → IsJob j → t < length j.tasks → IsTask (length j.phases) (task_of j t)
 is_task j t job l = All-get_or (IsTask (length j.phases)) j.tasks t no_task l job.are_tasks
 
@@ -172,19 +163,6 @@ pub all_extras : {P E : Type 0} (ends : Ends E) (j : JobView) (places : List Pla
 all_extras ends j places finals slots t d job a count l = (a.each (task_of j t).phase (is_task j t job l).phase).each t d (omega (arith, l, count)) (eq-eqb (task_of j t).phase (task_of j t).phase refl)
 
 -- the tasks of other phases, and their extras
-
-pub KeepsOthers-none : {P E : Type 0} (j : JobView) (phase : ℕ) (slots : List (Slot P E)) → KeepsOthers j phase slots slots
-KeepsOthers-none j phase slots = record { count = refl; done = λ t d l h. refl; extra = λ t d l h. refl }
-
-pub KeepsOthers-set : {P E : Type 0} (j : JobView) (phase next : ℕ) (old mid : List (Slot P E)) (e : Slot P E) → in_phase j phase next ≡ true → KeepsOthers j phase old mid → KeepsOthers j phase old (set mid next e)
-KeepsOthers-set j phase next old mid e of k = record {
-  count = length-set mid next e ∙ k.count;
-  done = λ t d l h. ap (λ s. s.done) (get_or-set_other mid next t e d (apart t h)) ∙ k.done t d l h;
-  extra = λ t d l h. ap (λ s. s.extra) (get_or-set_other mid next t e d (apart t h)) ∙ k.extra t d l h;
-}
-  where
-    apart : (t : ℕ) → in_phase j phase t ≡ false → t ≢ next
-    apart t h same = both_ways (in_phase j phase t) h (ap (in_phase j phase) same ∙ of)
 
 pub KeepsOthers-trans : {P E : Type 0} (j : JobView) (phase : ℕ) (a b c : List (Slot P E)) → KeepsOthers j phase a b → KeepsOthers j phase b c → KeepsOthers j phase a c
 KeepsOthers-trans j phase a b c k m = record {

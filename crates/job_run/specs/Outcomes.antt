@@ -3,7 +3,7 @@ use Rattle.std.specs.Prelude.{◌≡◌, ℕ, ◌<◌, ◌≤◌, true, Some, Li
 use Rattle.cov_base.specs.Meaning.{is_within}
 use Rattle.module_area.specs.Meaning.{place_of, set_at}
 use Rattle.module_area.specs.declared.places.Place.{Place}
-use Rattle.task_run.specs.Meaning.{Course, solo, IsBetween}
+use Rattle.task_run.specs.Meaning.{Course, IsBetween}
 use Rattle.session_book.specs.Meaning.{JobView, task_of, session_of, observes, is_whole}
 use Rattle.phase_plan.specs.Meaning.{plan_view}
 use Rattle.job_run.specs.Meaning.{result_by, set_by, least_by, most_by, no_finals}
@@ -28,10 +28,6 @@ pub record IsOutcomeBy (course : Course) (j : JobView) (places : List Place) (ta
 
 abbrev pub ComesTo : Course → JobView → List Place → Outcome → Type 0
 ComesTo course j places outcome = IsOutcomeBy course j places outcome.tasks.items outcome.sets
-
--- where each task runs as it does alone
-abbrev pub IsOutcome : JobView → List Place → List Done → SetsView → Type 0
-IsOutcome j places tasks sets = IsOutcomeBy solo j places tasks sets
 
 -- a task of the job ran from its first state to this one, and its extra tells this of it
 pub record HasEnded {E : Type 0} (ends : Ends E) (j : JobView) (places : List Place) (sets : SetsView) (t : ℕ) (d : Done) (extra : E) : Type 0 where

@@ -3,11 +3,10 @@ use Rattle.std.specs.Prelude.{◌≡◌, ℕ, List}
 use Rattle.module_area.specs.Meaning.{FinalsView}
 use Rattle.module_area.specs.declared.areas.Areas as areas
 use Rattle.module_area.specs.declared.places.Place.{Place}
-use Rattle.module_area.specs.declared.tallies.Tally.{Tally}
 use Rattle.brk_table.specs.Meaning.{TablesView}
 use Rattle.session_book.specs.Meaning.{JobView}
 use Rattle.phase_plan.specs.Meaning.{plan_view}
-use Rattle.task_run.specs.Meaning.{Course, solo}
+use Rattle.task_run.specs.Meaning.{Course}
 use Rattle.job_run.specs.Areas.{GrowsBy}
 use Rattle.job_run.specs.Meaning.{walk_by, phase_trace, Account, HasRunBy}
 use Rattle.job_run.specs.declared.outcome.Outcome.{Outcome}
@@ -30,6 +29,3 @@ GrowsTo by course j tables old new sets = HasLeftBy course j tables.places
 -- to the sets of this outcome
 abbrev pub HasGrown : {A C P : Type 0} → areas.Ghosts A C P → Course → JobView → TablesView → A → A → Outcome → Type 0
 HasGrown by course j tables old new outcome = GrowsTo by course j tables old new outcome.sets.finals
-
-abbrev pub HasLeft : JobView → List Place → Account → Account → List FinalsView → Type 0
-HasLeft j places before after sets = HasLeftBy solo j places before after sets

@@ -1,9 +1,8 @@
 -- What the names of a job that is read in part find.
-use Rattle.std.proofs.Common.{◌≡◌, ℕ, Bool, true, false, not, nat_eq, if◌then◌else◌, None, Some, List, [], ◌∷◌, ◌++◌, map, position, get_or, refl, ap, sym, ◌∙◌, subst}
-use Rattle.std.specs.List.{list_any, list_all}
+use Rattle.std.proofs.Common.{◌≡◌, ℕ, Bool, false, nat_eq, if◌then◌else◌, None, Some, List, [], ◌∷◌, ◌++◌, map, position, get_or, refl, ap, sym, ◌∙◌, subst}
+use Rattle.std.specs.List.{list_any}
 use Rattle.std.specs.Str.{bytes_eq}
 use Rattle.std.proofs.lemmas.List.{map_push}
-use Rattle.std.proofs.lemmas.Bool.{and_parts, not-true}
 use Rattle.cov_base.specs.Meaning.{ImageView}
 use Rattle.names.specs.Lists.{Differ, index_of, has, added}
 use Rattle.names.proofs.Laws.{index_of-map, has-map, none_named, one_named}
@@ -11,7 +10,7 @@ use Rattle.session_book.specs.Meaning.{TaskView, no_task}
 use Rattle.session_book.specs.Names as naming
 use Rattle.session_book.specs.Names.{names_of, session_names, task_names}
 use Rattle.session_book.specs.declared.job_names.JobNames.{JobNames}
-use Rattle.job_text.specs.Meaning.{SessionDraft, DraftView, bound_session, bound, controller_named, has_module, is_clear, fits, has_task}
+use Rattle.job_text.specs.Meaning.{SessionDraft, DraftView, bound_session, bound, controller_named, has_module, has_task}
 use Rattle.job_text.specs.Meaning as adding
 use Rattle.job_text.specs.DraftInside.{names_in, draft_view, HasNames}
 use Rattle.job_text.specs.declared.parts.Draft.TheInside.{Inside}
@@ -56,9 +55,6 @@ module _ (d : Inside) (h : HasNames d) where
       naming.with_task d.names t.name ≡ names_in (record (draft_view d) { tasks = d.tasks.items ++ t ∷ [] })
   with_task_named t new =
       ap (λ (x : JobNames). naming.with_task x t.name) h ∙ ap (λ (ns : List (List ℕ)). record (names_in (draft_view d)) { tasks = ns }) (one_more (λ (x : TaskView). x.name) d.tasks.items t new)
-
-pub new_of : (j : DraftView) (n : List ℕ) (base size : ℕ) → fits j n base size ≡ true → has_module j n ≡ false
-new_of j n base size e = not-true (has_module j n) (and_parts (not (has_module j n)) (list_all (is_clear base size) j.images) e).0
 
 -- the task of a phase that a name finds among all tasks
 

@@ -208,10 +208,6 @@ nothing_left bytes p none h =
     let same : bytes ≡ h.front = h.whole ∙ (rw (none, append-nil {A = ℕ}) refl) in
     rw same h.ran
 
--- want of memory is told without a line
-pub told_nothing : (cards : Grammar) (bytes : List ℕ) → IsTold cards bytes fault.NoMemory
-told_nothing cards bytes = record { refusal = tt; ended = omega arith; only = λ n job i p w. refl }
-
 -- a line that isn't taken
 
 pub record Refuted (cards : Grammar) (ls : List LineView) (e : JobFault) (n : ℕ) : Type 0 where

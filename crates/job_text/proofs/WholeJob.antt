@@ -33,9 +33,6 @@ use Rattle.job_text.proofs.Verdicts.{job_within}
 
 -- lists with one more
 
-pub one_all : {X : Type 0} (P : X → Type 0) (x : X) → P x → All P (x ∷ [])
-one_all P x p = All-cons P x [] p (All-nil P)
-
 pairs_push : {X : Type 0} (R : X → X → Type 0) (xs : List X) (y : X) → AllPairs R xs → All (λ x. R x y) xs → AllPairs R (xs ++ y ∷ [])
 pairs_push R xs y h a = all_pairs_push R xs y h (λ k d l. a k d l)
 

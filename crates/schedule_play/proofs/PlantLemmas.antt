@@ -1,18 +1,15 @@
 -- The places that are planted before the first item.
 use Rattle.std.proofs.Common.{◌≡◌, ◌≢◌, eqb-true, ℕ, zero, suc, ◌+◌, ◌-◌, ◌<◌, ◌≤◌, Bool, true, false, ◌&&◌, nat_eq, nat_lt, if◌then◌else◌, Some, None, option_map, List, [], ◌∷◌, length, map, All, refl, sym, ap, ◌∙◌, arith}
-use Rattle.std.specs.Option.{option_and_then}
 use Rattle.std.specs.List.{find, flat_map, range_with_len}
 use Rattle.std.proofs.lemmas.Bool.{lt-ltb}
 use Rattle.std.proofs.lemmas.Bool.Decides.{nat_tests}
-use Rattle.std.proofs.lemmas.List.{get_or-set_other}
 use Rattle.std.proofs.lemmas.List.Elements.{All-head, All-tail}
-use Rattle.module_area.specs.Meaning.{word_at, no_cell, fresh_word, ControlledView, window_at}
+use Rattle.module_area.specs.Meaning.{word_at, fresh_word, ControlledView, window_at}
 use Rattle.module_area.specs.declared.places.Place.{Place}
 use Rattle.interleave_core.specs.Meaning.{World, Parts, plan_in, controller_of, Stepped, parts_step, run_on, by_controller, whole_step, with_cell, breakpoint_of}
 use Rattle.interleave_core.specs.World.{IsWorld}
 use Rattle.interleave_core.specs.declared.events.Event.{Event}
 use Rattle.interleave_core.specs.declared.events.Event.TheVariants as event
-use Rattle.interleave_core.specs.declared.events.Shown.{Shown}
 use Rattle.interleave_core.specs.declared.events.Shown.TheVariants.{Planted}
 use Rattle.interleave_core.proofs.Laws.{run_on-append, controller_in}
 use Rattle.schedule_play.specs.Meaning.{plant_at}
@@ -50,27 +47,6 @@ plant_possible w c s p is lt e some fresh =
 
 pub never_refused : (w : World) (c : Parts) (s p : ℕ) → IsWorld w → p < length w.places → s ≡ window_at (plan_in w) p → 0 < s → (word_at c.cells p).tag ≡ 0 → parts_step w c (plant_of s p) ≡ None → ⊥
 never_refused w c s p is lt e some fresh none = let n : None ≡ Some (planted c s p) = sym none ∙ plant_possible w c s p is lt e some fresh in absurd cc
-
-pub no_plant : (w : World) (c : Parts) (p : ℕ) → window_at (plan_in w) p ≡ 0 → run_on w c (plant_at w p) ≡ Some c
-no_plant w c p e = by (nat_lt 0 (window_at (plan_in w) p)) refl
-  where
-    by : (b : Bool) → nat_lt 0 (window_at (plan_in w) p) ≡ b → run_on w c (if b then plant_of (window_at (plan_in w) p) p ∷ [] else []) ≡ Some c
-    by true q = let z : false ≡ true = ap (λ (n : ℕ). nat_lt 0 n) (sym e) ∙ q in absurd cc
-    by false q = refl
-
-pub one_plant : (w : World) (c d : Parts) (s p : ℕ) (shown : Shown) → s ≡ window_at (plan_in w) p → 0 < s → parts_step w c (plant_of s p) ≡ Some (record { parts = d; shown = shown }) → run_on w c (plant_at w p) ≡ Some d
-one_plant w c d s p shown e some step =
-    let there : nat_lt 0 (window_at (plan_in w) p) ≡ true = ap (λ (n : ℕ). nat_lt 0 n) (sym e) ∙ lt-ltb 0 s some in
-    ap (λ (b : Bool). run_on w c (if b then plant_of (window_at (plan_in w) p) p ∷ [] else [])) there
-    ∙ (ap (λ (n : ℕ). run_on w c (plant_of n p ∷ [])) (sym e) ∙ ap (option_and_then (λ (x : Stepped). Some x.parts)) step)
-
--- and leaves all other cells
-pub others_stay : (w : World) (c d : Parts) (s p : ℕ) (shown : Shown) → IsWorld w → p < length w.places → s ≡ window_at (plan_in w) p → 0 < s → (word_at c.cells p).tag ≡ 0 → parts_step w c (plant_of s p) ≡ Some (record { parts = d; shown = shown }) →
-    (q : ℕ) → p < q → word_at d.cells q ≡ word_at c.cells q
-others_stay w c d s p shown is lt e some fresh step q less =
-    let same : Some (record { parts = d; shown = shown }) ≡ Some (planted c s p) = sym step ∙ plant_possible w c s p is lt e some fresh in
-    let parts : record { parts = d; shown = shown } ≡ planted c s p = cc in
-    ap (λ (x : Stepped). word_at x.parts.cells q) parts ∙ get_or-set_other c.cells p q (breakpoint_of s) no_cell (λ h. absurd (omega (arith, h, less)))
 
 pub fresh_tag : (places : List Place) (q : ℕ) → (word_at (map fresh_word places) q).tag ≡ 0
 fresh_tag [] q = refl

@@ -27,7 +27,6 @@ mod SoloLemmas
 mod SvcLemmas
 mod TagLemmas
 mod TallyLemmas
-mod TieLemmas
 mod TrapLemmas
 mod TurnLemmas
 mod VisitLemmas

@@ -1,5 +1,5 @@
 -- What the instructions that are done have led to.
-use Rattle.std.proofs.Common.{◌≡◌, ℕ, ◌+◌, ◌-◌, ◌<◌, ◌≤◌, suc, true, false, if◌then◌else◌, List, [], ◌∷◌, ◌++◌, length, refl, sym, ◌∙◌, ap, subst, arith, append-nil, length-append}
+use Rattle.std.proofs.Common.{◌≡◌, ℕ, ◌+◌, ◌-◌, ◌<◌, ◌≤◌, suc, true, false, if◌then◌else◌, List, [], ◌∷◌, ◌++◌, length, sym, ◌∙◌, ap, subst, arith, append-nil, length-append}
 use Rattle.cov_base.specs.Meaning.{Memory, State}
 use Rattle.s370_exec.specs.Meaning.{solo_step, has_returned}
 use Rattle.s370_state.specs.declared.endings.Ending.{Ending}
@@ -16,11 +16,6 @@ pub record LedTo {K S : Type 0} (after : DoneBehind K) (m : Memory) (takes : ℕ
   pub count : length turns ≡ i
   pub course : course_on after m budget first start ≡ turned turns (course_on after m (budget - i) key now)
   pub goes : Goes takes 0 turns x y
-
-pub LedTo-start : {K S : Type 0} (after : DoneBehind K) (m : Memory) (takes : ℕ → Turn → S → S → Type 0) (budget : ℕ) (k : K) (s : State) (x : S) → LedTo after m takes budget k s x 0 k s x
-LedTo-start after m takes budget k s x =
-    let all : budget - 0 ≡ budget = omega arith in
-    record { turns = []; count = refl; course = rw all refl; goes = refl }
 
 left : (budget i : ℕ) → i < budget → budget - i ≡ suc (budget - (i + 1))
 left budget i lt = omega arith

@@ -2,13 +2,10 @@
 use Rattle.std.proofs.Common.{ℕ, ◌+◌, ◌≤◌, Option, List, [], ◌∷◌, length, sym, subst, arith}
 use Rattle.std.proofs.lemmas.Bool.{cond_both}
 use Rattle.cov_base.specs.declared.limits.TheConstants.{PLACE_LIMIT}
-use Rattle.cov_base.specs.Meaning.{Memory, Visit}
-use Rattle.brk_table.specs.Meaning.{TablesView}
+use Rattle.cov_base.specs.Meaning.{Visit}
 use Rattle.module_area.specs.Meaning.{ControlView, is_place, visits_at_places, PlanView}
 use Rattle.module_area.specs.Notes.{Notes, calls}
 use Rattle.task_run.specs.Answered.{Makes, Turns}
-use Rattle.task_run.specs.Steps.{IsShown}
-use Rattle.task_run.specs.First.{IsOver}
 use Rattle.task_run.specs.Noting.{MakesEach, HasAnswered}
 use Rattle.task_run.proofs.AnsweredLemmas.{Makes-none, Makes-append}
 
@@ -31,7 +28,3 @@ few_calls plan old mid new visits c d call two each answered =
     let makes : Makes plan old mid visits = makes_all plan old mid visits each in
     let most = at_most plan visits in
     omega (arith, two, most, answered.few, makes.observes.fetches, makes.observes.marks, makes.observes.lifts, makes.still.plants, makes.still.closes)
-
--- what is over the places of the tables is shown by a memory
-pub shown_over : {plan : PlanView} {m : Memory} {tables : TablesView} → IsOver plan m tables → IsShown m tables
-shown_over over = record { seen = over.seen; kept = over.kept }
