@@ -9,7 +9,7 @@ import subprocess
 from harness import TOP, Tally, coverage, equal, folder, run, well
 from jobs import USAGE
 
-COMMAND = re.compile(r" {4,}(\./coverage .*|(?:cd [a-z.]+ && )?genhtml .*|cat .*|lcov .*)")
+COMMAND = re.compile(r" {4,}(\./coverage .*|(?:\(cd [a-z.]+ && )?genhtml .*|cat .*|lcov .*)")
 
 
 def text_of(path: str) -> str:
