@@ -114,7 +114,7 @@ def second_section(rows: list[Row]) -> list[str]:
                 advice = "give each assembly's listing to a module of its own" if has_ended else "assemble with THREAD, its default"
                 name = it.name() or "without a name"
                 what = f"the section {name} begins at 0, where lines before have bytes: {cause}"
-                return [f": line {it.number}: {what}; the program refuses that as OVERLAP; {advice}"]
+                return [f": line {it.number}: {what}; the program refuses instructions that meet so as OVERLAP; {advice}"]
             names.add(it.name())
         has_bytes = has_bytes or it.is_instruction
         has_ended = has_ended or operation == "END"

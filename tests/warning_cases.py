@@ -199,11 +199,11 @@ def sections_again() -> None:
     """module: a section that begins at 0 again, as of NOTHREAD, or of a second assembly"""
     first, last = PROGRAM[:13], PROGRAM[-1]
     other = [Line(20, "000000", "", "OTHER    CSECT"), Line(21, "000000", "07FE", "         BR    14")]
-    advice = "the program refuses that as OVERLAP; assemble with THREAD, its default"
+    advice = "the program refuses instructions that meet so as OVERLAP; assemble with THREAD, its default"
     told = f"the section OTHER begins at 0, where lines before have bytes: the assembler's option NOTHREAD; {advice}"
     plain = [HEADING, *(it.text() for it in first)]
     warns([*plain, *(it.text() for it in [*other, replace(last, number=30)])], f"line 15: {told}")
-    second = "a second assembly behind the END of the first; the program refuses that as OVERLAP; give each assembly's listing to a module of its own"
+    second = "a second assembly behind the END of the first; the program refuses instructions that meet so as OVERLAP; give each assembly's listing to a module of its own"
     warns([*plain, last.text(), *(it.text() for it in other)], f"line 16: the section OTHER begins at 0, where lines before have bytes: {second}")
     # A section that goes on, and one behind a dummy section.
     again = [replace(other[0], source="PROG     CSECT"), replace(last, number=30)]
