@@ -66,9 +66,11 @@ def fullword(word: str) -> bytes:
     """A whole number as four bytes."""
     if not re.fullmatch("[+-]?[0-9]+", word):
         raise Broken(f"the value {word or '(none)'} {NO_NUMBER}")
-    if len(word) > 20 or not LEAST_WORD <= int(word) < END_OF_WORDS:
+    digits = word.lstrip("+-").lstrip("0") or "0"
+    value = int(digits[:20]) * (-1 if word.startswith("-") else 1)
+    if not LEAST_WORD <= value < END_OF_WORDS:
         raise Broken(f"the value {word[:40]} is none of {LEAST_WORD} to {END_OF_WORDS - 1}, which four bytes hold")
-    return (int(word) % END_OF_WORDS).to_bytes(4, "big")
+    return (value % END_OF_WORDS).to_bytes(4, "big")
 
 
 def file_bytes(name: bytes, folder: str) -> bytes:

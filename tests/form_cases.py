@@ -16,6 +16,7 @@ FORMS = [
     ("PACKED -123 5", "000000123D"), ("PACKED 123 2", "123C"), ("PACKED +0 1", "0C"), ("PACKED -0 1", "0D"), ("PACKED 0012 2", "012C"),
     ("PACKED 9999999999999999999999999999999 16", "9" * 31 + "C"), ("PACKED -1 16", "0" * 30 + "1D"),
     ("FULL 42", "0000002A"), ("FULL -1", "FFFFFFFF"), ("FULL 4294967295", "FFFFFFFF"), ("FULL -2147483648 2147483648 +7", "800000008000000000000007"),
+    ("FULL 000000000000000000000007 -000000000000000000000001 -0 +00", "00000007FFFFFFFF0000000000000000"),
     ("FILE data", "00FF0A0D"), ("FILE in it/more data", "C1"),
 ]
 # What is refused of a form, with its cause.
@@ -47,6 +48,7 @@ BAD_FORMS = [
     ("FULL 1  2", "the value (none) is no whole number: decimal digits, with + or - before them or nothing"),
     ("FULL 0x1", "the value 0x1 is no whole number: decimal digits, with + or - before them or nothing"),
     ("FULL 4294967296", "the value 4294967296 is none of -2147483648 to 4294967295, which four bytes hold"),
+    ("FULL 42949672959999999999999", "the value 42949672959999999999999 is none of -2147483648 to 4294967295, which four bytes hold"),
     ("FULL -2147483649", "the value -2147483649 is none of -2147483648 to 4294967295, which four bytes hold"),
     ("FILE", "FILE has the name of a file behind it"),
     ("FILE no", "no: No such file or directory"),
