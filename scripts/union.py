@@ -139,7 +139,8 @@ def opened(name: str) -> Iterator[BinaryIO]:
             raise OSError("is closed")
         with contextlib.nullcontext(sys.stdin.buffer) if is_input else open(name, "rb") as file:
             if is_output(file):
-                raise OSError("is the file that standard output goes to, which has so been emptied")
+                emptied = "" if os.fstat(1).st_size else ", which has so been emptied"
+                raise OSError(f"is the file that standard output goes to{emptied}")
             if is_input:
                 tell_terminal()
             yield file

@@ -194,6 +194,8 @@ def unreadable() -> None:
         emptied = "is the file that standard output goes to, which has so been emptied"
         refused(union(at, "fell", "all", redirect="> all.marks"), 2, f"coverage: all.marks: {emptied}\n")
         equal(os.path.getsize(f"{at}/all.marks"), 0)
+        refused(union(at, "fell", redirect=">> fell.marks"), 2, "coverage: fell.marks: is the file that standard output goes to\n")
+        equal(os.path.getsize(f"{at}/fell.marks"), len(FELL))
 
 
 def words() -> None:
