@@ -1,16 +1,12 @@
-//! A small module's listing, with one line changed at a time, the instructions kept of another, and the map of many places
-//! beside a search.
-ghost use Rattle.std.specs.Prelude.{◌≡◌, ◌≢◌, ◌+◌, ◌*◌, ◌/◌, ◌%◌, ◌<◌, IfOk, IfSome};
-ghost use Rattle.cov_base.specs.Meaning.{breakpoint};
-ghost use Rattle.brk_table.specs.Places.{IsPlace};
+//! A small module's listing, with one line changed at a time, and the instructions kept of another.
+ghost use Rattle.std.specs.Prelude.{IfOk, IfSome};
 ghost use Rattle.brk_table.specs.Unpacked.{AreAtPlaces};
 
-use brk_table::{BuildFault, LinePlaces, Table, Tables, build};
+use brk_table::{BuildFault, Table, Tables, build};
 use cov_base::{Addr, Kind, LINE_LIMIT, Name, NoMemory, PlaceNo};
 use listing_lines::ListingLines;
 use listing_reader::read_listing;
-use module_area::{Image, Images, Place};
-use s370_decode::{kind, length, op_of};
+use module_area::{Image, Images};
 use std::alloc::Global;
 use std::test::Fail;
 
@@ -233,104 +229,18 @@ fn keeps_the_instruction_of_each_place(rt: HostRuntime) -> Result<(), Fail> {
 }
 
 #[test]
-fn unpacks_the_instruction_of_each_place_and_finds_the_next(rt: HostRuntime) -> Result<(), Fail> {
+fn finds_the_place_behind_each(rt: HostRuntime) -> Result<(), Fail> {
     if let Some(tables) = kept_tables(rt.alloc())? {
         assert_eq!(rt; tables.len(), 5);
         for n in 0..tables.len() {
-            let code = tables.code(PlaceNo(n));
-            let kept = tables.kept(PlaceNo(n));
-            assert_eq!(rt; kept.code.at.get(), code.at.get());
-            assert_eq!(rt; kept.code.bytes, code.bytes);
-            assert_eq!(rt; kept.code.len, code.len);
-            assert!(rt; kept.op == op_of(code.first_half()));
-            assert_eq!(rt; kept.next.get(), code.at.plus(u32::from(code.len)).get());
             for k in 0..tables.len() {
                 let at = tables.place(PlaceNo(k)).at;
-                let next = if k == n + 1 { tables.at(at) } else { None };
+                let next = if k == n + 1 { Some(PlaceNo(k)) } else { None };
                 assert!(rt; tables.next_at(n, at) == next);
             }
         }
         return Ok(());
     }
     assert!(rt; false);
-    Ok(())
-}
-
-/// The first halfwords of an AR, an LA and an MVC, whose lengths are 2, 4 and 6.
-fn first_half(k: u32) -> u16
-    ensures { result ≢ breakpoint }
-{
-    match k % 3 {
-        0 => 0x1A11,
-        1 => 0x4110,
-        _ => 0xD203,
-    }
-}
-
-/// Place k of sixteen stretches of 200, which stand far apart and go over the end of a page each.
-fn far_place(k: u32) -> Place
-    requires { k < 3200 }
-    ensures is { IsPlace result }
-    ensures at { result.at ≡ 1052416 + k / 200 * 950272 + k % 200 * 6 }
-{
-    let original = first_half(k);
-    Place {
-        module: 0,
-        at: Addr::of(0x100F00 + k / 200 * 0xE8000 + k % 200 * 6),
-        len: length(original),
-        original,
-        kind: kind(original),
-    }
-}
-
-fn far_places(alloc: Global) -> Result<Tables, NoMemory> {
-    let mut places = Vec::new(alloc);
-    for k in 0..3200 {
-        places.push(far_place(k))?;
-    }
-    let mut tables = Vec::new(alloc);
-    tables.push(Table {
-        module: 0,
-        places,
-        lines: LinePlaces::none(alloc, 0)?,
-    })?;
-    Ok(Tables::of(alloc, tables)?)
-}
-
-/// The place that begins at the address, by halves over places in order of address: the plain form of the map.
-fn search(tables: &Tables, a: Addr) -> Option<PlaceNo> {
-    let mut low = 0;
-    let mut high = tables.len();
-    while low < high {
-        let middle = low + (high - low) / 2;
-        let at = tables.place(PlaceNo(middle)).at.get();
-        if at == a.get() {
-            return Some(PlaceNo(middle));
-        }
-        if at < a.get() {
-            low = middle + 1;
-        } else {
-            high = middle;
-        }
-    }
-    None
-}
-
-#[test]
-fn the_map_finds_what_a_search_finds(rt: HostRuntime) -> Result<(), Fail> {
-    let tables = far_places(rt.alloc())?;
-    for k in 0..tables.len() {
-        let at = tables.place(PlaceNo(k)).at;
-        assert!(rt; tables.at(at) == Some(PlaceNo(k)));
-        for i in 0..9 {
-            let near = at.plus(16_777_212 + i);
-            assert!(rt; tables.at(near) == search(&tables, near));
-        }
-    }
-    let mut a = Addr::of(1);
-    for _ in 0..4000 {
-        a = Addr::of(((u64::from(a.get()) * 0xFD43FD + 0xC39EC3) % 0x100_0000) as u32);
-        assert!(rt; tables.at(a) == search(&tables, a));
-    }
     Ok(())
 }
