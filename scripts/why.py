@@ -24,8 +24,8 @@ from job_rules import Place, Reader
 INPUT_LIMIT, SHOWN = 16_777_216, 3
 FACTS = {"R": "was executed", "W": "branched", "S": "fell through"}
 NAME = re.compile(r"[A-Z@#$][A-Z@#$0-9]{0,7}")
-# The commands that the word `services` may stand before.
 OPTIONS = ("--must-return",)
+# The commands that the word `services` may stand before.
 SERVED = ("run", "marks", "show", "table", "count", "ends")
 OTHER_TEXTS = ((b"COVERAGE ", "a report or another output of ./coverage"), (b"S370COV", "a marks file"), (b"S370EVD", "evidence"))
 
