@@ -1,8 +1,8 @@
 //! Each item, and lines that come near to one.
-use super::none_wrong;
 use cov_base::TaskNo;
 use job_text::{Grammar, Item, item_of, read_job};
 use session_book::Job;
+use std::alloc::Global;
 use std::test::Fail;
 
 /// Its tasks are A, B1 and ABCDEFGH, of two phases.
@@ -81,11 +81,16 @@ fn wrong_item(job: &Job) -> Option<usize> {
     None
 }
 
+/// Whether each line is read as its item.
+fn are_known(alloc: Global) -> bool {
+    match read_job(alloc, Grammar::Plain, JOB) {
+        Ok(read) => wrong_item(&read.job) == None,
+        Err(_) => false,
+    }
+}
+
 #[test]
 fn knows_each_item(rt: HostRuntime) -> Result<(), Fail> {
-    match read_job(rt.alloc(), Grammar::Plain, JOB) {
-        Ok(read) => none_wrong(&rt, wrong_item(&read.job)),
-        Err(_) => assert!(rt; false),
-    }
+    assert!(rt; are_known(rt.alloc()));
     Ok(())
 }

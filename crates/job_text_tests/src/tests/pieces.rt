@@ -12,37 +12,6 @@ const SAMPLE: &[u8] =
 const PROFILE: &[u8] =
     b"COVERJOB 1\nMODULE MAIN 100000 18\nTEXT 4110F00C5010001007FE0700C1C2000007FE\nLISTING 13\n1                                 A SAMPLE\n-  Loc  Object Code    Addr1 Addr2  Stmt   Source Statement\r\n 000000                00000 0000E     1 MAIN     CSECT\n 000000 4110 F00C            0000C     2          LA    1,12(,15)\n                                       3          KEEP  1\n 000004 5010 0010            00010     4+         ST    1,16\r\n 000008 07FE                           5          BR    14\n 00000A 0700                           6          CNOP  0,4\n 00000C C1C2                           7 BUF      DC    C'AB'\n 000000                00000 00004     8 AREA     DSECT\n 000000                                9 F1       DS    F\n 000010                00010 00002    10 TAIL     CSECT\n 000010 07FE                          11          BR    14\nPHASE P\nSESSION S MAIN\nTASK A 100000 32 100 0\nREG 1 00000001\nDATA 4 C1C2\nINPUT D1\nENDJOB\n";
 
-/// Feeds the input, its first piece of `first` bytes and each further one of `size`, up to the job's end or a fault. How many
-/// bytes were fed by then, and what `finish` answers.
-fn in_pieces(
-    alloc: Global,
-    input: &[u8],
-    first: usize,
-    size: usize,
-) -> Result<(usize, Result<ReadJob, JobFault>), AllocError>
-    requires some { 0 < first }
-    requires more { 0 < size }
-    requires small { length input.now ≤ 1000 }
-    requires first { first ≤ 1000 }
-    requires size { size ≤ 1000 }
-{
-    let Ok(mut reader) = JobReader::new(alloc, Grammar::Plain) else {
-        return Err(AllocError);
-    };
-    let mut at = 0;
-    let mut to = min(first, input.len());
-    'pieces: while at < input.len() {
-        match reader.feed(alloc, &input[at..to]) {
-            Ok(Fed::More) => {}
-            Ok(Fed::Ended { used }) => return Ok((at + used, reader.finish(alloc))),
-            Err(_) => return Ok((to, reader.finish(alloc))),
-        }
-        at = to;
-        to = min(at + size, input.len());
-    }
-    Ok((at, reader.finish(alloc)))
-}
-
 /// Whether it is a job; the number of its lines and its end, or the line of its fault and the limit that it passes.
 type Told = (bool, u32, usize, Option<Limit>);
 
@@ -67,6 +36,48 @@ fn are_same(one: &ReadJob, other: &ReadJob) -> bool {
         && one.job.tasks[0].input.as_slice() == other.job.tasks[0].input.as_slice()
 }
 
+/// What the reader tells, and whether it has read the same job. What it has read is let go here alone.
+fn finished(alloc: Global, reader: JobReader, whole: Option<&ReadJob>) -> (Told, bool) {
+    let answer = reader.finish(alloc);
+    let is_same = match (&answer, whole) {
+        (Ok(read), Some(whole)) => are_same(read, whole),
+        _ => false,
+    };
+    (told(&answer), is_same)
+}
+
+/// Feeds the input, its first piece of `first` bytes and each further one of `size`, up to the job's end or a fault. How many
+/// bytes were fed by then, what `finish` tells, and whether that is the job.
+fn in_pieces(
+    alloc: Global,
+    input: &[u8],
+    whole: Option<&ReadJob>,
+    first: usize,
+    size: usize,
+) -> Result<(usize, (Told, bool)), AllocError>
+    requires some { 0 < first }
+    requires more { 0 < size }
+    requires small { length input.now ≤ 1000 }
+    requires first { first ≤ 1000 }
+    requires size { size ≤ 1000 }
+{
+    let Ok(mut reader) = JobReader::new(alloc, Grammar::Plain) else {
+        return Err(AllocError);
+    };
+    let mut at = 0;
+    let mut to = min(first, input.len());
+    'pieces: while at < input.len() {
+        match reader.feed(alloc, &input[at..to]) {
+            Ok(Fed::More) => {}
+            Ok(Fed::Ended { used }) => return Ok((at + used, finished(alloc, reader, whole))),
+            Err(_) => return Ok((to, finished(alloc, reader, whole))),
+        }
+        at = to;
+        to = min(at + size, input.len());
+    }
+    Ok((at, finished(alloc, reader, whole)))
+}
+
 /// An input, how many bytes it has, and how many lines.
 static JOBS: [(&[u8], usize, u32); 2] = [(SAMPLE, 326, 12), (PROFILE, 931, 24)];
 
@@ -84,8 +95,8 @@ fn is_same_in(
     requires first { first ≤ 1000 }
     requires size { size ≤ 1000 }
 {
-    let (fed, answer) = in_pieces(alloc, input, first, size)?;
-    Ok(fed == input.len() && matches!(&answer, Ok(read) if are_same(read, whole)))
+    let (fed, (_, is_same)) = in_pieces(alloc, input, Some(whole), first, size)?;
+    Ok(fed == input.len() && is_same)
 }
 
 /// Whether the input is a job of so many bytes and lines, and is read so in pieces too.
@@ -145,22 +156,29 @@ static ENDS: [(&[u8], usize, Told); 12] = [
     ),
 ];
 
+/// What the input tells as a whole.
+fn told_whole(alloc: Global, input: &[u8]) -> Told
+    requires { length input.now ≤ 1000 }
+{
+    told(&read_job(alloc, Grammar::Plain, input))
+}
+
 /// Whether the input tells that once so many of its bytes were fed, in pieces and as a whole.
 fn tells(alloc: Global, input: &[u8], bytes: usize, wanted: Told) -> Result<bool, AllocError> {
     if input.len() > 1_000 {
         return Ok(false);
     }
-    let (fed, answer) = in_pieces(alloc, input, 1, 1)?;
-    if fed != bytes || told(&answer) != wanted {
+    let (fed, (told, _)) = in_pieces(alloc, input, None, 1, 1)?;
+    if fed != bytes || told != wanted {
         return Ok(false);
     }
     for first in 1..64 {
-        let (fed, answer) = in_pieces(alloc, input, first, 64)?;
-        if fed < bytes || told(&answer) != wanted {
+        let (fed, (told, _)) = in_pieces(alloc, input, None, first, 64)?;
+        if fed < bytes || told != wanted {
             return Ok(false);
         }
     }
-    Ok(told(&read_job(alloc, Grammar::Plain, input)) == wanted)
+    Ok(told_whole(alloc, input) == wanted)
 }
 
 #[test]
