@@ -65,6 +65,13 @@ def object_code(line: bytes, heading: Heading) -> Optional[tuple[int, bytes]]:
     return int(location, 16), code
 
 
+def statement_number(text: str, columns: Columns) -> Optional[int]:
+    """The number of the statement on a line, which stands at the right of its columns: what a line of usings has there, as the 13
+    of R13, is none."""
+    found = re.fullmatch(" +([0-9]{1,5})", text[columns.statement.start - 1 : columns.statement.stop])
+    return int(found[1]) if found else None
+
+
 def read_listing(path: str, data: bytes) -> list[bytes]:
     """The lines of a listing, in ASCII, each within the limit."""
     lines = ebcdic_lines(path, data) if is_ebcdic(data) else ascii_lines(data)

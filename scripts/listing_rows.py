@@ -8,7 +8,7 @@ from typing import Optional
 
 from assembler.operations import OPERATIONS
 from constant_sizes import size_of
-from listing import Heading, heading_of, object_code
+from listing import Heading, heading_of, object_code, statement_number
 
 # Instructions to the assembler and to its macro processor (HLASM Language Reference): none is executed, and none is a macro.
 DIRECTIVES = frozenset(
@@ -93,9 +93,8 @@ def row_of(number: int, line: bytes, heading: Heading) -> Row:
     """What a line has."""
     columns, whole = heading.columns, line.decode("latin-1")
     padded = whole[heading.shift :].ljust(columns.source + 1)
-    statement, code = padded[columns.statement].strip(" "), padded[columns.object_code]
-    is_numbered = re.fullmatch("[0-9]{1,5}", statement) is not None
-    row = Row(number, source=padded[columns.source :], statement=int(statement) if is_numbered else None)
+    code = padded[columns.object_code]
+    row = Row(number, source=padded[columns.source :], statement=statement_number(padded, columns))
     row.is_generated = padded[columns.source - 1] == "+"
     found, location = object_code(line, heading), padded[columns.location]
     if found is not None and read_operation(row.source) in OPERATIONS:

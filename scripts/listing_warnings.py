@@ -8,7 +8,7 @@ from dataclasses import dataclass
 from typing import Iterator, Optional
 
 from assembler.operations import OPERATIONS
-from listing import Heading, heading_of
+from listing import Heading, heading_of, statement_number
 from listing_rows import DIRECTIVES, Row, rows_of
 
 PAGE = re.compile(rb"(?:^|.* )page *([0-9]{1,5}) *", re.I)
@@ -63,7 +63,7 @@ def page_jumps(lines: list[bytes], heading: Heading) -> Iterator[str]:
             if before is not None and page != before + 1:
                 yield f": line {number}: page {page} stands behind page {before}" + missing_pages(before, page)
             before, page = page, None
-        elif page is not None and line[heading.shift :][heading.columns.statement].strip().isdigit():
+        elif page is not None and statement_number(line[heading.shift :].decode("latin-1"), heading.columns) is not None:
             page = None
 
 

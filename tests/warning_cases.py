@@ -143,6 +143,21 @@ def nothing_to_warn_of() -> None:
         warns([HEADING, *(it.text() for it in gaps)], data=data)
 
 
+def usings_in_the_columns_of_numbers() -> None:
+    """module: a page's usings, whose registers and labels have digits where a statement has its number, are no statement"""
+    for is_wide in (False, True):
+        for before in ("", " "):
+            pages = in_pages(PROGRAM, is_wide, before)
+            at = [number for number, it in enumerate(pages) if "Active Usings" in it]
+            for width in range(1, 35):
+                for other in ("WORK,R13", "W12345,R9", "IN(X'FF0'),R13", "A1234567,R1"):
+                    for it in at:
+                        pages[it] = f"{before}  Active Usings: {'P' * width},R12  {other}"
+                    warns(pages)
+                    warns([*pages[:7], *pages[14:-1]], "line 10: page 5 stands behind page 3: page 4 is missing", NO_END,
+                          f"000002-00000F: 14 bytes {BARE}: statements 5 to 8 are not printed, which the macro TWICE of line 7 generates: PRINT GEN prints such")
+
+
 def constants_of_other_lengths() -> None:
     """module: constants that show eight of their bytes, or whose operands don't say how many they are, have no warning"""
     for constant in ("CL10'ABCDEFGHIJ'", "(TEN)C'A'", "CL(L'TEXT)'A'", "X'C1C2C3C4C5C6C7C8',XL2'C9D1'", "C'&&',CL9'A'", "C'&TEN'", "8C'A',H'-1'",
@@ -294,4 +309,4 @@ def calls_of_macros() -> None:
     warns([HEADING, CALLS[0].text(), *(it.text() for it in CALLS[7:])], f"000000-000005: 6 bytes {BARE}: statements 2 to 7 are missing behind line 2", data=data)
 
 
-CHECKS = [said_by_module, nothing_to_warn_of, calls_of_macros, constants_of_other_lengths, lost_lines, not_printed, sections_again, columns_off]
+CHECKS = [said_by_module, nothing_to_warn_of, usings_in_the_columns_of_numbers, calls_of_macros, constants_of_other_lengths, lost_lines, not_printed, sections_again, columns_off]
