@@ -63,6 +63,10 @@ class Row:
         words = GAPS.split(self.source.rstrip())
         return words[1].upper() if len(words) > 1 else ""
 
+    def of_statement(self) -> str:
+        """The operation of a statement; empty of a line that is none, as the title of a page, whatever words it has there."""
+        return self.operation() if self.statement is not None else ""
+
 
 def length_of(code: str) -> int:
     """How many digits an instruction has that begins with these."""

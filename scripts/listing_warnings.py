@@ -44,7 +44,7 @@ def warnings_of(path: str, lines: list[bytes], text: bytes, ranges: Ranges) -> l
     rows = rows_of(lines, heading)
     again = second_section(rows)
     found = [*page_jumps(lines, heading), *not_read(rows), *other_calls(rows, text), *again]
-    if not any(it.operation() == "END" and it.statement is not None for it in rows):
+    if not any(it.of_statement() == "END" for it in rows):
         found.append(": no line has the statement END: the listing may be cut")
     if not again:
         found += bare_ranges(rows, text, ranges)
@@ -107,7 +107,7 @@ def second_section(rows: list[Row]) -> list[str]:
     """A section that begins at 0 again, behind one that has bytes there."""
     names, has_bytes, has_ended = set[str](), False, False
     for it in rows:
-        operation = it.operation()
+        operation = it.of_statement()
         if operation in SECTIONS:
             if has_bytes and it.location == 0 and it.name() not in names:
                 cause = "a second assembly behind the END of the first" if has_ended else "the assembler's option NOTHREAD"
@@ -149,7 +149,7 @@ def with_bytes(rows: list[Row]) -> list[Row]:
     """The rows that have bytes of the module; what a dummy section reserves is none of it."""
     found, kinds, is_dummy = [], dict[str, bool](), False
     for it in rows:
-        operation = it.operation()
+        operation = it.of_statement()
         if operation in SECTIONS or operation in OTHER_SECTIONS:
             is_dummy = kinds.setdefault(it.name(), operation in OTHER_SECTIONS)
         elif operation == "LOCTR":
@@ -192,7 +192,7 @@ def jumps_of(rows: list[Row], own: list[Row]) -> list[Jump]:
 
 def macro_of(row: Row) -> str:
     """The macro that a row calls; empty where it calls none."""
-    operation = row.operation()
+    operation = row.of_statement()
     return operation if row.size == 0 and operation not in DIRECTIVES and operation not in OPERATIONS else ""
 
 

@@ -1,6 +1,7 @@
 """What module warns of: a listing that lost lines, or has some that look like instructions and aren't read as such."""
 from __future__ import annotations
 
+import re
 import sys
 from dataclasses import dataclass, replace
 from typing import Callable
@@ -141,6 +142,17 @@ def nothing_to_warn_of() -> None:
         # Statements that aren't printed and have no bytes, as SPACE and TITLE; and a listing of one page without a title.
         gaps = [replace(it, number=it.number + it.number // 3) for it in PROGRAM]
         warns([HEADING, *(it.text() for it in gaps)], data=data)
+
+
+def words_of_titles() -> None:
+    """module: what a page's title says where a statement stands is no operation"""
+    for is_wide in (False, True):
+        for before in ("", " "):
+            for words in ("DSECT", "NAME     DSECT", "CSECT", "END", "GETMAIN R"):
+                top = f"{'PROG     ALL THE PARTS OF THE':<{50 if is_wide else 40}} {words:<64} Page "
+                pages = [before + top + it[-4:] if it.startswith(f"{before}PROG  ") and "Page" in it else it for it in in_pages(PROGRAM, is_wide, before)]
+                warns(pages)
+                warns(pages[:-1], NO_END)
 
 
 def usings_in_the_columns_of_numbers() -> None:
@@ -305,8 +317,13 @@ def calls_of_macros() -> None:
     closes = "line 6: SVC 5 of the macro FREEMAIN closes a controlled session here, and frees no storage"
     for is_wide, heading in ((False, HEADING), (True, WIDE_HEADING)):
         for before in ("", " "):
-            warns([before + it for it in (heading, *(it.text(is_wide) for it in CALLS))], opens, closes, data=data)
+            lines = [before + it for it in (heading, *(it.text(is_wide) for it in CALLS))]
+            warns(lines, opens, closes, data=data)
+            # A page that begins among the lines of the macro, whose title and usings are no call of another.
+            top = [before + it for it in ("PROG     HOW IT IS CALLED".ljust(106) + "Page    2", "  Active Usings: PROGRAM1(X'FF0'),R15  WORK,R13  AREA,R12", heading)]
+            later = [re.sub("line ([0-9]+)(?=:|$)", lambda found: f"line {int(found[1]) + 3}", it) for it in (opens, closes)]
+            warns([*lines[:3], *top, *lines[3:]], *later, data=data)
     warns([HEADING, CALLS[0].text(), *(it.text() for it in CALLS[7:])], f"000000-000005: 6 bytes {BARE}: statements 2 to 7 are missing behind line 2", data=data)
 
 
-CHECKS = [said_by_module, nothing_to_warn_of, usings_in_the_columns_of_numbers, calls_of_macros, constants_of_other_lengths, lost_lines, not_printed, sections_again, columns_off]
+CHECKS = [said_by_module, nothing_to_warn_of, words_of_titles, usings_in_the_columns_of_numbers, calls_of_macros, constants_of_other_lengths, lost_lines, not_printed, sections_again, columns_off]
