@@ -5,7 +5,7 @@ import re
 from dataclasses import dataclass
 from typing import Optional
 
-from listing import Heading, heading_of
+from listing import Heading, heading_of, statement_number
 from report import Line
 
 # A statement with an operation: its name, the operation and the operands; no comment is one, and none of a macro's body
@@ -55,8 +55,7 @@ def statement_of(line: Line, heading: Heading) -> Statement:
 
 def number_of(line: Line, heading: Heading) -> Optional[int]:
     """The statement's number on a line that has one."""
-    digits = line.text[heading.shift :][heading.columns.statement].strip(b" ")
-    return int(digits) if digits.isdigit() else None
+    return statement_number(line.text[heading.shift :].decode("latin-1"), heading.columns)
 
 
 class Labels:
@@ -100,7 +99,8 @@ def spots_of(lines: list[Line]) -> dict[int, Spot]:
             if line.mark != " ":
                 found[at] = Spot(None, None, None)
         elif line.mark == " ":
-            if at > heading.at:
+            # A page's title, which is no statement, may have words of one.
+            if at > heading.at and number_of(line, heading) is not None:
                 labels.pass_by(statement_of(line, heading))
         else:
             label = labels.label_of(line, statement_of(line, heading))

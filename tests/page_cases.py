@@ -122,6 +122,12 @@ def labels() -> None:
         equal(page.items[:6], wanted)
         assert "4 ranges not executed:" in page.text and "2 branches went one way only:" in page.text
         equal([it for it in page.links if str(it).startswith("#S.M.")], [f"#S.M.{it[:6]}" for it in wanted])
+    # A page that begins between a label and its place, whose title has words of a statement.
+    for is_wide in (False, True):
+        for words in (b"DSECT", b"CSECT", b"NAME EQU *", b"DS    0H"):
+            for name in (b"LATER    DS    0H\n", b"HERE     EQU   *\n"):
+                title = b"  MAIN".ljust(52 if is_wide else 42) + b" " + words.ljust(60) + b"Page    2\n"
+                equal(page_of(labelled(is_wide).replace(name, name + title)).items[:6], wanted)
     # Without labels the statement alone; counts alone have neither.
     equal(page_of(NOT_RUN).items[0], "000000-000005 statement 1")
     equal(page_of(COUNTED.counted(RETURNED, (0, 1), (1,))).items[0], "000000 fell through only")
