@@ -30,12 +30,14 @@ class Spot:
 
 @dataclass(frozen=True)
 class Statement:
-    """A line's statement: its name, operation and operands, each empty where there is none, and the location."""
+    """A line's statement: its name, operation and operands, each empty where there is none, its location, and how many bytes
+    of object code it shows."""
 
     name: str
     operation: bytes
     operands: bytes
     location: Optional[int]
+    size: int
 
 
 def location_of(text: bytes, heading: Heading) -> Optional[int]:
@@ -50,7 +52,8 @@ def statement_of(line: Line, heading: Heading) -> Statement:
     found = SOURCE.match(text, heading.columns.source)
     name, operation, operands = (found[at] or b"" for at in (1, 2, 3)) if found else (b"", b"", b"")
     location = location_of(text, heading) if line.location is None else line.location
-    return Statement(name.decode("ascii"), operation.upper(), operands, location)
+    size = len(text[heading.columns.object_code].replace(b" ", b"")) // 2
+    return Statement(name.decode("ascii"), operation.upper(), operands, location, size)
 
 
 def number_of(line: Line, heading: Heading) -> Optional[int]:
@@ -88,6 +91,9 @@ class Labels:
         is_here = statement.operation == b"EQU" and statement.operands == b"*"
         if statement.name and not self.is_dummy and (is_here or statement.location is not None):
             self.name, self.location = statement.name, statement.location
+        if statement.operation == b"CNOP" and self.location is not None and self.location == statement.location:
+            # What it aligns has the label before it, as of ABEND, whose code begins so.
+            self.location += statement.size
 
 
 def spots_of(lines: list[Line]) -> dict[int, Spot]:

@@ -11,7 +11,7 @@ import browser
 from harness import TOP, Tally, coverage, equal, example_report, folder, run, run_checks, well
 from jobs import COUNTED, FIRST, FIRST_REPORT, OPENED_LINES, OPENED_REPLAY, Program, Result
 from report_cases import (
-    DRAINED, ENDED, ENDINGS, ENDS, EVENTS, MARKED, NOT_DRAINED, NOT_RUN, RETURNED, RUNNING, WIDE_REPORT, ends, labelled,
+    DRAINED, ENDED, ENDINGS, ENDS, EVENTS, MARKED, NOT_DRAINED, NOT_RUN, RETURNED, RUNNING, WIDE_REPORT, aligned, ends, labelled,
     replayed,
 )
 
@@ -131,6 +131,19 @@ def labels() -> None:
     # Without labels the statement alone; counts alone have neither.
     equal(page_of(NOT_RUN).items[0], "000000-000005 statement 1")
     equal(page_of(COUNTED.counted(RETURNED, (0, 1), (1,))).items[0], "000000 fell through only")
+
+
+def labels_before_alignment() -> None:
+    """page: a place behind the bytes of a CNOP has the label in front of it"""
+    wanted = ["000004-000005 OVER, statement 4", "000008-000009 NEXT, statement 6", "000010-000017 behind ALIGNED, statement 11"]
+    for report in (aligned(), aligned(True), aligned(False, " "), aligned(True, " "), aligned().replace(b"0700 0700", b"07000700 ")):
+        page = page_of(report)
+        equal(page.items[:3], wanted)
+        with folder() as at:
+            with open(f"{at}/rules", "wb") as file:
+                file.write(b"M OVER\nM ALIGNED\nM ZERO\n")
+            text = well(coverage("summary", "--leave-out", "rules", data=report, cwd=at)).output.decode()
+            assert text.splitlines()[1].endswith("6, 2 executed"), text
 
 
 def many(count: int) -> bytes:
@@ -415,6 +428,6 @@ def tools(tally: Tally) -> None:
 
 
 CHECKS = [
-    pages, page_escapes, control_characters, labels, folded_lists, back_to_the_top, tasks_first, task_ends,
+    pages, page_escapes, control_characters, labels, labels_before_alignment, folded_lists, back_to_the_top, tasks_first, task_ends,
     many_at_a_line, unlisted, texts, large_pages, contrast, replays, show_page, counted_pages, early_pages,
 ]

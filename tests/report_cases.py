@@ -37,19 +37,50 @@ LABELLED_ROWS = """
 00001A 07FE     : |+GEN      BR    14
 """
 LABELLED_RANGES = ("000006-000007", "00000E-00000F", "000014-000015", "000018-000019")
+# What a CNOP aligns has the label before it, or its own, but none where something else lies between.
+ALIGNED_ROWS = """
+000000 1211     : | MAIN     LTR   1,1
+000002            | OVER     DS    0H
+000002 0700       |+         CNOP  0,4
+000004 1822     ^ |+         LR    2,2
+000006 1833     : |          LR    3,3
+000008 1844     ^ | NEXT     LR    4,4
+00000A            | ABOVE    EQU   *
+00000A            |+         DS    0H
+00000A 07000700   | ALIGNED  CNOP  6,8
+00000E 1855     : |          LR    5,5
+000010 1866     ^ |          LR    6,6
+000012 C1C2       | DATA     DC    C'AB'
+000014            |          CNOP  0,4
+000014 1877     ^ |          LR    7,7
+000016            | ZERO     DS    0H
+000016            |          CNOP  2,4
+000016 07FE     ^ |          BR    14
+"""
+ALIGNED_RANGES = ("000004-000005", "000008-000009", "000010-000017")
 
 
 def labelled(is_wide: bool = False, before: str = "") -> bytes:
-    """The report over this listing, of either width; with a print control character before each line."""
+    """The report over the first of these listings, of either width; with a print control character before each line."""
+    return report_over(LABELLED_ROWS, 13, LABELLED_RANGES, is_wide, before)
+
+
+def aligned(is_wide: bool = False, before: str = "") -> bytes:
+    """The report over the second one, likewise."""
+    return report_over(ALIGNED_ROWS, 8, ALIGNED_RANGES, is_wide, before)
+
+
+def report_over(rows: str, facts: int, ranges: tuple[str, ...], is_wide: bool, before: str) -> bytes:
+    """The report over the listing that rows tell, with so many facts that there can be."""
     lines, marks, code = [before + (WIDE_HEADING if is_wide else HEADING)], " ", []
-    for number, row in enumerate(LABELLED_ROWS.strip("\n").split("\n"), 1):
+    for number, row in enumerate(rows.strip("\n").split("\n"), 1):
         at, digits, mark, source = row[:6], row[7:15].strip(), row[16], row[19:]
         location = at.rjust(8, "0" if at.strip() else " ") if is_wide else at
         groups = " ".join(digits[it : it + 4] for it in range(0, len(digits), 4))
         lines.append(f"{before}{location} {groups:<{35 if is_wide else 27}}{number:>5}{source}")
         marks += mark
         code += [(int(at, 16), digits, source.split()[-2])] if mark != " " else []
-    return Program(code, lines).report(RETURNED, marks, 13, *LABELLED_RANGES)
+    return Program(code, lines).report(RETURNED, marks, facts, *ranges)
 
 
 MARKED = COUNTED.report(RETURNED, "V:", 3)
