@@ -16,6 +16,8 @@ FIELDS = {
     "TASK": "name entry private budget room", "REG": "n value", "DATA": "offset bytes", "INPUT": "bytes", "ENDJOB": "",
 }
 OF_TASKS = ("REG", "DATA", "INPUT")
+# What is said of the first SERVICE card where none may stand.
+NO_SERVICES = "services are for the commands behind the word services alone, and job --check --services reads such a job"
 
 
 class Place(NamedTuple):
@@ -179,7 +181,7 @@ class Reader:
 
     def stand_service(self) -> None:
         if not self.has_services:
-            raise Broken("services are for the commands behind the word services alone, and job --check --services reads such a job")
+            raise Broken(NO_SERVICES)
         if self.phase:
             phase = f"the phase {self.phase} of {self.shown(self.phases[self.phase])}"
             raise Broken(f"a service behind {phase}; services stand before all phases")

@@ -19,7 +19,7 @@ from typing import Callable, Optional
 import listing
 from assembler.operations import OPERATIONS
 from cards import Broken
-from job_rules import Place, Reader
+from job_rules import NO_SERVICES, Place, Reader
 
 INPUT_LIMIT, SHOWN = 16_777_216, 3
 FACTS = {"R": "was executed", "W": "branched", "S": "fell through"}
@@ -247,7 +247,12 @@ def bad_job(line: str, data: Optional[bytes], words: list[str]) -> list[str]:
     if b"ENDJOB" in lines[: number - 1]:
         command = " ".join(words[: 1 + has_services])
         return [f"line {number} stands behind ENDJOB, where {command} takes nothing: {shown(lines[number - 1])}"]
-    return [f"line {number} of the input is {shown(lines[number - 1])}", *card_fault(data, number, has_services)]
+    said = card_fault(data, number, has_services)
+    if said == [NO_SERVICES]:
+        said = [f"a job with services is for ./coverage services {' '.join(words)}"]
+        if words[0] not in SERVED:
+            said = [f"{words[0]} takes no job with services: {', '.join(SERVED)} do, behind the word services"]
+    return [f"line {number} of the input is {shown(lines[number - 1])}", *said]
 
 
 def card_fault(data: bytes, number: int, has_services: bool) -> list[str]:
