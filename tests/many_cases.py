@@ -125,6 +125,22 @@ def by_make() -> None:
         holds(f"{at}/out", [0, 1, 2, *range(4, 12), 40])
 
 
+def words_that_lack() -> None:
+    """examples/many: words that lack are told before anything is written"""
+    with folder() as at:
+        put_jobs(f"{at}/jobs", range(2))
+        os.mkdir(f"{at}/none")
+        before = sorted(os.listdir("/"))
+        rows = [(f"{it}=", f"{it} is missing: make -f examples/many/Makefile JOBS=folder SESSION=NAME OUT=folder.") for it in ("JOBS", "SESSION", "OUT")]
+        for word, said in [*rows, ("OUT= ", rows[2][1]), (f"JOBS={at}/none", f"no file is {at}/none/NAME.job.")]:
+            ran = make(at, word)
+            assert ran.status == 2 and said in ran.error, (word, ran.status, ran.error)
+        for words in (["one", "job", "S"], ["gather"], ["gather", f"{at}/none"], ["slurm", "jobs", "S"], ["slurm"]):
+            ran = run(["bash", f"{MANY}/{words[0]}", *words[1:]], cwd=at)
+            assert ran.status == 1 and ran.error.startswith(f"usage: {words[0]} "), (words, ran.status, ran.error)
+        equal((sorted(os.listdir("/")), sorted(os.listdir(at)), os.listdir(f"{at}/none")), (before, ["command", "jobs", "none"], []))
+
+
 def later(at: str, number: int, other: int) -> None:
     """Puts another job in the place of one, later than all that was made."""
     time.sleep(0.02)
@@ -250,6 +266,6 @@ def run_all(tally: Tally) -> None:
     """Runs those of make where that is installed, and the others."""
     run_checks(tally, [one_again, with_services, killed, gathers])
     if shutil.which("make"):
-        run_checks(tally, [by_make, failing_by_make])
+        run_checks(tally, [by_make, failing_by_make, words_that_lack])
     else:
         tally.left_out.append("examples/many/Makefile, since make isn't installed")
