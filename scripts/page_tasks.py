@@ -13,7 +13,7 @@ MEANINGS = {
     "ABEND 1": "operation", "ABEND 2": "privileged operation", "ABEND 3": "execute", "ABEND 4": "protection",
     "ABEND 5": "addressing", "ABEND 6": "specification", "ABEND 7": "data", "ABEND 8": "fixed-point overflow",
     "ABEND 9": "fixed-point divide", "ABEND A": "decimal overflow", "ABEND B": "decimal divide",
-    "BADSVC": "no task call", "OUTFULL": "no room for its output", "TOUCHED": "an instruction read as data",
+    "BADSVC": "no task call", "OUTFULL": "no room for its output", "TOUCHED": "an instruction read as data, or as a part of another",
     "SPENT": "its budget is used up", "EXIT": "by SVC 3", "RUNNING": "not ended",
 }
 # The ASCII character of each code of ASCII; a dot where it can't be printed.

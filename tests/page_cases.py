@@ -197,6 +197,9 @@ def tasks_first() -> None:
     page = page_of(FIRST.report([*results, Result("OUTFULL", 2, name="LATE")], ":::", 3))
     equal(page.rows[1], ["LATE", "OUTFULL no room for its output", "2"])
     equal([it[0] for it in page.rows[2:16]], ["Task", *(it.name for it in results)])
+    # Read as data, or run into from an address within another.
+    page_row = page_of(FIRST.report([Result("TOUCHED 100004", 2)], ":::", 3)).rows[1]
+    equal(page_row[1], "TOUCHED 100004 an instruction read as data, or as a part of another")
     assert "13 tasks returned" in page.text and "1 of 14 tasks did not return." in page.text
 
 
