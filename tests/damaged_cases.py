@@ -20,6 +20,7 @@ from jobs import COUNTED, FIRST, Program
 TASK = "TASK A 100000 16 9 0\nREG 1 00000002\nDATA 0 C1\nINPUT C2\n"
 # The same of a count that begins with 3, and the first visits that show its facts.
 FROM_3 = "TASK A 100000 16 100 0\nREG 1 00000003\n"
+EVIDENCE_FROM_3 = bytes.fromhex("5333373045564431 00000000000000 00000000000200 00000000000300")
 FIRSTS_FROM_3: marks_model.Firsts = {0x100000: {2: (0, 0, 0), 4: (0, 2, 0)}, 0x100004: {1: (0, 3, 0)}}
 # SVC 4, BAL to the first job's instructions, SVC 5, SVC 4, SVC 5, and BR: the sixth and the eighth instruction close a session.
 OPENING = "TASK C 000000 16 100 0\nREG 1 00100000\nREG 13 00FFFFFE\nDATA 0 0A0445E010000A050A040A0507FD\n"
@@ -146,7 +147,59 @@ def damaged_evidence() -> None:
     equal((len(faults), faults[:1]), (0, []))
 
 
-CHECKS = [offsets, damaged_evidence]
+# Modules N, which has no listing, and O behind module M: no session observes them.
+LOADS = Program.of("0 41100005 LA, 4 07FE BR")
+MORE = "\n".join(["MODULE N 100008 2", "TEXT 07FE", "MODULE O 100010 6", "TEXT 4110000507FE", "LISTING 3", *LOADS.listing(), "PHASE P"])
+WENT, STAYED, RAN = (f"REFUTED ROW {it}" for it in ("1 FACT W", "1 FACT S", "2 FACT R"))
+# From which byte of the evidence on up to which one, and what is refuted where the lowest bit of one of them is turned, and where all
+# its bits are; nothing where that is bad evidence at the first of them. A number stays below 50,000,000 unless its first byte is
+# turned as a whole.
+TURNED = [
+    (0, 8, "", ""), (8, 10, "", ""), (10, 11, WENT, ""), (11, 14, WENT, WENT), (14, 15, WENT, ""),
+    (15, 17, "", ""), (17, 18, STAYED, ""), (18, 21, STAYED, STAYED), (21, 22, STAYED, ""),
+    (22, 24, "", ""), (24, 25, RAN, ""), (25, 28, RAN, RAN), (28, 29, RAN, ""),
+]
+
+
+def turned_evidence() -> None:
+    """evidence with a byte turned, cut in each field, and with entries doubled or exchanged, behind a file of no session that is known"""
+    front = COUNTED.job(FROM_3).replace(b"PHASE P", MORE.encode())
+    whole = EVIDENCE_FROM_3
+    head, went, stayed, ran = whole[:8], whole[8:15], whole[15:22], whole[22:]
+
+    def tells(text: bytes, line: str, sets: tuple[int, int] = (6, 1)) -> None:
+        status = {"V": 0, "B": 15, "R": 16}[line[0]]
+        got = run_command([PROGRAM, "verify", "S"], front + COUNTED.marks_file(*sets, name="", runs=2) + text)
+        equal((text.hex(), got.status, got.output, got.error), (text.hex(), status, f"{line}\n".encode(), ""))
+
+    def bad(offset: int) -> str:
+        return f"BAD EVIDENCE OFFSET {offset}"
+
+    def proves(task: str, text: bytes) -> None:
+        got = run_command([PROGRAM, "prove", "S"], front.replace(FROM_3.encode(), task.encode()))
+        equal((got.status, got.output, got.error), (0, text, ""))
+
+    proves(FROM_3, whole)
+    # An EX of the return in the task's own storage, which is told apart from an execution.
+    proves("TASK A 000000 16 100 0\nREG 2 00100000\nDATA 0 44002004\n", head + bytes(6) + b"\1")
+    tells(whole, "VERIFIED S FACTS 3")
+    for begin, end, low, every in TURNED:
+        for at in range(begin, end):
+            for mask, line in ((0x01, low), (0xFF, every)):
+                tells(whole[:at] + bytes([whole[at] ^ mask]) + whole[at + 1 :], line or bad(begin))
+    fields = (0, 8, 10, 14, 15, 17, 21, 22, 24, 28)
+    for size in range(len(whole)):
+        tells(whole[:size], bad(max(it for it in fields if it <= size)))
+    tells(head + went + went + stayed + ran, bad(29))
+    tells(head + stayed + went + ran, WENT)
+    tells(head + went + ran + stayed, STAYED)
+    # A fact is left out of the marks, and its entry with it; and more entries than are expected.
+    tells(head + went + ran, STAYED, (2, 1))
+    tells(whole, bad(22), (2, 1))
+    tells(head, WENT, (0, 0))
+
+
+CHECKS = [offsets, damaged_evidence, turned_evidence]
 
 
 def run_all(tally: Tally) -> None:

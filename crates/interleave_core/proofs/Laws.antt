@@ -2,5 +2,4 @@
 pub use Rattle.interleave_core.proofs.Follows.{run_stands}
 pub use Rattle.interleave_core.proofs.GoneLemmas.{gone_to}
 pub use Rattle.interleave_core.proofs.Runs.{run_on-append}
-pub use Rattle.interleave_core.proofs.SampleLemmas.{sample_are_places, sample_in}
 pub use Rattle.interleave_core.proofs.Turns.{controller_in}

@@ -17,7 +17,6 @@ mod Nexts
 mod Placing
 mod Quiet
 mod Runs
-mod SampleLemmas
 mod Starts
 mod Told
 mod Changes

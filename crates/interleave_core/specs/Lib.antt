@@ -5,6 +5,5 @@ pub mod Meaning
 pub mod MeaningOfEvents
 pub mod Quiet
 pub mod Results
-pub mod Sample
 pub mod Views
 pub mod World

@@ -5,6 +5,5 @@ mod ModuleLemmas
 mod SetsLemmas
 mod SessionLemmas
 mod OwnLemmas
-mod SampleLemmas
 mod FillLemmas
 pub mod Laws

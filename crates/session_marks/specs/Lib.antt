@@ -3,4 +3,3 @@ pub mod Filled
 pub mod FromFile
 pub mod Marking
 pub mod Meaning
-pub mod Sample

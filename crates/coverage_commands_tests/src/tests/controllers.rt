@@ -1,10 +1,15 @@
 //! Two controllers on the core: the plants and closes that are possible, and those that are not.
 
+ghost use Rattle.job_tables.specs.Tables.{IsReadyJob};
+
 use super::jobs::PLAIN;
+use brk_table::Tables;
 use cov_base::{PlaceNo, SessNo, TaskNo};
 use cov_outside::MemSource;
 use interleave_core::{Core, Event, start};
 use job_answers::{Asked, make_ready};
+use session_book::Job;
+use std::alloc::Global;
 use std::test::Fail;
 
 /// Task 1 controls sessions 1 and 2 over places 0 to 2, and task 2 session 3 over place 3.
@@ -62,7 +67,8 @@ fn number_in(digits: &str) -> u32 {
     u32::from_str_radix(digits, 10).unwrap_or(u32::MAX)
 }
 
-fn event_of(words: &str) -> Event {
+/// The event of these words: of a session at a place, or of a task.
+pub fn event_of(words: &str) -> Event {
     let (kind, rest) = words.split_once(' ').unwrap_or((words, ""));
     let (number, place) = rest.split_once(" at ").unwrap_or((rest, ""));
     let number = number_in(number);
@@ -71,6 +77,12 @@ fn event_of(words: &str) -> Event {
         Event::Plant(SessNo(number), place)
     } else if kind == "close" {
         Event::Close(SessNo(number), place)
+    } else if kind == "fetch" {
+        Event::Fetch(TaskNo(number))
+    } else if kind == "mark" {
+        Event::Mark(TaskNo(number))
+    } else if kind == "lift" {
+        Event::Lift(TaskNo(number))
     } else {
         Event::Do(TaskNo(number))
     }
@@ -87,17 +99,24 @@ fn check_events(core: &mut Core<'_>, events: &'static str) -> Result<(), Fail> {
     Ok(())
 }
 
+/// The same on a core of the job's one phase.
+fn check_job(alloc: Global, job: &Job, tables: &Tables) -> Result<(), Fail>
+    requires { IsReadyJob job.now tables.now }
+{
+    if job.phase_count() != 1 {
+        return Err(Fail::new("the phase"));
+    }
+    let mut core = start(alloc, job, tables)?;
+    check_events(&mut core, EVENTS)
+}
+
 #[test]
 fn controllers_alone_plant_and_close_in_order(rt: HostRuntime) -> Result<(), Fail> {
     let alloc = rt.alloc();
     let bytes = TWO_CONTROLLERS.as_bytes().to_vec(alloc)?;
     let mut source = MemSource::new(bytes, 64, Vec::new(alloc));
-    let Ok(ready) = make_ready(alloc, &mut source, PLAIN, &Asked::AnyJob) else {
-        return Err(Fail::new("the job"));
-    };
-    if ready.input.job.phase_count() != 1 {
-        return Err(Fail::new("the phase"));
+    match make_ready(alloc, &mut source, PLAIN, &Asked::AnyJob) {
+        Ok(ready) => check_job(alloc, &ready.input.job, &ready.tables),
+        Err(_) => Err(Fail::new("the job")),
     }
-    let mut core = start(alloc, &ready.input.job, &ready.tables)?;
-    check_events(&mut core, EVENTS)
 }

@@ -1,5 +1,6 @@
 //! A runner's extras are made before the area is, so before anything is planted.
 ghost use Rattle.std.specs.Prelude.{◌≡◌};
+ghost use Rattle.job_tables.specs.Tables.{IsReadyJob};
 ghost use Rattle.task_run.specs.Meaning.{solo};
 
 use super::FIRST_JOB;
@@ -11,9 +12,12 @@ use job_answers::{Asked, make_ready};
 use job_run::run_job_with;
 use module_area::{Areas, Cells, Plan};
 use s370_state::Ending;
+use session_book::Job;
 use shared_area::SharedAreas;
 use std::alloc::Global;
+use std::sync::Wait;
 use std::test::Fail;
+use std::thread::Threads;
 use task_run::{NoExtra, Runner, Task, run_task};
 
 /// Runs a task as it runs alone, but has no memory for its extra.
@@ -46,23 +50,31 @@ impl<C: Cells> Runner<C> for Wanting {
     }
 }
 
+/// Whether the job isn't run, and no area is made.
+fn makes_no_area<T: Threads + Wait + Sync>(
+    rt: &T,
+    alloc: Global,
+    job: &Job,
+    tables: &Tables,
+) -> Result<bool, Fail>
+    requires { IsReadyJob job.now tables.now }
+{
+    let mut areas = SharedAreas::new(alloc, 1).map_err(|_| "memory")?;
+    let ran = run_job_with(rt, alloc, &mut areas, &OpenGate, &Wanting, job, tables);
+    Ok(ran.is_err() && areas.made() == 0)
+}
+
+/// The same of the first job.
+fn makes_none_of_first<T: Threads + Wait + Sync>(rt: &T, alloc: Global) -> Result<bool, Fail> {
+    let mut source = MemSource::new(FIRST_JOB.as_bytes().to_vec(alloc)?, 64, Vec::new(alloc));
+    match make_ready(alloc, &mut source, PLAIN, &Asked::AnyJob) {
+        Ok(ready) => makes_no_area(rt, alloc, &ready.input.job, &ready.tables),
+        Err(_) => Ok(false),
+    }
+}
+
 #[test]
 fn makes_extras_before_it_plants(rt: HostRuntime) -> Result<(), Fail> {
-    let a = rt.alloc();
-    let mut source = MemSource::new(FIRST_JOB.as_bytes().to_vec(a)?, 64, Vec::new(a));
-    let Ok(read) = make_ready(a, &mut source, PLAIN, &Asked::AnyJob) else {
-        return Err("ready".into());
-    };
-    let mut areas = SharedAreas::new(a, 1).map_err(|_| "memory")?;
-    let ran = run_job_with(
-        &rt,
-        a,
-        &mut areas,
-        &OpenGate,
-        &Wanting,
-        &read.input.job,
-        &read.tables,
-    );
-    assert!(rt; ran.is_err() && areas.made() == 0);
+    assert!(rt; makes_none_of_first(&rt, rt.alloc())?);
     Ok(())
 }

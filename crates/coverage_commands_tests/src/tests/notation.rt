@@ -48,9 +48,7 @@ pub const ALONE: &str = "TASK A 100000 16 100 0\nENDJOB\n";
 pub enum Part {
     /// Stands for itself.
     Text(&'static str),
-    /// The lines of a job up to the last of module M, which has these instructions.
-    Module(&'static str),
-    /// These, and phase P.
+    /// The lines of a job up to phase P, where module M has these instructions.
     Phase(&'static str),
     /// These, and session S over M.
     Code(&'static str),
@@ -350,7 +348,6 @@ pub fn bytes_of(alloc: Global, parts: &[Part]) -> Result<Vec<u8>, Fail> {
     for part in parts {
         match part {
             Part::Text(words) => text.add(words),
-            Part::Module(code) => add_front(&mut text, code),
             Part::Phase(code) => add_phase(&mut text, code),
             Part::Code(code) => add_code(&mut text, code),
             Part::Task(words) => add_task(&mut text, words),
@@ -420,7 +417,7 @@ pub struct Row {
 }
 
 /// The words that the blanks part.
-pub fn words_in(alloc: Global, words: &'static str) -> Result<Vec<&'static str>, Fail> {
+fn words_in(alloc: Global, words: &'static str) -> Result<Vec<&'static str>, Fail> {
     let mut all = Vec::new(alloc);
     for word in words.split(' ') {
         all.push(word)?;

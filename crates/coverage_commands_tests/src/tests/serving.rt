@@ -21,12 +21,12 @@ pub const USAGE: &[u8] =
 
 /// What came of these words and this job, once served over areas and once without.
 #[derive(Drop)]
-pub struct Came {
-    pub status: Status,
-    pub text: Vec<u8>,
-    pub alone: Status,
-    pub text_alone: Vec<u8>,
-    pub made: u64,
+struct Came {
+    status: Status,
+    text: Vec<u8>,
+    alone: Status,
+    text_alone: Vec<u8>,
+    made: u64,
 }
 
 /// The words, each a string of its own.
@@ -83,7 +83,7 @@ fn serve_alone(alloc: Global, words: &[&str], job: &[u8]) -> Result<(Status, Vec
 }
 
 /// Serves the words over areas that threads share, and once more without areas.
-pub fn serve<T: Threads + Wait + Sync>(
+fn serve<T: Threads + Wait + Sync>(
     rt: &T,
     alloc: Global,
     words: &[&str],
