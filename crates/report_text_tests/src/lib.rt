@@ -1,4 +1,4 @@
-//! Tests of report_text: private storage of more than one block, and lines of counts.
+//! Tests of report_text: lines of counts.
 #![tactic(auto)]
 
 #[cfg(test)]
