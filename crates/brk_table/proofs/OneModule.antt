@@ -1,13 +1,16 @@
 -- The table of one module alone.
-use Rattle.std.proofs.Common.{◌≤◌, [], ◌∷◌, length, refl, sym, subst, arith}
+use Rattle.std.proofs.Common.{zero, suc, ◌≤◌, List, [], ◌∷◌, length, All, refl, sym, subst, arith}
 use Rattle.std.proofs.lemmas.List.{append-nil}
 use Rattle.cov_base.specs.Meaning.{ImageView}
 use Rattle.module_area.specs.Images.{IsImage}
 use Rattle.brk_table.specs.Meaning.{TableView}
 use Rattle.brk_table.specs.Build.{HasOwnPlaces}
 use Rattle.brk_table.specs.Together.{IsTableOf}
-use Rattle.brk_table.proofs.FarPlaces.{just_one}
 use Rattle.brk_table.proofs.Together.{AllMet, all_met}
+
+just_one : {X : Type 0} (P : X → Type 0) (x : X) → P x → All P (x ∷ [])
+just_one P x is zero d l = is
+just_one P x is (suc k) d l = absurd (omega arith)
 
 pub one_met : (i : ImageView) (t : TableView) → IsImage i → HasOwnPlaces 0 i t → length t.places ≤ 65536 → AllMet (i ∷ []) (t ∷ [])
 one_met i t is own most =
