@@ -1,5 +1,5 @@
 //! A controller's run, in which the sets of the sessions that it has closed are taken as soon as they are final.
-ghost use Rattle.std.specs.Prelude.{◌≡◌, ◌<◌, ◌^◌, true, false, All, IfOk};
+ghost use Rattle.std.specs.Prelude.{◌≡◌, ◌+◌, ◌*◌, ◌<◌, ◌^◌, true, false, All, IfOk};
 ghost use Rattle.std.specs.List.{list_any};
 ghost use Rattle.module_area.specs.Notes.{is_working, own_number};
 ghost use Rattle.module_area.specs.Rule.{IsPlan};
@@ -190,8 +190,8 @@ impl<'a, C: Drains> Hook<Planted<'a, C>> for Following {
     }
 }
 
-/// Runs the task until it ends, as `run_task` does, with a boundary behind each instruction, and with its drains, which are
-/// unused before.
+/// Runs the task until it ends, as `run_task` does, with a boundary behind each instruction, by which its number comes to twice
+/// their count, and with its drains, which are unused before.
 fn run_steps<C: Drains>(
     cells: &C,
     pass: &mut C::Pass,
@@ -208,6 +208,7 @@ fn run_steps<C: Drains>(
     ensures ran { RanOver C.Cells solo cells.now pass.old pass.new task.old task.new result }
     ensures working { is_working (C.notes pass.new) ≡ true }
     ensures number { own_number (C.notes pass.new) < 2 ^ 62 }
+    ensures boundaries { own_number (C.notes pass.new) ≡ 2 * task.new.done }
     ensures sessions { sessions_in drains.new.items ≡ sessions_in drains.old.items }
     ensures stand { AllStand plan.now (C.notes pass.new) task.old task.new drains.new.items }
 {
@@ -246,6 +247,7 @@ fn run_early<C: Drains>(
     ensures ran { RanOver C.Cells solo cells.now pass.old pass.new task.old task.new result }
     ensures told { HasToldSettled (C.plan cells.now) (C.notes pass.new) plan.now task.old task.new drains.new.items }
     ensures ended { is_working (C.notes pass.new) ≡ false }
+    ensures boundaries { own_number (C.notes pass.new) ≡ 2 * task.new.done + 1 }
 {
     let ending = run_steps(cells, pass, tables, plan, drains, task);
     cells.boundary(pass, true);

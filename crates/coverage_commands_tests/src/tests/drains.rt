@@ -158,14 +158,15 @@ pub fn has_both(plan: &Plan) -> bool
     plan.tasks.iter().any(|t| t.0 == 0) && plan.tasks.iter().any(|t| t.0 == 1)
 }
 
-/// The extras of the first phase's tasks 0 and 1, of which the runner runs one after the other on this thread.
+/// The extras of the first phase's tasks 0 and 1, of which the runner runs one after the other on this thread, and task 0's number
+/// behind its run.
 fn run_both<A: Areas, R: Runner<A::C>>(
     alloc: Global,
     areas: &mut A,
     runner: &R,
     job: &Job,
     tables: &Tables,
-) -> Result<Option<(R::Extra, R::Extra)>, NoMemory>
+) -> Result<Option<(R::Extra, R::Extra, u64)>, NoMemory>
     requires room { A.made areas.old < 2 ^ 62 }
     requires tables { AreCodes job.now.images tables.now }
 {
@@ -184,6 +185,7 @@ fn run_both<A: Areas, R: Runner<A::C>>(
     run_one(
         alloc, &cells, &mut pass, runner, &mut first, job, tables, &plan, 0,
     )?;
+    let number = cells.note(&mut root, TaskNo(0));
     run_one(
         alloc,
         &cells,
@@ -195,7 +197,7 @@ fn run_both<A: Areas, R: Runner<A::C>>(
         &plan,
         1,
     )?;
-    Ok(Some((first, second)))
+    Ok(Some((first, second, number)))
 }
 
 #[test]
@@ -217,19 +219,20 @@ fn is_taken(drain: &Drain, at: u32) -> bool {
     drain.stage == Stage::Taken && drain.at == at
 }
 
-/// Whether the second task has no drain to wait with, and the sets of both drains of the first were taken.
+/// Whether the first task has no drain to wait with, and the sets of both drains of the second were taken.
 fn are_taken(none: &[Drain], drains: &[Drain]) -> bool {
     none.is_empty() && drains.len() == 2 && is_taken(&drains[0], 2) && is_taken(&drains[1], 4)
 }
 
-/// Whether it is so where the runner runs the job's tasks 0 and 1.
+/// Whether it is so where the runner runs the job's tasks 0 and 1, and the first one's number is 7 then.
 fn takes_both(alloc: Global, job: &Job, tables: &Tables) -> Result<bool, Fail>
     requires { AreCodes job.now.images tables.now }
 {
     let mut areas = SharedAreas::new(alloc, 1)?;
     Ok(
         match run_both(alloc, &mut areas, &EarlyRunner, job, tables)? {
-            Some((none, drains)) => are_taken(&none, &drains),
+            // A boundary behind each of three instructions, and the last.
+            Some((none, drains, number)) => number == 7 && are_taken(&none, &drains),
             None => false,
         },
     )

@@ -1,9 +1,10 @@
-use Rattle.std.proofs.Common.{get_or, refl, sym, ◌∙◌, ap, subst}
+use Rattle.std.proofs.Common.{◌+◌, true, get_or, refl, sym, ◌∙◌, ap, subst}
 use Rattle.module_area.specs.Ended.{AreSettled}
-use Rattle.module_area.specs.Notes.{Notes, is_working}
+use Rattle.module_area.specs.Notes.{Notes, is_working, own_number}
 use Rattle.module_area.specs.Meaning.{PlanView}
 use Rattle.task_run.specs.Aside.{IsAside}
 use Rattle.task_run.specs.Meaning.{solo}
+use Rattle.task_run.proofs.Laws.{boundary_number}
 use Rattle.early_report.proofs.EarlyLemmas.{bears_of, ended}
 use Rattle.early_report.proofs.ToldLemmas.{ran_aside, told, first_sessions}
 use Rattle.early_report.proofs.runner.run_early.Goals as goal
@@ -29,3 +30,8 @@ pub returns-clause-ended : goal.returns-clause-ended
 returns-clause-ended g c =
     let mid : Notes = g.C.Cells.notes c.run_steps-ending.new.pass in
     ap is_working c.boundary.ensures.notes ∙ ended mid c.run_steps-ending.ensures.working
+
+pub returns-clause-boundaries : goal.returns-clause-boundaries
+returns-clause-boundaries g c =
+    let mid : Notes = g.C.Cells.notes c.run_steps-ending.new.pass in
+    ap own_number c.boundary.ensures.notes ∙ (boundary_number mid true ∙ ap (λ k. k + 1) c.run_steps-ending.ensures.boundaries)
