@@ -569,15 +569,22 @@ PLACES: list[tuple[int, Told, Told]] = [
     (12, 13, 13),
     (13, 14, 14),
 ]
+# Words behind which a card SERVICE is a bad line.
+UNSERVED = [
+    ("run",), ("exits",), ("early",), ("count",), ("ends",), ("replay",),
+    *((it, "S") for it in ("marks", "show", "prove", "verify")),
+]
 
 
 def services() -> None:
-    """cards: SERVICE cards, each rule kept and broken at its line, and the card in each place of a job"""
+    """cards: SERVICE cards, each rule kept and broken at its line, and the card in each place of a job and of each command"""
     tells([(joined(SERVING[:9]) + more + joined(SERVING[9:]), told) for more, told in SERVICES], SERVED)
     for behind, told, plain in PLACES:
         job = joined(SERVING[:behind]) + CARD + joined(SERVING[behind:])
         tells([(job, told)], SERVED)
         tells([(job, plain)])
+    for words in UNSERVED:
+        tells([(joined(SERVING[:9]) + CARD + joined(SERVING[9:]), 10)], words)
 
 
 CHECKS = [exchanged, blanks, missing_or_doubled, ended, lines_replaced, lines_of_any_job, counted, controllers, services]
