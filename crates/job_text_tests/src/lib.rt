@@ -1,4 +1,4 @@
-//! Tests of job_text: which bytes are a job, what is told of those that are none, and each item of a schedule.
+//! Tests of job_text: what a job has that was read, whole and in pieces, and each item of a schedule.
 #![tactic(auto)]
 
 #[cfg(test)]
