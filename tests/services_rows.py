@@ -5,7 +5,7 @@ from dataclasses import dataclass, replace
 
 import answers
 from harness import Case
-from jobs import TASK, USAGE, Program, Result, listing_of, task
+from jobs import TASK, USAGE, Program, Result, code_of, listing_of, task
 
 CODE = "0 0A0A SVC, 2 07FE BR, 4 41100007 LA, 8 07FE BR"
 SHORT = "0 0A0A SVC, 2 07FE BR"
@@ -168,6 +168,7 @@ def several() -> list[Case]:
         Case("services marks of a session that it lacks", ["services", "marks", "X"], job, b"NO SESSION X\n", 13),
         Case("services show of it", ["services", "show", "S"], job + file, of_routine(routine.shown(":&::", 5))),
         Case("show of it", ["show", "S"], job + file, b"BAD JOB LINE 17\n", 2),
+        Case("services show of it with a card behind its end", ["services", "show", "S"], job + b"SERVICE 10 100100\n", b"BAD MARKS OFFSET 0\n", 10),
         Case("services run of a routine that opens and closes a session", WORDS, controlled,
              opening.report([opened], "^::^", 4, "000000-000001", "000008-000009")),
         Case("services count of it", ["services", "count"], controlled, b"CONTROLLED S\n", 14),
@@ -233,11 +234,14 @@ def refusals() -> list[Case]:
     plain = Row(CODE, []).runs("BADSVC 10 COUNT 1", ":^^^").output
     # Behind the heading and the line of the first instruction.
     at = plain.index(b"\n^ 000002") + 1
+    heading, line = listing_of(code_of("0 07FE BR"))
+    among = Program(code_of("0 07FE BR"), [heading, CARD, line])
     return [
         *(bad(repr(it), job.replace(CARD.encode(), it.replace("/", "\n").encode()), line) for it, line in BAD_CARDS),
         *(bad(f"the card behind line {before}", elsewhere(before), line) for before, line in ELSEWHERE),
         Case("services show of a job with the card behind its end", ["services", "show", "S"], elsewhere(13), b"BAD MARKS OFFSET 0\n", 10),
         Case("services run with the card among the lines of a listing", WORDS, listed, plain[:at] + b"  SERVICE 10 100004\n" + plain[at:]),
+        Case("services run with the card among the lines of a listing, and none", WORDS, among.job(), among.report([result("RETURNED COUNT 1")], ":", 1)),
         bad("a line behind the end", job + b"\n", 15),
         bad("no end", job.replace(b"ENDJOB\n", b""), 14),
     ]
