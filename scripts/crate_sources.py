@@ -20,8 +20,8 @@ def rows() -> dict[str, str]:
     return found
 
 
-def crates() -> dict[str, list[str]]:
-    """The program's crate and those below it, each behind those that it stands on, with all of these."""
+def crates(*tops: str) -> dict[str, list[str]]:
+    """These crates, or the program's, and those below them, each behind those that it stands on, with all of these."""
     lines = rows()
     below: dict[str, list[str]] = {}
 
@@ -34,14 +34,15 @@ def crates() -> dict[str, list[str]]:
                 own += [other for other in (*below[it], it) if other not in own]
         below[name] = own
 
-    visit(TOP_CRATE)
+    for top in tops or (TOP_CRATE,):
+        visit(top)
     return below
 
 
-def sources() -> list[str]:
-    """Whatever a build reads: sources, definitions and proofs of the crates, and the lists at the top."""
+def sources(*tops: str) -> list[str]:
+    """Whatever a build of these crates, or of the program, reads: sources, definitions and proofs, and the lists at the top."""
     found = [f"{TOP}/crates.txt", f"{TOP}/HANDLES"]
-    for crate in crates():
+    for crate in crates(*tops):
         for part in ("src", "specs", "proofs"):
             for folder, _, files in os.walk(f"{TOP}/crates/{crate}/{part}"):
                 found += [f"{folder}/{it}" for it in files if it.endswith((".rt", ".antt"))]

@@ -69,6 +69,15 @@ def alone_in(folder: str, say: Callable[[str], None]) -> Iterator[None]:
         os.close(held)
 
 
+def bring(top: str, crate: str, room: str, names: Sequence[str], say: Callable[[str], None]) -> None:
+    """Brings a room these parts of what stands in the checkout's out/ of a crate."""
+    with alone_in(f"{top}/crates/{crate}", say):
+        for name in names:
+            made, to = f"{top}/crates/{crate}/out/{name}", f"{room}/crates/{crate}/out/{name}"
+            if os.path.isdir(made):
+                shutil.copytree(made, to, copy_function=link if name == LIBRARY else link_proofs)
+
+
 class Rooms:
     """The rooms of one build, over the sources as they stood when it began."""
 
@@ -96,16 +105,8 @@ class Rooms:
         for it in [*below, crate]:
             os.makedirs(f"{room}/crates/{it}")
             copy_files(self.files_of(it), self.sources, room, link)
-            self.bring(it, room, [LIBRARY, KEPT] if it == crate else [LIBRARY])
+            bring(self.top, it, room, [LIBRARY, KEPT] if it == crate else [LIBRARY], self.say)
         return self.folder(crate)
-
-    def bring(self, crate: str, room: str, names: Sequence[str]) -> None:
-        """Brings a room what stands in the checkout's out/ of a crate."""
-        with alone_in(f"{self.top}/crates/{crate}", self.say):
-            for name in names:
-                made, to = f"{self.top}/crates/{crate}/out/{name}", f"{room}/crates/{crate}/out/{name}"
-                if os.path.isdir(made):
-                    shutil.copytree(made, to, copy_function=link if name == LIBRARY else link_proofs)
 
     def take(self, crate: str, names: Sequence[str]) -> None:
         """Puts these parts of what the crate's room made into the checkout's out/, each whole, and removes the room."""
