@@ -1,6 +1,7 @@
 """Whole programs beside Hercules, step by step: registers, condition code and storage behind each instruction.
 
-And what the addresses that it has executed say of marks, counts, marks files and evidence, by the pages alone.
+And what the addresses that it has executed say of marks, counts, marks files and evidence, by the pages alone. Hercules knows no touch
+bytes: where a step reads one tests/machine_operations.py tells, from the state in which Hercules begins the step.
 """
 from __future__ import annotations
 
@@ -10,6 +11,8 @@ from concurrent.futures import ThreadPoolExecutor
 from dataclasses import dataclass, field
 
 import hercules
+import machine_operations
+import machine_task
 import marks_model
 import model
 import operands
@@ -20,12 +23,19 @@ from outside_instructions import Ended, Pair, case_of, ended, job, judged, state
 
 # How many steps a task may do, and how many tasks a program has.
 STEPS, TASKS = 250, 2
-# The kind of a result that ends where the instruction's later halfword is a touch byte, whose address is its code.
+# The kind of a result that ends where a step reads a touch byte.
 TOUCHED = 16
 # How many tasks a job may have.
 MOST = 64
 # The places by their addresses.
 Table = dict[int, model.Place]
+
+
+@dataclass
+class Touched(hercules.Result):
+    """A result up to a step that reads a touch byte, whose address is its code; and the visits that this step has begun."""
+
+    begun: list[int] = field(default_factory=list)
 
 
 @dataclass
@@ -58,11 +68,15 @@ def drawn(seed: int, number: int) -> Run:
 def shown_by(run: Run, table: Table) -> marks_model.Shown:
     """What the addresses that Hercules has executed show at the places."""
     shown = marks_model.Shown()
-    for number, (task, other) in enumerate(zip(run.tasks, run.others)):
-        # What ends by a touch byte is not begun.
-        after = [*other.trace[1:], other.state][: other.steps - (other.kind == TOUCHED)]
+    for number, other in enumerate(run.others):
+        begun = other.begun if isinstance(other, Touched) else []
+        after = [*other.trace[1:], other.state][: other.steps - isinstance(other, Touched)]
         for step, (before, it) in enumerate(zip(other.trace, after)):
             visit(shown, run.program.text, table, before, it.went, (number, step))
+        # What reads a touch byte is no branch.
+        for order, place in enumerate(map(table.get, begun)):
+            if place:
+                shown.add(place, False, (number, len(after), order))
     return shown
 
 
@@ -129,7 +143,7 @@ def fault_in_steps(program: str, run: Run) -> str | None:
 
 def fault_at(task: operands.Task, other: hercules.Result, budget: int, had: Ended) -> str | None:
     """What is wrong with the state behind a step."""
-    if budget == other.steps and other.kind == TOUCHED:
+    if budget == other.steps and isinstance(other, Touched):
         is_told = (had.ending, had.count) == (f"TOUCHED {other.code:06X}", budget)
         return state_difference(Pair(task, had, other), other.state) or None if is_told else f"{had.ending} COUNT {had.count}, and no touch"
     if budget == other.steps and other.kind != hercules.DONE:
@@ -144,14 +158,18 @@ def fault_at(task: operands.Task, other: hercules.Result, budget: int, had: Ende
 def compare(program: str, seed: int, count: int) -> tuple[list[Run], list[str]]:
     """Programs with what Hercules has made of them, and what is wrong with the program's results."""
     runs = [drawn(seed, n) for n in range(count)]
+    return runs, [f"seed {seed}, {it}" for it in beside_hercules(program, runs)]
+
+
+def beside_hercules(program: str, runs: list[Run]) -> list[str]:
+    """Runs programs on Hercules, and says what is wrong with what the program makes of them."""
     with hercules.Hercules() as machine:
-        tasks = [it for run in runs for it in run.tasks]
-        others = list(machine.run([case_of(it, True) for it in tasks]))
-    for n, run in enumerate(runs):
-        run.others = [touched(run, returned(it)) for it in others[TASKS * n : TASKS * (n + 1)]]
+        others = iter(list(machine.run([case_of(it, True) for run in runs for it in run.tasks])))
+    for run in runs:
+        run.others = [touched(run, returned(next(others))) for _ in run.tasks]
     with ThreadPoolExecutor(os.cpu_count()) as pool:
         faults = pool.map(lambda it: fault_of(program, it), runs)
-    return runs, [f"seed {seed}, {run.name}: {fault}" for run, fault in zip(runs, faults) if fault]
+    return [f"{run.name}: {fault}" for run, fault in zip(runs, faults) if fault]
 
 
 def told(runs: list[Run]) -> str:
@@ -163,14 +181,14 @@ def told(runs: list[Run]) -> str:
 
 
 def touched(run: Run, other: hercules.Result) -> hercules.Result:
-    """A result up to the first instruction of whose later halfwords one is a place's first: there docs/MACHINE.md ends the task."""
-    places = {operands.BASE + location for location, _, _ in run.program.code}
-    for step, state in enumerate(other.trace[: other.steps], 1):
-        code = run.program.text[max(state.at - operands.BASE, 0) :][:1] if state.at >= operands.BASE else b""
-        size = model.length_of(code[0]) if code else 2
-        for at in range(state.at + 2, state.at + size, 2):
-            if at in places:
-                return hercules.Result(TOUCHED, at, step, state, other.trace[:step])
+    """A result up to the first step that reads a touch byte: there docs/MACHINE.md ends the task."""
+    touch = {operands.BASE + location + n for location, _, _ in run.program.code for n in (0, 1)}
+    world = machine_task.World([(operands.BASE, bytes(run.program.text))], touch)
+    for step, it in enumerate(other.trace[: other.steps], 1):
+        task = machine_task.Task(world, list(it.registers), it.at, bytearray(it.private), condition=it.condition, mask=it.mask)
+        ending = task.step(machine_operations.OPERATIONS) or ""
+        if ending.startswith("TOUCHED "):
+            return Touched(TOUCHED, int(ending[8:], 16), step, it, other.trace[:step], task.visits)
     return other
 
 
