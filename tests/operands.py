@@ -15,8 +15,9 @@ from machine_task import CODES
 
 # Instructions in private storage lie below this address, and data behind it.
 DATA = 0x180
-# How many cases share a module, and the bytes that each has there.
-SHARING, SLOT = 64, 24
+# How many cases share a module, and the bytes that each has there; its instructions stand in so many last ones, so that none stands in
+# the module's first bytes, into which operands go from private storage.
+SHARING, SLOT, LAST = 64, 24, 16
 WORDS = (0, 1, 2, 3, 7, 0x7FFF, 0x8000, 0xFFFF, 0x10000, 0x7FFFFFFF, 0x80000000, 0x80000001, 0xFFFFFFFE, 0xFFFFFFFF)
 # A register that begins a pair.
 PAIR = "p"
@@ -439,22 +440,22 @@ EXECUTE = 0x44
 
 
 def task_of(draw: random.Random, code: int, name: str, module: bytearray, slot: int, maker: type[Maker] = Maker,
-            makes: Callable[[Maker, int], bytes] | None = None) -> Task:
-    """A case of an operation; its instructions go into its slot of the module, or into private storage."""
+            makes: Callable[[Maker, int], bytes] | None = None, is_in_slot: bool = False) -> Task:
+    """A case of an operation; its instructions go into its slot of the module, or into private storage where they may."""
     it = maker(draw, module, slot)
     is_executed = code == EXECUTE or draw.random() < 0.25
     shown = draw.choice(list(BY_CODE)) if code == EXECUTE else code
     made = (makes or BY_CODE[shown])(it, shown)
-    in_module = draw.random() < 0.4
-    at = BASE + SLOT * slot if in_module else 2 * draw.randrange(0x60)
+    own = BASE + SLOT * (slot + 1) - LAST
+    drawn = own if draw.random() < 0.4 else 2 * draw.randrange(0x60)
+    at = own if is_in_slot else drawn
     text = bytes([0x04, draw.randrange(16) << 4])
     if is_executed:
         front, made = executed(it, made, at + 10, code == EXECUTE and draw.random() < 0.2)
         text += front + tail(draw, at + 6) + made
     else:
         text += made + tail(draw, at + 2 + len(made))
-    room = module if in_module else it.private
-    start = at - BASE if in_module else at
+    room, start = (module, at - BASE) if at >= BASE else (it.private, at)
     room[start : start + len(text)] = text
     return Task(name, it.registers, at, it.private, module, 4, text.hex().upper(), is_executed)
 

@@ -71,10 +71,11 @@ def cases(seed: int, count: int) -> list[operands.Task]:
 # ---- the program
 
 
-def job(module: bytes, tasks: list[tuple[operands.Task, int]], listing: list[str] | None = None) -> bytes:
-    """A job of tasks with budgets that share a module, which the session S is over where it has a listing."""
+def job(module: bytes, tasks: list[tuple[operands.Task, int]], listing: list[str] | None = None, is_observed: bool = True) -> bytes:
+    """A job of tasks with budgets that share a module, which the session S is over where it has a listing and is observed."""
     rows = ["COVERJOB 1", f"MODULE M {operands.BASE:06X} {len(module)}", *cards("TEXT", module)]
-    rows += [f"LISTING {len(listing)}", *listing, "PHASE P", "SESSION S M"] if listing else ["PHASE P"]
+    rows += [f"LISTING {len(listing)}", *listing] if listing else []
+    rows += ["PHASE P", "SESSION S M"] if listing and is_observed else ["PHASE P"]
     for number, (it, budget) in enumerate(tasks):
         rows.append(f"TASK T{number} {it.at:06X} {len(it.private)} {budget} 65536")
         rows += [f"REG {n} {value:08X}" for n, value in enumerate(it.registers)]
@@ -84,10 +85,12 @@ def job(module: bytes, tasks: list[tuple[operands.Task, int]], listing: list[str
 
 def cards(word: str, data: bytes) -> list[str]:
     """Cards of bytes; DATA cards of zeros alone aren't needed."""
-    rows = [(at, data[at : at + 64]) for at in range(0, len(data), 64)]
-    if word == "DATA":
-        return [f"DATA {at} {row.hex()}" for at, row in rows if row.strip(b"\0")]
-    return [f"{word} {row.hex()}" for _, row in rows]
+    if word != "DATA":
+        return [f"{word} {data[at : at + 64].hex()}" for at in range(0, len(data), 64)]
+    # Most of a large storage is zeros: they are passed over by many cards at once.
+    parts = [at for at in range(0, len(data), 4096) if data[at : at + 4096] != bytes(4096)]
+    rows = [(at, data[at : at + 64]) for part in parts for at in range(part, min(part + 4096, len(data)), 64)]
+    return [f"DATA {at} {row.hex()}" for at, row in rows if row.strip(b"\0")]
 
 
 def ended(text: str, tasks: list[operands.Task]) -> Iterator[Ended]:
