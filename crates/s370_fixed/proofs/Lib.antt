@@ -1,3 +1,4 @@
 mod Wide
 mod Powers
 mod Registers
+mod LowWords

@@ -6,10 +6,10 @@ ghost use Rattle.s370_fixed.specs.Meaning.{is_word};
 ghost use Rattle.s370_fixed.specs.Results.{signed_half_at, with_result};
 ghost use Rattle.s370_decode.specs.Meaning.{ex};
 
-use crate::words::{half_of, is_word, low_word, sign_code, signed_half};
+use crate::words::{half_of, is_beyond_word, low_word, sign_code, signed_half};
 use cov_base::Addr;
 use s370_decode::Code;
-use s370_state::{Cpu, Ending, Next, Space, indexed, next_after, read_word, test_read};
+use s370_state::{Cpu, Ending, Next, Space, indexed, next_after, read_word, signed, test_read};
 
 /// The word at the second operand's address.
 #[inline(always)]
@@ -58,19 +58,19 @@ pub fn load(cpu: &mut Cpu, r: u8, v: u32) -> Next
 
 /// The signed result goes to the register, with its condition code; overflow is code 8.
 #[inline(always)]
-#[tactic(auto, unfolding(s370_state::specs::Meaning::next_after))]
+#[tactic(auto, using(crate::proofs::LowWords::signed_low), unfolding(s370_state::specs::Meaning::next_after))]
 pub fn set_result(cpu: &mut Cpu, r: u8, z: i64) -> Next
     requires { r < 16 }
     ensures cpu { cpu.new ≡ with_result cpu.old r z }
     ensures next { result ≡ next_after cpu.old.mask (if is_word z then 0 else 8) }
 {
-    cpu.set_reg(r, low_word(z));
-    let wide = i128::from(z);
-    if is_word(wide) {
-        cpu.set_cc(sign_code(wide));
-        Next::On
-    } else {
+    let low = low_word(z);
+    cpu.set_reg(r, low);
+    if is_beyond_word(z) {
         cpu.set_cc(3);
         next_after(cpu.mask(), 8)
+    } else {
+        cpu.set_cc(sign_code(i128::from(signed(low))));
+        Next::On
     }
 }

@@ -1,6 +1,6 @@
 //! Numbers of which a register keeps 32 bits (Principles of Operation, "Fixed-Point Arithmetic", "Number Representation"),
 //! and halfwords.
-ghost use Rattle.std.specs.Prelude.{◌≡◌, ◌+◌, ◌%◌, ◌<◌, ◌≤◌, ◌^◌, true, ℤ, pos, neg_ℤ, ◌≤ℤ◌, ◌<ℤ◌};
+ghost use Rattle.std.specs.Prelude.{◌≡◌, ◌+◌, ◌%◌, ◌<◌, ◌≤◌, ◌^◌, true, not, ℤ, pos, neg_ℤ, ◌≤ℤ◌, ◌<ℤ◌};
 ghost use Rattle.cov_base.specs.Meaning.{can_reach, can_store};
 ghost use Rattle.s370_state.specs.Meaning.{number_at, store_number};
 ghost use Rattle.s370_fixed.specs.Meaning.{signed_half, low_word, is_word, sign_code};
@@ -39,6 +39,15 @@ pub fn is_word(z: i128) -> bool
     ensures { result ≡ is_word z }
 {
     -2_147_483_648 <= z && z < 2_147_483_648
+}
+
+/// Whether the number does not fit a signed word. This is one comparison without signs, which compilers know as the overflow
+/// of a sum of words.
+#[inline(always)]
+pub fn is_beyond_word(z: i64) -> bool
+    ensures { result ≡ not (is_word z) }
+{
+    z.wrapping_add(2_147_483_648).cast_unsigned() > 4_294_967_295
 }
 
 /// The condition code of a signed result that fits: 0 for zero, 1 for negative, 2 for positive.
