@@ -13,5 +13,5 @@ mod OneTable
 mod OneModule
 mod NumberLemmas
 mod CodeLemmas
-mod UnpackedLemmas
+mod DecodedLemmas
 pub mod Laws

@@ -1,5 +1,5 @@
 -- The table of one module alone.
-use Rattle.std.proofs.Common.{zero, suc, ◌≤◌, List, [], ◌∷◌, length, All, refl, sym, subst, arith}
+use Rattle.std.proofs.Common.{zero, suc, ◌≤◌, [], ◌∷◌, length, All, refl, sym, subst, arith}
 use Rattle.std.proofs.lemmas.List.{append-nil}
 use Rattle.cov_base.specs.Meaning.{ImageView}
 use Rattle.module_area.specs.Images.{IsImage}

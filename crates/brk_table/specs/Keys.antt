@@ -1,4 +1,4 @@
--- By which number an instruction is found as the next one.
+-- By which number an instruction is found where a task goes on.
 use Rattle.std.specs.Prelude.{ℕ, ◌==◌, if◌then◌else◌}
 use Rattle.cov_base.specs.declared.constants.TheConstants.{RETURN_ADDRESS}
 

@@ -1,9 +1,9 @@
 pub mod Build
 pub mod Cover
+pub mod Decoded
 pub mod Kept
 pub mod Keys
 pub mod Map
 pub mod Meaning
 pub mod Places
 pub mod Together
-pub mod Unpacked

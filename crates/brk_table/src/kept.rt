@@ -1,29 +1,17 @@
-//! An instruction, unpacked as a task's loop reads it.
-ghost use Rattle.std.specs.Prelude.{◌≡◌, ◌+◌, ◌<◌};
-ghost use Rattle.cov_base.specs.Meaning.{wrap};
-ghost use Rattle.s370_decode.specs.Meaning.{first_half, op_of, b2, d2};
+//! An instruction as a task's loop finds it.
+ghost use Rattle.std.specs.Prelude.{◌≡◌};
 ghost use Rattle.brk_table.specs.Keys.{key_of};
 
 use cov_base::{Addr, RETURN_ADDRESS};
-use s370_decode::{Code, Op, op_of};
+use s370_decode::{Code, Decoded};
 
-/// An instruction with its operation and the address behind it. Its key is its address, by which it is found as the next one;
-/// but that of the return address, at which a task executes nothing, is X'1000000'.
+/// A decoded instruction, and the key by which it is found where a task goes on: its address, but at the return address, at which
+/// a task executes nothing, X'1000000', which is no address.
 #[derive(Drop)]
 pub struct Kept {
-    pub code: Code,
+    pub decoded: Decoded,
     pub key: u32,
-    pub next: Addr,
-    pub op: Op,
-    /// Base and displacement of the second operand.
-    pub base: u8,
-    pub displacement: u16,
-    ghost keyed: { key ≡ key_of code.at },
-    ghost follows: { next ≡ wrap (code.at + code.len) },
-    ghost operates: { op ≡ op_of (first_half code) },
-    ghost based: { base ≡ b2 code },
-    ghost register: { base < 16 },
-    ghost displaced: { displacement ≡ d2 code },
+    ghost keyed: { key ≡ key_of decoded.code.at },
 }
 
 /// The key of an address.
@@ -37,16 +25,13 @@ fn key_of(at: Addr) -> u32
     }
 }
 
-/// The instruction, unpacked.
-pub fn unpacked(code: Code) -> Kept
-    ensures { result.code ≡ code }
+/// The instruction, decoded, with its key.
+pub fn keep(code: Code) -> Kept
+    ensures { result.decoded.code ≡ code }
 {
+    let key = key_of(code.at);
     Kept {
-        code,
-        key: key_of(code.at),
-        next: code.at.plus(u32::from(code.len)),
-        op: op_of(code.first_half()),
-        base: code.b2(),
-        displacement: code.d2(),
+        decoded: Decoded::of(code),
+        key,
     }
 }

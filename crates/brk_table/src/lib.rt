@@ -4,6 +4,7 @@
 mod builder;
 mod codes;
 mod cover;
+mod decoding;
 mod fault;
 mod faults;
 mod kept;
@@ -11,7 +12,6 @@ mod line_places;
 mod map;
 mod places;
 mod tables;
-mod unpacking;
 
 pub use builder::build;
 pub use faults::BuildFault;

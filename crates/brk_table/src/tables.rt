@@ -1,5 +1,5 @@
 //! The places of a module, and of all monitored modules.
-ghost use Rattle.std.specs.Prelude.{◌≡◌, ◌≢◌, ◌↔◌, ℕ, ◌<◌, ◌≤◌, true, false, length, get_or, IfSome, IfOk, IsNone, IsSome, All, AllPairs};
+ghost use Rattle.std.specs.Prelude.{◌≡◌, ◌↔◌, ℕ, ◌<◌, ◌≤◌, true, false, length, get_or, IfSome, IfOk, IsTrue, IsNone, IsSome, All, AllPairs};
 ghost use Rattle.module_area.specs.Meaning.{place_of, is_place};
 ghost use Rattle.std.specs.Prelude.{◌+◌, nat_eq, option_map};
 ghost use Rattle.brk_table.specs.Kept.{AreCodes};
@@ -9,11 +9,11 @@ ghost use Rattle.brk_table.specs.Places.{IsIn, HasItsPlaces, HasRisingPlaces};
 ghost use Rattle.cov_base.specs.declared.numbers.PlaceNo.{PlaceNo as Number};
 
 use crate::codes::codes_of;
+use crate::decoding::decode_all;
 use crate::kept::Kept;
 use crate::line_places::LinePlaces;
 use crate::map::{enter_all, entry_at};
-use crate::unpacking::unpack;
-use cov_base::{Addr, NoMemory, PLACE_LIMIT, PlaceNo, RETURN_ADDRESS};
+use cov_base::{Addr, NoMemory, PLACE_LIMIT, PlaceNo};
 use module_area::{Images, Place};
 use s370_decode::Code;
 use std::alloc::Global;
@@ -43,7 +43,7 @@ pub struct Tables {
     places: Vec<Place>,
     // of each place its whole instruction, where the modules were given
     codes: Vec<Code>,
-    // the same, unpacked
+    // the same, decoded, each with its key, and behind them two that are found at no address
     kept: Vec<Kept>,
     // for each page of 4 KB the number of its 2,048 entries, one for each halfword: its place's number and 1, or 0
     pages: Vec<u32>,
@@ -57,13 +57,13 @@ impl Model for Tables {
     ghost use Rattle.brk_table.specs.Places.{ArePlaces, HasItsPlaces, HasRisingPlaces};
     ghost use Rattle.std.specs.Prelude.{length};
     ghost use Rattle.brk_table.specs.Map.{IsMap};
-    ghost use Rattle.brk_table.specs.Unpacked.{AreUnpacked};
+    ghost use Rattle.brk_table.specs.Decoded.{AreDecoded};
 
     ghost Value = { TablesView };
 
     ghost view = { λ t. record { tables = t.tables.items; places = t.places.items; codes = t.codes.items } };
 
-    ghost invariant = { λ t. (t.places.items ≡ all_places t.tables.items) × ArePlaces t.places.items × All HasItsPlaces t.tables.items × All HasRisingPlaces t.tables.items × IsMap t.pages.items t.entries.items t.places.items (length t.places.items) × AreUnpacked t.codes.items t.kept.items };
+    ghost invariant = { λ t. (t.places.items ≡ all_places t.tables.items) × ArePlaces t.places.items × All HasItsPlaces t.tables.items × All HasRisingPlaces t.tables.items × IsMap t.pages.items t.entries.items t.places.items (length t.places.items) × AreDecoded t.codes.items t.kept.items };
 }
 
 impl Table {
@@ -107,7 +107,7 @@ impl Table {
 impl Tables {
     ghost use Rattle.brk_table.specs.Meaning.{all_places};
     ghost use Rattle.brk_table.specs.Places.{ArePlaces};
-    ghost use Rattle.brk_table.specs.Unpacked.{AreAtPlaces};
+    ghost use Rattle.brk_table.specs.Decoded.{AreAtPlaces, AreFrom, IsThere};
 
     /// Numbers the places of tables as `build` gives them, table by table: at most 65,536 together, which share no byte.
     pub fn of(alloc: Global, tables: Vec<Table>) -> Result<Tables, NoMemory>
@@ -124,7 +124,7 @@ impl Tables {
         let mut pages = vec![in alloc; 0u32; 4096]?;
         let mut entries = vec![in alloc; 0u32; 2048]?;
         enter_all(&mut pages, &mut entries, &places)?;
-        let kept = unpack(alloc, &[])?;
+        let kept = decode_all(alloc, &[])?;
         Ok(Tables {
             tables,
             places,
@@ -147,7 +147,7 @@ impl Tables {
     {
         let numbered = Tables::of(alloc, tables)?;
         let codes = codes_of(alloc, images, &numbered.places)?;
-        let kept = unpack(alloc, &codes)?;
+        let kept = decode_all(alloc, &codes)?;
         Ok(Tables {
             codes,
             kept,
@@ -171,23 +171,45 @@ impl Tables {
         Some(PlaceNo(entry - 1))
     }
 
-    /// The place behind the one of the number `last`, where there is such a place and it begins at the address, unless a task
-    /// returns there, which executes nothing. Found by one load: it is mostly the next one that a task comes to.
+    /// Whether the place behind that of number `last`, where there is one, begins at the address, and a task doesn't return there,
+    /// by the instructions from `last` on. Found by one load: it is mostly the next one that a task comes to.
     #[inline(always)]
-    pub fn next_at(&self, last: u32, a: Addr) -> Option<PlaceNo>
+    pub fn comes_next(&self, last: u32, kept: &[Kept], a: Addr) -> bool
         requires codes { AreAtPlaces self.now }
         requires last { last ≤ length self.now.places }
-        ensures exists { IfSome result (λ n. n.0 < length self.now.places) }
-        ensures begins { IfSome result (λ n. (place_of self.now.places n.0).at ≡ a) }
-        ensures goes_on { IsSome result → a ≢ RETURN_ADDRESS }
+        requires kept { AreFrom self.now last kept.now }
+        ensures there { IsTrue result → IsThere self.now (last + 1) a }
         ensures places { ArePlaces self.now.places }
     {
-        let next = last as usize + 1;
-        if self.kept[next].key == a.get() {
-            Some(PlaceNo(next as u32))
+        let _ = &self.kept;
+        kept[1].key == a.get()
+    }
+
+    /// The instructions from place n on, where that is a place which begins at the address, and a task doesn't return there.
+    #[inline(always)]
+    pub fn kept_at(&self, n: u32, a: Addr) -> Option<&[Kept]>
+        requires codes { AreAtPlaces self.now }
+        requires n { n ≤ length self.now.places }
+        ensures there { IsSome result → IsThere self.now n a }
+        ensures from { IfSome result (λ kept. AreFrom self.now n kept.now) }
+        ensures places { ArePlaces self.now.places }
+    {
+        let _ = &self.kept;
+        let kept = self.kept_from(n);
+        if kept[0].key == a.get() {
+            Some(kept)
         } else {
             None
         }
+    }
+
+    /// The instructions from place n on, which may be behind the last place, and behind them two that are found at no address.
+    #[inline(always)]
+    pub fn kept_from(&self, n: u32) -> &[Kept]
+        requires { n ≤ length self.now.codes }
+        ensures { AreFrom self.now n result.now }
+    {
+        &self.kept[n as usize..]
     }
 
     /// The place of an existing number.
@@ -206,15 +228,6 @@ impl Tables {
         ensures places { ArePlaces self.now.places }
     {
         &self.codes[n.0 as usize]
-    }
-
-    /// The same, unpacked.
-    pub fn kept(&self, n: PlaceNo) -> &Kept
-        requires { n.0 < length self.now.codes }
-        ensures value { (d : Instruction) → result.now.code ≡ get_or self.now.codes n.0 d }
-        ensures places { ArePlaces self.now.places }
-    {
-        &self.kept[n.0 as usize]
     }
 
     /// The number of places.

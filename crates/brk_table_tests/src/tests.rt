@@ -1,9 +1,9 @@
 //! A small module's listing, with one line changed at a time, and the instructions kept of another.
 ghost use Rattle.std.specs.Prelude.{IfOk, IfSome};
-ghost use Rattle.brk_table.specs.Unpacked.{AreAtPlaces};
+ghost use Rattle.brk_table.specs.Decoded.{AreAtPlaces};
 
 use brk_table::{BuildFault, Table, Tables, build};
-use cov_base::{Addr, Kind, LINE_LIMIT, Name, NoMemory, PlaceNo};
+use cov_base::{Addr, Kind, LINE_LIMIT, Name, NoMemory, PlaceNo, RETURN_ADDRESS};
 use listing_lines::ListingLines;
 use listing_reader::read_listing;
 use module_area::{Image, Images};
@@ -229,14 +229,41 @@ fn keeps_the_instruction_of_each_place(rt: HostRuntime) -> Result<(), Fail> {
 }
 
 #[test]
-fn finds_the_place_behind_each(rt: HostRuntime) -> Result<(), Fail> {
+fn finds_each_place_and_the_one_behind(rt: HostRuntime) -> Result<(), Fail> {
     if let Some(tables) = kept_tables(rt.alloc())? {
         assert_eq!(rt; tables.len(), 5);
         for n in 0..tables.len() {
+            let kept = tables.kept_from(n);
             for k in 0..tables.len() {
                 let at = tables.place(PlaceNo(k)).at;
-                let next = if k == n + 1 { Some(PlaceNo(k)) } else { None };
-                assert!(rt; tables.next_at(n, at) == next);
+                assert_eq!(rt; tables.comes_next(n, kept, at), k == n + 1);
+                assert_eq!(rt; tables.kept_at(n, at).is_some(), k == n);
+            }
+        }
+        return Ok(());
+    }
+    assert!(rt; false);
+    Ok(())
+}
+
+#[test]
+fn finds_no_place_where_none_begins(rt: HostRuntime) -> Result<(), Fail> {
+    if let Some(tables) = kept_tables(rt.alloc())? {
+        assert_eq!(rt; tables.len(), 5);
+        for n in 0..tables.len() + 1 {
+            let kept = tables.kept_from(n);
+            for at in [
+                0,
+                0x0FFFFE,
+                0x100002,
+                0x100005,
+                0x100010,
+                RETURN_ADDRESS,
+                0xFFFFFF,
+            ] {
+                let at = Addr::of(at);
+                assert!(rt; !tables.comes_next(n, kept, at));
+                assert!(rt; tables.kept_at(n, at).is_none());
             }
         }
         return Ok(());

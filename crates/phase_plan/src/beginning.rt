@@ -43,11 +43,6 @@ pub fn begin<'a>(
     let space = TaskSpace::new(alloc, card.private, &card.cards, images_of(job), tables)?;
     let input = card.input.to_vec(alloc)?;
     let io = TaskIo::new(alloc, input, card.room)?;
-    let cpu = Cpu {
-        regs: card.regs,
-        ia: card.entry,
-        cc: 0,
-        mask: 0,
-    };
+    let cpu = Cpu::new(&card.regs, card.entry, 0, 0);
     Ok(Begun { cpu, space, io })
 }

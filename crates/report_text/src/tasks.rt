@@ -80,8 +80,8 @@ fn state_part<K: Sink>(
     ensures { Prints K.Sink sink.old sink.new result (state_lines name.now ending done cpu.now) }
 {
     put(sink, task_line(name, ending, done, cpu.condition()))?;
-    put(sink, register_line(b"R0", &cpu.regs[..8]))?;
-    put(sink, register_line(b"R8", high(&cpu.regs)))
+    put(sink, register_line(b"R0", &cpu.regs()[..8]))?;
+    put(sink, register_line(b"R8", high(cpu.regs())))
 }
 
 /// Row n of the output.

@@ -5,6 +5,6 @@ mod branches;
 
 pub use branches::{
     branch, branch_and_link, branch_and_link_register, branch_on_condition,
-    branch_on_condition_register, branch_on_count, branch_on_count_register, go_on_condition,
-    go_on_count, goes, less_one, outcome,
+    branch_on_condition_register, branch_on_count, branch_on_count_register, condition_goes,
+    count_left, go_on_condition, go_on_count, outcome,
 };

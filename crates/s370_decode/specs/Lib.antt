@@ -1,3 +1,4 @@
+pub mod Decoded
 pub mod Groups
 pub mod Meaning
 pub mod Mnemonics

@@ -2,6 +2,7 @@
 #![tactic(auto)]
 
 mod code;
+mod decoded;
 mod group;
 mod halfword;
 mod mnemonics;
@@ -9,6 +10,7 @@ mod op;
 mod table;
 
 pub use code::Code;
+pub use decoded::Decoded;
 pub use group::{Group, group_of};
 pub use halfword::{kind, length};
 pub use mnemonics::is_mnemonic;

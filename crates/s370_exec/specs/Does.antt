@@ -5,6 +5,7 @@ use Rattle.s370_state.specs.Meaning.{machine_of}
 use Rattle.s370_state.specs.declared.endings.Ending.{Ending}
 use Rattle.s370_state.specs.declared.endings.Next.{Next}
 use Rattle.s370_decode.specs.declared.code.Code.{Code}
+use Rattle.s370_decode.specs.declared.decoded.Decoded.{Decoded}
 use Rattle.s370_decode.specs.declared.op.Op.{Op}
 use Rattle.s370_exec.specs.Meaning.{Effect, effect, onward_by, Step, subject_step}
 use Rattle.s370_exec.specs.declared.instruction.Told.{Told}
@@ -37,6 +38,10 @@ pub record CarriesOut {S : Type 0} (memory_of : S → Memory) (bytes_of : S → 
     (cpu : CpuView) (space : S) (cpu' : CpuView) (space' : S) (told : Told) (end : Ending) : Type 0 where
   pub memory : memory_of space' ≡ memory_of space
   pub effect : (io : IoView) (link : ℕ) → effect_of cpu' (bytes_of space') io (next_of told end) ≡ effect (memory_of space) (machine_of cpu (bytes_of space)) io c op to link
+
+-- it carries out an operation of a decoded instruction, under no EX
+abbrev pub CarriesOn : {S : Type 0} → (S → Memory) → (S → List ℕ) → Decoded → Op → CpuView → S → CpuView → S → Told → Ending → Type 0
+CarriesOn memory_of bytes_of d op cpu space cpu' space' told end = CarriesOut memory_of bytes_of d.code op d.next cpu space cpu' space' told end
 
 -- a branch, which storage, input and output don't concern, and which ends no task
 abbrev pub Branches : Code → Op → ℕ → ℕ → CpuView → CpuView → Told → Type 0

@@ -1,13 +1,11 @@
 //! The frequent operations on bytes, fields and several registers: those on one byte where all operations are told apart, the others
 //! each a call in a frame of its own.
 ghost use Rattle.std.specs.Prelude.{◌≡◌};
-ghost use Rattle.s370_decode.specs.Meaning.{ex, e2};
-ghost use Rattle.s370_exec.specs.Does.{CarriesOut};
+ghost use Rattle.s370_exec.specs.Does.{CarriesOn};
 ghost use Rattle.s370_exec.specs.Meaning.{effect};
 
 use crate::instruction::{Told, onward};
-use cov_base::Addr;
-use s370_decode::{Code, Op};
+use s370_decode::{Decoded, Op};
 use s370_fixed::{load_multiple, load_multiple_own, store_multiple, store_multiple_own};
 use s370_logic::{
     compare_fields, compare_fields_own, compare_immediate, insert_character, move_immediate,
@@ -22,18 +20,15 @@ use s370_storage::{move_characters, move_characters_own};
 pub(crate) fn store_multiple_apart<P: Space>(
     cpu: &mut Cpu,
     space: &mut P,
-    code: &Code,
-    second: Addr,
-    next: Addr,
+    it: &Decoded,
     end: &mut Ending,
 ) -> Told
-    requires { second ≡ e2 cpu.old code.now }
-    ensures { CarriesOut P.memory P.bytes code.now Op.STM next cpu.old space.old cpu.new space.new result end.new }
+    ensures { CarriesOn P.memory P.bytes it.now Op.STM cpu.old space.old cpu.new space.new result end.new }
 {
-    if store_multiple_own(cpu, space, code, second) {
-        onward(cpu, next, Next::On, end)
+    if store_multiple_own(cpu, space, it) {
+        onward(cpu, it.next, Next::On, end)
     } else {
-        store_multiple_far(cpu, space, code, next, end)
+        store_multiple_far(cpu, space, it, end)
     }
 }
 
@@ -44,14 +39,13 @@ pub(crate) fn store_multiple_apart<P: Space>(
 fn store_multiple_far<P: Space>(
     cpu: &mut Cpu,
     space: &mut P,
-    code: &Code,
-    next: Addr,
+    it: &Decoded,
     end: &mut Ending,
 ) -> Told
-    ensures { CarriesOut P.memory P.bytes code.now Op.STM next cpu.old space.old cpu.new space.new result end.new }
+    ensures { CarriesOn P.memory P.bytes it.now Op.STM cpu.old space.old cpu.new space.new result end.new }
 {
-    let n = store_multiple(cpu, space, code);
-    onward(cpu, next, n, end)
+    let n = store_multiple(cpu, space, &it.code);
+    onward(cpu, it.next, n, end)
 }
 
 /// LM.
@@ -60,18 +54,15 @@ fn store_multiple_far<P: Space>(
 pub(crate) fn load_multiple_apart<P: Space>(
     cpu: &mut Cpu,
     space: &mut P,
-    code: &Code,
-    second: Addr,
-    next: Addr,
+    it: &Decoded,
     end: &mut Ending,
 ) -> Told
-    requires { second ≡ e2 cpu.old code.now }
-    ensures { CarriesOut P.memory P.bytes code.now Op.LM next cpu.old space.old cpu.new space.new result end.new }
+    ensures { CarriesOn P.memory P.bytes it.now Op.LM cpu.old space.old cpu.new space.new result end.new }
 {
-    if load_multiple_own(cpu, space, code, second) {
-        onward(cpu, next, Next::On, end)
+    if load_multiple_own(cpu, space, it) {
+        onward(cpu, it.next, Next::On, end)
     } else {
-        load_multiple_far(cpu, space, code, next, end)
+        load_multiple_far(cpu, space, it, end)
     }
 }
 
@@ -79,17 +70,11 @@ pub(crate) fn load_multiple_apart<P: Space>(
 #[cold]
 #[inline(never)]
 #[tactic(auto, unfolding(crate::specs::Meaning::effect))]
-fn load_multiple_far<P: Space>(
-    cpu: &mut Cpu,
-    space: &mut P,
-    code: &Code,
-    next: Addr,
-    end: &mut Ending,
-) -> Told
-    ensures { CarriesOut P.memory P.bytes code.now Op.LM next cpu.old space.old cpu.new space.new result end.new }
+fn load_multiple_far<P: Space>(cpu: &mut Cpu, space: &mut P, it: &Decoded, end: &mut Ending) -> Told
+    ensures { CarriesOn P.memory P.bytes it.now Op.LM cpu.old space.old cpu.new space.new result end.new }
 {
-    let n = load_multiple(cpu, space, code);
-    onward(cpu, next, n, end)
+    let n = load_multiple(cpu, space, &it.code);
+    onward(cpu, it.next, n, end)
 }
 
 /// IC.
@@ -98,16 +83,13 @@ fn load_multiple_far<P: Space>(
 pub(crate) fn insert_character_onward<P: Space>(
     cpu: &mut Cpu,
     space: &mut P,
-    code: &Code,
-    at: Addr,
-    next: Addr,
+    it: &Decoded,
     end: &mut Ending,
 ) -> Told
-    requires { at ≡ ex cpu.old code.now }
-    ensures { CarriesOut P.memory P.bytes code.now Op.IC next cpu.old space.old cpu.new space.new result end.new }
+    ensures { CarriesOn P.memory P.bytes it.now Op.IC cpu.old space.old cpu.new space.new result end.new }
 {
-    let n = insert_character(cpu, space, code, at);
-    onward(cpu, next, n, end)
+    let n = insert_character(cpu, space, it);
+    onward(cpu, it.next, n, end)
 }
 
 /// STC.
@@ -116,16 +98,13 @@ pub(crate) fn insert_character_onward<P: Space>(
 pub(crate) fn store_character_onward<P: Space>(
     cpu: &mut Cpu,
     space: &mut P,
-    code: &Code,
-    at: Addr,
-    next: Addr,
+    it: &Decoded,
     end: &mut Ending,
 ) -> Told
-    requires { at ≡ ex cpu.old code.now }
-    ensures { CarriesOut P.memory P.bytes code.now Op.STC next cpu.old space.old cpu.new space.new result end.new }
+    ensures { CarriesOn P.memory P.bytes it.now Op.STC cpu.old space.old cpu.new space.new result end.new }
 {
-    let n = store_character(cpu, space, code, at);
-    onward(cpu, next, n, end)
+    let n = store_character(cpu, space, it);
+    onward(cpu, it.next, n, end)
 }
 
 /// MVI.
@@ -134,14 +113,13 @@ pub(crate) fn store_character_onward<P: Space>(
 pub(crate) fn move_immediate_onward<P: Space>(
     cpu: &mut Cpu,
     space: &mut P,
-    code: &Code,
-    next: Addr,
+    it: &Decoded,
     end: &mut Ending,
 ) -> Told
-    ensures { CarriesOut P.memory P.bytes code.now Op.MVI next cpu.old space.old cpu.new space.new result end.new }
+    ensures { CarriesOn P.memory P.bytes it.now Op.MVI cpu.old space.old cpu.new space.new result end.new }
 {
-    let n = move_immediate(cpu, space, code);
-    onward(cpu, next, n, end)
+    let n = move_immediate(cpu, space, it);
+    onward(cpu, it.next, n, end)
 }
 
 /// CLI.
@@ -150,14 +128,13 @@ pub(crate) fn move_immediate_onward<P: Space>(
 pub(crate) fn compare_immediate_onward<P: Space>(
     cpu: &mut Cpu,
     space: &mut P,
-    code: &Code,
-    next: Addr,
+    it: &Decoded,
     end: &mut Ending,
 ) -> Told
-    ensures { CarriesOut P.memory P.bytes code.now Op.CLI next cpu.old space.old cpu.new space.new result end.new }
+    ensures { CarriesOn P.memory P.bytes it.now Op.CLI cpu.old space.old cpu.new space.new result end.new }
 {
-    let n = compare_immediate(cpu, space, code);
-    onward(cpu, next, n, end)
+    let n = compare_immediate(cpu, space, it);
+    onward(cpu, it.next, n, end)
 }
 
 /// TM.
@@ -166,14 +143,13 @@ pub(crate) fn compare_immediate_onward<P: Space>(
 pub(crate) fn test_under_mask_onward<P: Space>(
     cpu: &mut Cpu,
     space: &mut P,
-    code: &Code,
-    next: Addr,
+    it: &Decoded,
     end: &mut Ending,
 ) -> Told
-    ensures { CarriesOut P.memory P.bytes code.now Op.TM next cpu.old space.old cpu.new space.new result end.new }
+    ensures { CarriesOn P.memory P.bytes it.now Op.TM cpu.old space.old cpu.new space.new result end.new }
 {
-    let n = test_under_mask(cpu, space, code);
-    onward(cpu, next, n, end)
+    let n = test_under_mask(cpu, space, it);
+    onward(cpu, it.next, n, end)
 }
 
 /// MVC.
@@ -182,18 +158,15 @@ pub(crate) fn test_under_mask_onward<P: Space>(
 pub(crate) fn move_characters_apart<P: Space>(
     cpu: &mut Cpu,
     space: &mut P,
-    code: &Code,
-    second: Addr,
-    next: Addr,
+    it: &Decoded,
     end: &mut Ending,
 ) -> Told
-    requires { second ≡ e2 cpu.old code.now }
-    ensures { CarriesOut P.memory P.bytes code.now Op.MVC next cpu.old space.old cpu.new space.new result end.new }
+    ensures { CarriesOn P.memory P.bytes it.now Op.MVC cpu.old space.old cpu.new space.new result end.new }
 {
-    if move_characters_own(cpu, space, code, second) {
-        onward(cpu, next, Next::On, end)
+    if move_characters_own(cpu, space, it) {
+        onward(cpu, it.next, Next::On, end)
     } else {
-        move_characters_far(cpu, space, code, next, end)
+        move_characters_far(cpu, space, it, end)
     }
 }
 
@@ -204,14 +177,13 @@ pub(crate) fn move_characters_apart<P: Space>(
 fn move_characters_far<P: Space>(
     cpu: &mut Cpu,
     space: &mut P,
-    code: &Code,
-    next: Addr,
+    it: &Decoded,
     end: &mut Ending,
 ) -> Told
-    ensures { CarriesOut P.memory P.bytes code.now Op.MVC next cpu.old space.old cpu.new space.new result end.new }
+    ensures { CarriesOn P.memory P.bytes it.now Op.MVC cpu.old space.old cpu.new space.new result end.new }
 {
-    let n = move_characters(cpu, space, code);
-    onward(cpu, next, n, end)
+    let n = move_characters(cpu, space, &it.code);
+    onward(cpu, it.next, n, end)
 }
 
 /// CLC.
@@ -220,18 +192,15 @@ fn move_characters_far<P: Space>(
 pub(crate) fn compare_fields_apart<P: Space>(
     cpu: &mut Cpu,
     space: &mut P,
-    code: &Code,
-    second: Addr,
-    next: Addr,
+    it: &Decoded,
     end: &mut Ending,
 ) -> Told
-    requires { second ≡ e2 cpu.old code.now }
-    ensures { CarriesOut P.memory P.bytes code.now Op.CLC next cpu.old space.old cpu.new space.new result end.new }
+    ensures { CarriesOn P.memory P.bytes it.now Op.CLC cpu.old space.old cpu.new space.new result end.new }
 {
-    if compare_fields_own(cpu, space, code, second) {
-        onward(cpu, next, Next::On, end)
+    if compare_fields_own(cpu, space, it) {
+        onward(cpu, it.next, Next::On, end)
     } else {
-        compare_fields_far(cpu, space, code, next, end)
+        compare_fields_far(cpu, space, it, end)
     }
 }
 
@@ -242,12 +211,11 @@ pub(crate) fn compare_fields_apart<P: Space>(
 fn compare_fields_far<P: Space>(
     cpu: &mut Cpu,
     space: &mut P,
-    code: &Code,
-    next: Addr,
+    it: &Decoded,
     end: &mut Ending,
 ) -> Told
-    ensures { CarriesOut P.memory P.bytes code.now Op.CLC next cpu.old space.old cpu.new space.new result end.new }
+    ensures { CarriesOn P.memory P.bytes it.now Op.CLC cpu.old space.old cpu.new space.new result end.new }
 {
-    let n = compare_fields(cpu, space, code);
-    onward(cpu, next, n, end)
+    let n = compare_fields(cpu, space, &it.code);
+    onward(cpu, it.next, n, end)
 }

@@ -3,7 +3,7 @@ ghost use Rattle.std.specs.Prelude.{◌≡◌, ℕ, ◌*◌, ◌/◌, ◌<◌, �
 ghost use Rattle.std.specs.declared.option.Option.TheVariants.{Some, None};
 ghost use Rattle.cov_base.specs.Meaning.{Memory, IoView};
 ghost use Rattle.s370_state.specs.Meaning.{machine_of};
-ghost use Rattle.s370_decode.specs.Meaning.{first_half, i2, b2, d2, op_of};
+ghost use Rattle.s370_decode.specs.Meaning.{first_half, i2, op_of};
 ghost use Rattle.s370_decode.specs.Groups.{group_of};
 ghost use Rattle.s370_exec.specs.Does.{Does, Executes, CarriesOut, Branches, GoesOnward, Tries};
 ghost use Rattle.s370_exec.specs.Meaning.{effect, is_completed, updated, link_code, is_execute};
@@ -26,7 +26,7 @@ use s370_branch::{
     branch_on_condition_register, branch_on_count, branch_on_count_register,
 };
 use s370_decimal::decimal;
-use s370_decode::{Code, Group, Op, group_of, op_of};
+use s370_decode::{Code, Decoded, Group, Op, group_of, op_of};
 use s370_edit::edit;
 use s370_fixed::{
     add_register, compare_register, fixed, load_address, load_and_test, load_complement,
@@ -238,148 +238,168 @@ fn carry_out_apart<P: Space>(
     }
 }
 
-/// Executes an instruction of a frequent operation, under no EX, with the updated address and the second operand's base and
-/// displacement. None of another operation, which it leaves as it is. The frequent ones have their steps here or in a call of
-/// their own. Where the task has ended `end` tells how. `Caller` is for the compiler alone, which takes a function into the only
-/// place that calls it: each caller with another one has its own.
+/// Whether it is the code of an operation with an index, but for EX, BAL, BCT and BC, in few of the host's instructions.
+fn has_index(code: u8) -> bool {
+    let from_execute = code ^ 0x44;
+    4 <= from_execute && from_execute < 32
+}
+
+/// Executes an instruction of a frequent operation on registers. None of another one, which it leaves as it is.
+#[inline(always)]
+fn execute_on_registers<P: Space, Caller>(
+    cpu: &mut Cpu,
+    space: &mut P,
+    io: &mut TaskIo,
+    it: &Decoded,
+    end: &mut Ending,
+) -> Option<Told>
+    ensures tries { Tries P.memory P.bytes it.now.code cpu.old space.old io.old cpu.new space.new io.new result end.new }
+    ensures plain { IsSome result → is_plain it.now.op ≡ true }
+{
+    // Loaded before the choice: behind it the compiler makes one tail of all arms, to which each jumps.
+    let next = it.next;
+    match it.op {
+        Op::LR => {
+            let n = load_register(cpu, space, it);
+            Some(onward(cpu, next, n, end))
+        }
+        Op::LTR => {
+            let n = load_and_test(cpu, space, it);
+            Some(onward(cpu, next, n, end))
+        }
+        Op::LCR => {
+            let n = load_complement(cpu, space, it);
+            Some(onward(cpu, next, n, end))
+        }
+        Op::AR => {
+            let n = add_register(cpu, space, it);
+            Some(onward(cpu, next, n, end))
+        }
+        Op::SR => {
+            let n = subtract_register(cpu, space, it);
+            Some(onward(cpu, next, n, end))
+        }
+        Op::CR => {
+            let n = compare_register(cpu, space, it);
+            Some(onward(cpu, next, n, end))
+        }
+        Op::BCR => {
+            branch_on_condition_register(cpu, it, next);
+            Some(Told::GoesOn)
+        }
+        Op::BCTR => {
+            branch_on_count_register(cpu, it, next);
+            Some(Told::GoesOn)
+        }
+        Op::BALR => {
+            branch_and_link_register(cpu, it, next, link_code(&it.code, &None));
+            Some(Told::GoesOn)
+        }
+        _ => None,
+    }
+}
+
+/// The same of an operation on a register and an operand with an index, but for branches.
+#[inline(always)]
+fn execute_with_index<P: Space, Caller>(
+    cpu: &mut Cpu,
+    space: &mut P,
+    io: &mut TaskIo,
+    it: &Decoded,
+    end: &mut Ending,
+) -> Option<Told>
+    ensures tries { Tries P.memory P.bytes it.now.code cpu.old space.old io.old cpu.new space.new io.new result end.new }
+    ensures plain { IsSome result → is_plain it.now.op ≡ true }
+{
+    let next = it.next;
+    match it.op {
+        Op::LA => {
+            let n = load_address(cpu, space, it);
+            Some(onward(cpu, next, n, end))
+        }
+        Op::L => {
+            let n = load_word(cpu, space, it);
+            Some(onward(cpu, next, n, end))
+        }
+        Op::ST => {
+            let n = store_word(cpu, space, it);
+            Some(onward(cpu, next, n, end))
+        }
+        Op::LH => Some(load_half_onward(cpu, space, it, end)),
+        Op::STH => Some(store_half_onward(cpu, space, it, end)),
+        Op::A => Some(add_word_onward(cpu, space, it, end)),
+        Op::AH => Some(add_half_apart(cpu, space, it, end)),
+        Op::S => Some(subtract_word_apart(cpu, space, it, end)),
+        Op::SH => Some(subtract_half_apart(cpu, space, it, end)),
+        Op::AL => Some(add_logical_word_apart(cpu, space, it, end)),
+        Op::SL => Some(subtract_logical_word_apart(cpu, space, it, end)),
+        Op::C => Some(compare_word_apart(cpu, space, it, end)),
+        Op::CH => Some(compare_half_apart(cpu, space, it, end)),
+        Op::IC => Some(insert_character_onward(cpu, space, it, end)),
+        Op::STC => Some(store_character_onward(cpu, space, it, end)),
+        _ => None,
+    }
+}
+
+/// The same of a branch to storage, and of an operation on several registers, an immediate byte or fields.
+#[inline(always)]
+fn execute_otherwise<P: Space, Caller>(
+    cpu: &mut Cpu,
+    space: &mut P,
+    io: &mut TaskIo,
+    it: &Decoded,
+    end: &mut Ending,
+) -> Option<Told>
+    ensures tries { Tries P.memory P.bytes it.now.code cpu.old space.old io.old cpu.new space.new io.new result end.new }
+    ensures plain { IsSome result → is_plain it.now.op ≡ true }
+{
+    let next = it.next;
+    match it.op {
+        Op::LM => Some(load_multiple_apart(cpu, space, it, end)),
+        Op::STM => Some(store_multiple_apart(cpu, space, it, end)),
+        Op::MVI => Some(move_immediate_onward(cpu, space, it, end)),
+        Op::CLI => Some(compare_immediate_onward(cpu, space, it, end)),
+        Op::TM => Some(test_under_mask_onward(cpu, space, it, end)),
+        Op::BC => {
+            branch_on_condition(cpu, it, next);
+            Some(Told::GoesOn)
+        }
+        Op::BCT => {
+            branch_on_count(cpu, it, next);
+            Some(Told::GoesOn)
+        }
+        Op::BAL => {
+            branch_and_link(cpu, it, next, link_code(&it.code, &None));
+            Some(Told::GoesOn)
+        }
+        Op::MVC => Some(move_characters_apart(cpu, space, it, end)),
+        Op::CLC => Some(compare_fields_apart(cpu, space, it, end)),
+        _ => None,
+    }
+}
+
+/// Executes an instruction of a frequent operation, under no EX. None of another operation, which it leaves as it is. The frequent
+/// ones have their steps here or in a call of their own. Where the task has ended `end` tells how. `Caller` is for the compiler
+/// alone, which takes a function into the only place that calls it: each caller with another one has its own.
 #[inline(always)]
 pub fn execute_frequent<P: Space, Caller>(
     cpu: &mut Cpu,
     space: &mut P,
     io: &mut TaskIo,
-    code: &Code,
-    op: Op,
-    next: Addr,
-    base: u8,
-    displacement: u16,
+    it: &Decoded,
     end: &mut Ending,
 ) -> Option<Told>
-    requires op { op ≡ op_of (first_half code.now) }
-    requires next { next ≡ updated code.now None }
-    requires base { base ≡ b2 code.now }
-    requires register { base < 16 }
-    requires displacement { displacement ≡ d2 code.now }
-    ensures tries { Tries P.memory P.bytes code.now cpu.old space.old io.old cpu.new space.new io.new result end.new }
-    ensures plain { IsSome result → is_plain op ≡ true }
+    ensures tries { Tries P.memory P.bytes it.now.code cpu.old space.old io.old cpu.new space.new io.new result end.new }
+    ensures plain { IsSome result → is_plain it.now.op ≡ true }
 {
-    match op {
-        Op::LR => {
-            let n = load_register(cpu, space, code);
-            Some(onward(cpu, next, n, end))
-        }
-        Op::LTR => {
-            let n = load_and_test(cpu, space, code);
-            Some(onward(cpu, next, n, end))
-        }
-        Op::LCR => {
-            let n = load_complement(cpu, space, code);
-            Some(onward(cpu, next, n, end))
-        }
-        Op::AR => {
-            let n = add_register(cpu, space, code);
-            Some(onward(cpu, next, n, end))
-        }
-        Op::SR => {
-            let n = subtract_register(cpu, space, code);
-            Some(onward(cpu, next, n, end))
-        }
-        Op::CR => {
-            let n = compare_register(cpu, space, code);
-            Some(onward(cpu, next, n, end))
-        }
-        Op::BCR => {
-            branch_on_condition_register(cpu, code, next);
-            Some(Told::GoesOn)
-        }
-        Op::BCTR => {
-            branch_on_count_register(cpu, code, next);
-            Some(Told::GoesOn)
-        }
-        Op::BALR => {
-            branch_and_link_register(cpu, code, next, link_code(code, &None));
-            Some(Told::GoesOn)
-        }
-        Op::LA => {
-            let at = cpu.address(base, code.x2(), displacement);
-            let n = load_address(cpu, space, code, at);
-            Some(onward(cpu, next, n, end))
-        }
-        Op::L => {
-            let at = cpu.address(base, code.x2(), displacement);
-            let n = load_word(cpu, space, code, at);
-            Some(onward(cpu, next, n, end))
-        }
-        Op::ST => {
-            let at = cpu.address(base, code.x2(), displacement);
-            let n = store_word(cpu, space, code, at);
-            Some(onward(cpu, next, n, end))
-        }
-        Op::LH => {
-            let at = cpu.address(base, code.x2(), displacement);
-            Some(load_half_onward(cpu, space, code, at, next, end))
-        }
-        Op::STH => {
-            let at = cpu.address(base, code.x2(), displacement);
-            Some(store_half_onward(cpu, space, code, at, next, end))
-        }
-        Op::A => {
-            let at = cpu.address(base, code.x2(), displacement);
-            Some(add_word_onward(cpu, space, code, at, next, end))
-        }
-        Op::AH => Some(add_half_apart(cpu, space, code, next, end)),
-        Op::S => {
-            let at = cpu.address(base, code.x2(), displacement);
-            Some(subtract_word_apart(cpu, space, code, at, next, end))
-        }
-        Op::SH => Some(subtract_half_apart(cpu, space, code, next, end)),
-        Op::AL => Some(add_logical_word_apart(cpu, space, code, next, end)),
-        Op::SL => Some(subtract_logical_word_apart(cpu, space, code, next, end)),
-        Op::C => {
-            let at = cpu.address(base, code.x2(), displacement);
-            Some(compare_word_apart(cpu, space, code, at, next, end))
-        }
-        Op::CH => Some(compare_half_apart(cpu, space, code, next, end)),
-        Op::LM => {
-            let second = cpu.based(base, displacement);
-            Some(load_multiple_apart(cpu, space, code, second, next, end))
-        }
-        Op::STM => {
-            let second = cpu.based(base, displacement);
-            Some(store_multiple_apart(cpu, space, code, second, next, end))
-        }
-        Op::IC => {
-            let at = cpu.address(base, code.x2(), displacement);
-            Some(insert_character_onward(cpu, space, code, at, next, end))
-        }
-        Op::STC => {
-            let at = cpu.address(base, code.x2(), displacement);
-            Some(store_character_onward(cpu, space, code, at, next, end))
-        }
-        Op::MVI => Some(move_immediate_onward(cpu, space, code, next, end)),
-        Op::CLI => Some(compare_immediate_onward(cpu, space, code, next, end)),
-        Op::TM => Some(test_under_mask_onward(cpu, space, code, next, end)),
-        Op::BC => {
-            branch_on_condition(cpu, code, next);
-            Some(Told::GoesOn)
-        }
-        Op::BCT => {
-            branch_on_count(cpu, code, next);
-            Some(Told::GoesOn)
-        }
-        Op::BAL => {
-            branch_and_link(cpu, code, next, link_code(code, &None));
-            Some(Told::GoesOn)
-        }
-        Op::MVC => {
-            let second = cpu.based(base, displacement);
-            Some(move_characters_apart(cpu, space, code, second, next, end))
-        }
-        Op::CLC => {
-            let second = cpu.based(base, displacement);
-            Some(compare_fields_apart(cpu, space, code, second, next, end))
-        }
-        _ => None,
+    // Three choices by jumps of their own: in a long program the processor foresees one jump for all of them ill.
+    if it.code.len == 2 {
+        return execute_on_registers::<P, Caller>(cpu, space, io, it, end);
     }
+    if has_index(it.code.bytes[0]) {
+        return execute_with_index::<P, Caller>(cpu, space, io, it, end);
+    }
+    execute_otherwise::<P, Caller>(cpu, space, io, it, end)
 }
 
 /// How a task goes on that was told so; where it has ended `end` tells how.

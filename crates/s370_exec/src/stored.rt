@@ -1,13 +1,11 @@
 //! The operations that load, store or compute with a word or halfword in storage: the most frequent where all operations are told
 //! apart, the others each a call in a frame of its own; but for L and ST, which stand in the match of all operations.
 ghost use Rattle.std.specs.Prelude.{◌≡◌};
-ghost use Rattle.s370_decode.specs.Meaning.{ex};
-ghost use Rattle.s370_exec.specs.Does.{CarriesOut};
+ghost use Rattle.s370_exec.specs.Does.{CarriesOn};
 ghost use Rattle.s370_exec.specs.Meaning.{effect};
 
 use crate::instruction::{Told, onward};
-use cov_base::Addr;
-use s370_decode::{Code, Op};
+use s370_decode::{Decoded, Op};
 use s370_fixed::{
     add_half, add_logical_word, add_word, compare_half, compare_word, load_half, store_half,
     subtract_half, subtract_logical_word, subtract_word,
@@ -20,16 +18,13 @@ use s370_state::{Cpu, Ending, Space};
 pub(crate) fn load_half_onward<P: Space>(
     cpu: &mut Cpu,
     space: &mut P,
-    code: &Code,
-    at: Addr,
-    next: Addr,
+    it: &Decoded,
     end: &mut Ending,
 ) -> Told
-    requires { at ≡ ex cpu.old code.now }
-    ensures { CarriesOut P.memory P.bytes code.now Op.LH next cpu.old space.old cpu.new space.new result end.new }
+    ensures { CarriesOn P.memory P.bytes it.now Op.LH cpu.old space.old cpu.new space.new result end.new }
 {
-    let n = load_half(cpu, space, code, at);
-    onward(cpu, next, n, end)
+    let n = load_half(cpu, space, it);
+    onward(cpu, it.next, n, end)
 }
 
 /// STH.
@@ -38,16 +33,13 @@ pub(crate) fn load_half_onward<P: Space>(
 pub(crate) fn store_half_onward<P: Space>(
     cpu: &mut Cpu,
     space: &mut P,
-    code: &Code,
-    at: Addr,
-    next: Addr,
+    it: &Decoded,
     end: &mut Ending,
 ) -> Told
-    requires { at ≡ ex cpu.old code.now }
-    ensures { CarriesOut P.memory P.bytes code.now Op.STH next cpu.old space.old cpu.new space.new result end.new }
+    ensures { CarriesOn P.memory P.bytes it.now Op.STH cpu.old space.old cpu.new space.new result end.new }
 {
-    let n = store_half(cpu, space, code, at);
-    onward(cpu, next, n, end)
+    let n = store_half(cpu, space, it);
+    onward(cpu, it.next, n, end)
 }
 
 /// A.
@@ -56,16 +48,13 @@ pub(crate) fn store_half_onward<P: Space>(
 pub(crate) fn add_word_onward<P: Space>(
     cpu: &mut Cpu,
     space: &mut P,
-    code: &Code,
-    at: Addr,
-    next: Addr,
+    it: &Decoded,
     end: &mut Ending,
 ) -> Told
-    requires { at ≡ ex cpu.old code.now }
-    ensures { CarriesOut P.memory P.bytes code.now Op.A next cpu.old space.old cpu.new space.new result end.new }
+    ensures { CarriesOn P.memory P.bytes it.now Op.A cpu.old space.old cpu.new space.new result end.new }
 {
-    let n = add_word(cpu, space, code, at);
-    onward(cpu, next, n, end)
+    let n = add_word(cpu, space, it);
+    onward(cpu, it.next, n, end)
 }
 
 /// AH.
@@ -74,14 +63,13 @@ pub(crate) fn add_word_onward<P: Space>(
 pub(crate) fn add_half_apart<P: Space>(
     cpu: &mut Cpu,
     space: &mut P,
-    code: &Code,
-    next: Addr,
+    it: &Decoded,
     end: &mut Ending,
 ) -> Told
-    ensures { CarriesOut P.memory P.bytes code.now Op.AH next cpu.old space.old cpu.new space.new result end.new }
+    ensures { CarriesOn P.memory P.bytes it.now Op.AH cpu.old space.old cpu.new space.new result end.new }
 {
-    let n = add_half(cpu, space, code);
-    onward(cpu, next, n, end)
+    let n = add_half(cpu, space, it);
+    onward(cpu, it.next, n, end)
 }
 
 /// S.
@@ -90,16 +78,13 @@ pub(crate) fn add_half_apart<P: Space>(
 pub(crate) fn subtract_word_apart<P: Space>(
     cpu: &mut Cpu,
     space: &mut P,
-    code: &Code,
-    at: Addr,
-    next: Addr,
+    it: &Decoded,
     end: &mut Ending,
 ) -> Told
-    requires { at ≡ ex cpu.old code.now }
-    ensures { CarriesOut P.memory P.bytes code.now Op.S next cpu.old space.old cpu.new space.new result end.new }
+    ensures { CarriesOn P.memory P.bytes it.now Op.S cpu.old space.old cpu.new space.new result end.new }
 {
-    let n = subtract_word(cpu, space, code, at);
-    onward(cpu, next, n, end)
+    let n = subtract_word(cpu, space, it);
+    onward(cpu, it.next, n, end)
 }
 
 /// SH.
@@ -108,14 +93,13 @@ pub(crate) fn subtract_word_apart<P: Space>(
 pub(crate) fn subtract_half_apart<P: Space>(
     cpu: &mut Cpu,
     space: &mut P,
-    code: &Code,
-    next: Addr,
+    it: &Decoded,
     end: &mut Ending,
 ) -> Told
-    ensures { CarriesOut P.memory P.bytes code.now Op.SH next cpu.old space.old cpu.new space.new result end.new }
+    ensures { CarriesOn P.memory P.bytes it.now Op.SH cpu.old space.old cpu.new space.new result end.new }
 {
-    let n = subtract_half(cpu, space, code);
-    onward(cpu, next, n, end)
+    let n = subtract_half(cpu, space, it);
+    onward(cpu, it.next, n, end)
 }
 
 /// AL.
@@ -124,14 +108,13 @@ pub(crate) fn subtract_half_apart<P: Space>(
 pub(crate) fn add_logical_word_apart<P: Space>(
     cpu: &mut Cpu,
     space: &mut P,
-    code: &Code,
-    next: Addr,
+    it: &Decoded,
     end: &mut Ending,
 ) -> Told
-    ensures { CarriesOut P.memory P.bytes code.now Op.AL next cpu.old space.old cpu.new space.new result end.new }
+    ensures { CarriesOn P.memory P.bytes it.now Op.AL cpu.old space.old cpu.new space.new result end.new }
 {
-    let n = add_logical_word(cpu, space, code);
-    onward(cpu, next, n, end)
+    let n = add_logical_word(cpu, space, it);
+    onward(cpu, it.next, n, end)
 }
 
 /// SL.
@@ -140,14 +123,13 @@ pub(crate) fn add_logical_word_apart<P: Space>(
 pub(crate) fn subtract_logical_word_apart<P: Space>(
     cpu: &mut Cpu,
     space: &mut P,
-    code: &Code,
-    next: Addr,
+    it: &Decoded,
     end: &mut Ending,
 ) -> Told
-    ensures { CarriesOut P.memory P.bytes code.now Op.SL next cpu.old space.old cpu.new space.new result end.new }
+    ensures { CarriesOn P.memory P.bytes it.now Op.SL cpu.old space.old cpu.new space.new result end.new }
 {
-    let n = subtract_logical_word(cpu, space, code);
-    onward(cpu, next, n, end)
+    let n = subtract_logical_word(cpu, space, it);
+    onward(cpu, it.next, n, end)
 }
 
 /// C.
@@ -156,16 +138,13 @@ pub(crate) fn subtract_logical_word_apart<P: Space>(
 pub(crate) fn compare_word_apart<P: Space>(
     cpu: &mut Cpu,
     space: &mut P,
-    code: &Code,
-    at: Addr,
-    next: Addr,
+    it: &Decoded,
     end: &mut Ending,
 ) -> Told
-    requires { at ≡ ex cpu.old code.now }
-    ensures { CarriesOut P.memory P.bytes code.now Op.C next cpu.old space.old cpu.new space.new result end.new }
+    ensures { CarriesOn P.memory P.bytes it.now Op.C cpu.old space.old cpu.new space.new result end.new }
 {
-    let n = compare_word(cpu, space, code, at);
-    onward(cpu, next, n, end)
+    let n = compare_word(cpu, space, it);
+    onward(cpu, it.next, n, end)
 }
 
 /// CH.
@@ -174,12 +153,11 @@ pub(crate) fn compare_word_apart<P: Space>(
 pub(crate) fn compare_half_apart<P: Space>(
     cpu: &mut Cpu,
     space: &mut P,
-    code: &Code,
-    next: Addr,
+    it: &Decoded,
     end: &mut Ending,
 ) -> Told
-    ensures { CarriesOut P.memory P.bytes code.now Op.CH next cpu.old space.old cpu.new space.new result end.new }
+    ensures { CarriesOn P.memory P.bytes it.now Op.CH cpu.old space.old cpu.new space.new result end.new }
 {
-    let n = compare_half(cpu, space, code);
-    onward(cpu, next, n, end)
+    let n = compare_half(cpu, space, it);
+    onward(cpu, it.next, n, end)
 }

@@ -62,12 +62,7 @@ fn code_of(bytes: [u8; 6]) -> Code {
 }
 
 fn task(regs: [u32; 16], cc: u8) -> Cpu {
-    Cpu {
-        regs,
-        ia: Addr::of(0x10_0230),
-        cc: cc % 4,
-        mask: 0,
-    }
+    Cpu::new(&regs, Addr::of(0x10_0230), cc % 4, 0)
 }
 
 /// Storage of which nothing is accessible.

@@ -1,17 +1,14 @@
-//! Loads and stores of one register, and complements. Each call does what `fixed` does for its operation, refusals too. Where
-//! it is given an address, that is the second operand's, with its index.
+//! Loads and stores of one register, and complements. Each call does what `fixed` does for its operation, refusals too.
 #![tactic(auto, using(s370_state::proofs::Laws::at_once, s370_state::proofs::Laws::passes, s370_state::proofs::Laws::refuses))]
 
 ghost use Rattle.std.specs.Prelude.{◌≡◌, ◌<◌, ◌≤◌, ℤ, pos, neg_ℤ, ◌≤ℤ◌, ◌<ℤ◌, if◌then◌else◌};
 ghost use Rattle.std.specs.Int.RustNames.{unsigned_abs};
 ghost use Rattle.s370_state.specs.Row.{Performs};
-ghost use Rattle.s370_decode.specs.Meaning.{ex};
 ghost use Rattle.s370_fixed.specs.Meaning.{fixed_row};
 
 use crate::operands::{half_at, load, set_result};
 use crate::words::{low_word, put_half, sign_code};
-use cov_base::Addr;
-use s370_decode::{Code, Op};
+use s370_decode::{Code, Decoded, Op};
 use s370_state::{Cpu, Next, Space, put_word, read_word, signed, test_store};
 
 /// The magnitude of a register's number.
@@ -26,53 +23,51 @@ fn magnitude(z: i64) -> i64
 
 /// LR: loads R1 from R2.
 #[inline(always)]
-pub fn load_register<P: Space>(cpu: &mut Cpu, space: &mut P, code: &Code) -> Next
-    ensures { Performs P.memory P.bytes (fixed_row Op.LR code.now) cpu.old space.old cpu.new space.new result }
+pub fn load_register<P: Space>(cpu: &mut Cpu, space: &mut P, it: &Decoded) -> Next
+    ensures { Performs P.memory P.bytes (fixed_row Op.LR it.now.code) cpu.old space.old cpu.new space.new result }
 {
-    load(cpu, code.r1(), cpu.reg(code.r2()))
+    load(cpu, it.first, cpu.reg(it.second))
 }
 
 /// L: loads R1 from a word.
 #[inline(always)]
-pub fn load_word<P: Space>(cpu: &mut Cpu, space: &mut P, code: &Code, at: Addr) -> Next
-    requires { at ≡ ex cpu.old code.now }
-    ensures { Performs P.memory P.bytes (fixed_row Op.L code.now) cpu.old space.old cpu.new space.new result }
+pub fn load_word<P: Space>(cpu: &mut Cpu, space: &mut P, it: &Decoded) -> Next
+    ensures { Performs P.memory P.bytes (fixed_row Op.L it.now.code) cpu.old space.old cpu.new space.new result }
 {
-    match read_word(space, at) {
-        Ok(v) => load(cpu, code.r1(), v),
+    match read_word(space, cpu.second_indexed(it)) {
+        Ok(v) => load(cpu, it.first, v),
         Err(e) => Next::Ended(e),
     }
 }
 
 /// LH: loads R1 from a halfword, extended by its sign.
 #[inline(always)]
-pub fn load_half<P: Space>(cpu: &mut Cpu, space: &mut P, code: &Code, at: Addr) -> Next
-    requires { at ≡ ex cpu.old code.now }
-    ensures { Performs P.memory P.bytes (fixed_row Op.LH code.now) cpu.old space.old cpu.new space.new result }
+pub fn load_half<P: Space>(cpu: &mut Cpu, space: &mut P, it: &Decoded) -> Next
+    ensures { Performs P.memory P.bytes (fixed_row Op.LH it.now.code) cpu.old space.old cpu.new space.new result }
 {
-    match half_at(space, at) {
-        Ok(z) => load(cpu, code.r1(), low_word(z)),
+    match half_at(space, cpu.second_indexed(it)) {
+        Ok(z) => load(cpu, it.first, low_word(z)),
         Err(e) => Next::Ended(e),
     }
 }
 
 /// LTR: loads R1 from R2, and tells its sign by the condition code.
 #[inline(always)]
-pub fn load_and_test<P: Space>(cpu: &mut Cpu, space: &mut P, code: &Code) -> Next
-    ensures { Performs P.memory P.bytes (fixed_row Op.LTR code.now) cpu.old space.old cpu.new space.new result }
+pub fn load_and_test<P: Space>(cpu: &mut Cpu, space: &mut P, it: &Decoded) -> Next
+    ensures { Performs P.memory P.bytes (fixed_row Op.LTR it.now.code) cpu.old space.old cpu.new space.new result }
 {
-    let v = cpu.reg(code.r2());
-    cpu.set_reg(code.r1(), v);
+    let v = cpu.reg(it.second);
+    cpu.set_reg(it.first, v);
     cpu.set_cc(sign_code(i128::from(signed(v))));
     Next::On
 }
 
 /// LCR: loads R1 with the complement of R2; that of -2^31 overflows.
 #[inline(always)]
-pub fn load_complement<P: Space>(cpu: &mut Cpu, space: &mut P, code: &Code) -> Next
-    ensures { Performs P.memory P.bytes (fixed_row Op.LCR code.now) cpu.old space.old cpu.new space.new result }
+pub fn load_complement<P: Space>(cpu: &mut Cpu, space: &mut P, it: &Decoded) -> Next
+    ensures { Performs P.memory P.bytes (fixed_row Op.LCR it.now.code) cpu.old space.old cpu.new space.new result }
 {
-    set_result(cpu, code.r1(), -signed(cpu.reg(code.r2())))
+    set_result(cpu, it.first, -signed(cpu.reg(it.second)))
 }
 
 /// LPR: loads R1 with the magnitude of R2; that of -2^31 overflows.
@@ -93,35 +88,34 @@ pub fn load_negative<P: Space>(cpu: &mut Cpu, space: &mut P, code: &Code) -> Nex
 
 /// LA: loads R1 with the second operand's address, and zeros in bits 0-7; no operand is tested.
 #[inline(always)]
-pub fn load_address<P: Space>(cpu: &mut Cpu, space: &mut P, code: &Code, at: Addr) -> Next
-    requires { at ≡ ex cpu.old code.now }
-    ensures { Performs P.memory P.bytes (fixed_row Op.LA code.now) cpu.old space.old cpu.new space.new result }
+pub fn load_address<P: Space>(cpu: &mut Cpu, space: &mut P, it: &Decoded) -> Next
+    ensures { Performs P.memory P.bytes (fixed_row Op.LA it.now.code) cpu.old space.old cpu.new space.new result }
 {
-    load(cpu, code.r1(), at.get())
+    load(cpu, it.first, cpu.second_indexed(it).get())
 }
 
 /// ST: stores R1 in a word.
 #[inline(always)]
-pub fn store_word<P: Space>(cpu: &mut Cpu, space: &mut P, code: &Code, at: Addr) -> Next
-    requires { at ≡ ex cpu.old code.now }
-    ensures { Performs P.memory P.bytes (fixed_row Op.ST code.now) cpu.old space.old cpu.new space.new result }
+pub fn store_word<P: Space>(cpu: &mut Cpu, space: &mut P, it: &Decoded) -> Next
+    ensures { Performs P.memory P.bytes (fixed_row Op.ST it.now.code) cpu.old space.old cpu.new space.new result }
 {
+    let at = cpu.second_indexed(it);
     if let Err(e) = test_store(space, at, 4) {
         return Next::Ended(e);
     }
-    put_word(space, at, 0, 4, cpu.reg(code.r1()));
+    put_word(space, at, 0, 4, cpu.reg(it.first));
     Next::On
 }
 
 /// STH: stores bits 16-31 of R1 in a halfword.
 #[inline(always)]
-pub fn store_half<P: Space>(cpu: &mut Cpu, space: &mut P, code: &Code, at: Addr) -> Next
-    requires { at ≡ ex cpu.old code.now }
-    ensures { Performs P.memory P.bytes (fixed_row Op.STH code.now) cpu.old space.old cpu.new space.new result }
+pub fn store_half<P: Space>(cpu: &mut Cpu, space: &mut P, it: &Decoded) -> Next
+    ensures { Performs P.memory P.bytes (fixed_row Op.STH it.now.code) cpu.old space.old cpu.new space.new result }
 {
+    let at = cpu.second_indexed(it);
     if let Err(e) = test_store(space, at, 2) {
         return Next::Ended(e);
     }
-    put_half(space, at, 0, 2, cpu.reg(code.r1()));
+    put_half(space, at, 0, 2, cpu.reg(it.first));
     Next::On
 }

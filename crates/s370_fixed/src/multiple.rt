@@ -1,16 +1,15 @@
-//! Loads and stores of several registers. Where a call is given an address, that is the second operand's.
+//! Loads and stores of several registers.
 #![tactic(auto, using(s370_state::proofs::Laws::at_once, s370_state::proofs::Laws::passes, s370_state::proofs::Laws::refuses))]
 
 ghost use Rattle.std.specs.Prelude.{◌≡◌, ◌+◌, ◌-◌, ◌*◌, ◌%◌, ◌<◌, ◌≤◌, true};
 ghost use Rattle.cov_base.specs.Meaning.{can_reach, can_store};
 ghost use Rattle.s370_state.specs.Fields.{AreBytes};
 ghost use Rattle.s370_state.specs.Meaning.{number_at};
-ghost use Rattle.s370_decode.specs.Meaning.{e2};
 ghost use Rattle.s370_state.specs.Row.{Attempts, Performs};
 ghost use Rattle.s370_fixed.specs.Meaning.{many, loaded, stored, fixed_row};
 
 use cov_base::Addr;
-use s370_decode::{Code, Op};
+use s370_decode::{Code, Decoded, Op};
 use s370_state::{
     Cpu, Next, Space, put_word, reads_own, stores_own, test_read, test_store, word_of,
 };
@@ -87,11 +86,11 @@ fn store_words<P: Space>(cpu: &Cpu, space: &mut P, r: u8, at: Addr, n: u8)
 /// LM where the words are seen at once to stand in private storage, and no register 0 comes behind register 15. Else it is
 /// false, and nothing is done.
 #[inline(always)]
-pub fn load_multiple_own<P: Space>(cpu: &mut Cpu, space: &mut P, code: &Code, at: Addr) -> bool
-    requires at { at ≡ e2 cpu.old code.now }
-    ensures { Attempts P.memory P.bytes (fixed_row Op.LM code.now) cpu.old space.old cpu.new space.new result }
+pub fn load_multiple_own<P: Space>(cpu: &mut Cpu, space: &mut P, it: &Decoded) -> bool
+    ensures { Attempts P.memory P.bytes (fixed_row Op.LM it.now.code) cpu.old space.old cpu.new space.new result }
 {
-    let (r, n) = (code.r1(), count(code));
+    let (r, n) = (it.first, count(&it.code));
+    let at = cpu.second_based(it);
     if r + n > 16 {
         return false;
     }
@@ -110,11 +109,11 @@ pub fn load_multiple_own<P: Space>(cpu: &mut Cpu, space: &mut P, code: &Code, at
 /// STM where the words are seen at once to go to private storage, and no register 0 comes behind register 15. Else it is
 /// false, and nothing is done.
 #[inline(always)]
-pub fn store_multiple_own<P: Space>(cpu: &mut Cpu, space: &mut P, code: &Code, at: Addr) -> bool
-    requires at { at ≡ e2 cpu.old code.now }
-    ensures { Attempts P.memory P.bytes (fixed_row Op.STM code.now) cpu.old space.old cpu.new space.new result }
+pub fn store_multiple_own<P: Space>(cpu: &mut Cpu, space: &mut P, it: &Decoded) -> bool
+    ensures { Attempts P.memory P.bytes (fixed_row Op.STM it.now.code) cpu.old space.old cpu.new space.new result }
 {
-    let (r, q) = (code.r1(), code.r3());
+    let (r, q) = (it.first, it.second);
+    let at = cpu.second_based(it);
     if r > q {
         return false;
     }

@@ -1,18 +1,15 @@
-//! Sums, differences and comparisons. Each call does what `fixed` does for its operation, refusals too. Where it is given an
-//! address, that is the second operand's, with its index.
+//! Sums, differences and comparisons. Each call does what `fixed` does for its operation, refusals too.
 #![tactic(auto, using(s370_state::proofs::Laws::at_once, s370_state::proofs::Laws::passes, s370_state::proofs::Laws::refuses))]
 
 ghost use Rattle.std.specs.Prelude.{◌≡◌, ◌+◌, ◌-◌, ◌%◌, ◌<◌, ◌≤◌, ℤ, pos, neg_ℤ, ◌+ℤ◌, ◌-ℤ◌, ◌≤ℤ◌, ◌<ℤ◌, if◌then◌else◌, slice_set, slice_index};
 ghost use Rattle.std.specs.Ordering.{int_cmp};
 ghost use Rattle.s370_state.specs.Meaning.{next_after, signed, order_code};
 ghost use Rattle.s370_state.specs.Row.{Performs};
-ghost use Rattle.s370_decode.specs.Meaning.{ex};
 ghost use Rattle.s370_fixed.specs.Meaning.{is_word, fixed_row};
 ghost use Rattle.s370_fixed.specs.Results.{signed_in, with_result, with_sum};
 
-use crate::operands::{half, set_result, word};
-use cov_base::Addr;
-use s370_decode::{Code, Op};
+use crate::operands::{half_at, set_result};
+use s370_decode::{Code, Decoded, Op};
 use s370_state::{Cpu, Next, Space, order_code, read_word, signed};
 
 /// Adds a signed word to the register.
@@ -91,62 +88,60 @@ fn compare(cpu: &mut Cpu, r: u8, z: i64) -> Next
 
 /// AR: adds R2 to R1.
 #[inline(always)]
-pub fn add_register<P: Space>(cpu: &mut Cpu, space: &mut P, code: &Code) -> Next
-    ensures { Performs P.memory P.bytes (fixed_row Op.AR code.now) cpu.old space.old cpu.new space.new result }
+pub fn add_register<P: Space>(cpu: &mut Cpu, space: &mut P, it: &Decoded) -> Next
+    ensures { Performs P.memory P.bytes (fixed_row Op.AR it.now.code) cpu.old space.old cpu.new space.new result }
 {
-    add(cpu, code.r1(), signed(cpu.reg(code.r2())))
+    add(cpu, it.first, signed(cpu.reg(it.second)))
 }
 
 /// A: adds a word to R1.
 #[inline(always)]
-pub fn add_word<P: Space>(cpu: &mut Cpu, space: &mut P, code: &Code, at: Addr) -> Next
-    requires { at ≡ ex cpu.old code.now }
-    ensures { Performs P.memory P.bytes (fixed_row Op.A code.now) cpu.old space.old cpu.new space.new result }
+pub fn add_word<P: Space>(cpu: &mut Cpu, space: &mut P, it: &Decoded) -> Next
+    ensures { Performs P.memory P.bytes (fixed_row Op.A it.now.code) cpu.old space.old cpu.new space.new result }
 {
-    match read_word(space, at) {
-        Ok(v) => add(cpu, code.r1(), signed(v)),
+    match read_word(space, cpu.second_indexed(it)) {
+        Ok(v) => add(cpu, it.first, signed(v)),
         Err(e) => Next::Ended(e),
     }
 }
 
 /// AH: adds a halfword, extended by its sign, to R1.
 #[inline(always)]
-pub fn add_half<P: Space>(cpu: &mut Cpu, space: &mut P, code: &Code) -> Next
-    ensures { Performs P.memory P.bytes (fixed_row Op.AH code.now) cpu.old space.old cpu.new space.new result }
+pub fn add_half<P: Space>(cpu: &mut Cpu, space: &mut P, it: &Decoded) -> Next
+    ensures { Performs P.memory P.bytes (fixed_row Op.AH it.now.code) cpu.old space.old cpu.new space.new result }
 {
-    match half(cpu, space, code) {
-        Ok(z) => add(cpu, code.r1(), z),
+    match half_at(space, cpu.second_indexed(it)) {
+        Ok(z) => add(cpu, it.first, z),
         Err(e) => Next::Ended(e),
     }
 }
 
 /// SR: subtracts R2 from R1.
 #[inline(always)]
-pub fn subtract_register<P: Space>(cpu: &mut Cpu, space: &mut P, code: &Code) -> Next
-    ensures { Performs P.memory P.bytes (fixed_row Op.SR code.now) cpu.old space.old cpu.new space.new result }
+pub fn subtract_register<P: Space>(cpu: &mut Cpu, space: &mut P, it: &Decoded) -> Next
+    ensures { Performs P.memory P.bytes (fixed_row Op.SR it.now.code) cpu.old space.old cpu.new space.new result }
 {
-    subtract(cpu, code.r1(), signed(cpu.reg(code.r2())))
+    subtract(cpu, it.first, signed(cpu.reg(it.second)))
 }
 
 /// S: subtracts a word from R1.
 #[inline(always)]
-pub fn subtract_word<P: Space>(cpu: &mut Cpu, space: &mut P, code: &Code, at: Addr) -> Next
-    requires { at ≡ ex cpu.old code.now }
-    ensures { Performs P.memory P.bytes (fixed_row Op.S code.now) cpu.old space.old cpu.new space.new result }
+pub fn subtract_word<P: Space>(cpu: &mut Cpu, space: &mut P, it: &Decoded) -> Next
+    ensures { Performs P.memory P.bytes (fixed_row Op.S it.now.code) cpu.old space.old cpu.new space.new result }
 {
-    match read_word(space, at) {
-        Ok(v) => subtract(cpu, code.r1(), signed(v)),
+    match read_word(space, cpu.second_indexed(it)) {
+        Ok(v) => subtract(cpu, it.first, signed(v)),
         Err(e) => Next::Ended(e),
     }
 }
 
 /// SH: subtracts a halfword, extended by its sign, from R1.
 #[inline(always)]
-pub fn subtract_half<P: Space>(cpu: &mut Cpu, space: &mut P, code: &Code) -> Next
-    ensures { Performs P.memory P.bytes (fixed_row Op.SH code.now) cpu.old space.old cpu.new space.new result }
+pub fn subtract_half<P: Space>(cpu: &mut Cpu, space: &mut P, it: &Decoded) -> Next
+    ensures { Performs P.memory P.bytes (fixed_row Op.SH it.now.code) cpu.old space.old cpu.new space.new result }
 {
-    match half(cpu, space, code) {
-        Ok(z) => subtract(cpu, code.r1(), z),
+    match half_at(space, cpu.second_indexed(it)) {
+        Ok(z) => subtract(cpu, it.first, z),
         Err(e) => Next::Ended(e),
     }
 }
@@ -161,11 +156,11 @@ pub fn add_logical_register<P: Space>(cpu: &mut Cpu, space: &mut P, code: &Code)
 
 /// AL: adds a word to R1 without signs.
 #[inline(always)]
-pub fn add_logical_word<P: Space>(cpu: &mut Cpu, space: &mut P, code: &Code) -> Next
-    ensures { Performs P.memory P.bytes (fixed_row Op.AL code.now) cpu.old space.old cpu.new space.new result }
+pub fn add_logical_word<P: Space>(cpu: &mut Cpu, space: &mut P, it: &Decoded) -> Next
+    ensures { Performs P.memory P.bytes (fixed_row Op.AL it.now.code) cpu.old space.old cpu.new space.new result }
 {
-    match word(cpu, space, code) {
-        Ok(v) => add_unsigned(cpu, code.r1(), v),
+    match read_word(space, cpu.second_indexed(it)) {
+        Ok(v) => add_unsigned(cpu, it.first, v),
         Err(e) => Next::Ended(e),
     }
 }
@@ -180,42 +175,41 @@ pub fn subtract_logical_register<P: Space>(cpu: &mut Cpu, space: &mut P, code: &
 
 /// SL: subtracts a word from R1 without signs.
 #[inline(always)]
-pub fn subtract_logical_word<P: Space>(cpu: &mut Cpu, space: &mut P, code: &Code) -> Next
-    ensures { Performs P.memory P.bytes (fixed_row Op.SL code.now) cpu.old space.old cpu.new space.new result }
+pub fn subtract_logical_word<P: Space>(cpu: &mut Cpu, space: &mut P, it: &Decoded) -> Next
+    ensures { Performs P.memory P.bytes (fixed_row Op.SL it.now.code) cpu.old space.old cpu.new space.new result }
 {
-    match word(cpu, space, code) {
-        Ok(v) => subtract_unsigned(cpu, code.r1(), v),
+    match read_word(space, cpu.second_indexed(it)) {
+        Ok(v) => subtract_unsigned(cpu, it.first, v),
         Err(e) => Next::Ended(e),
     }
 }
 
 /// CR: compares R1 with R2.
 #[inline(always)]
-pub fn compare_register<P: Space>(cpu: &mut Cpu, space: &mut P, code: &Code) -> Next
-    ensures { Performs P.memory P.bytes (fixed_row Op.CR code.now) cpu.old space.old cpu.new space.new result }
+pub fn compare_register<P: Space>(cpu: &mut Cpu, space: &mut P, it: &Decoded) -> Next
+    ensures { Performs P.memory P.bytes (fixed_row Op.CR it.now.code) cpu.old space.old cpu.new space.new result }
 {
-    compare(cpu, code.r1(), signed(cpu.reg(code.r2())))
+    compare(cpu, it.first, signed(cpu.reg(it.second)))
 }
 
 /// C: compares R1 with a word.
 #[inline(always)]
-pub fn compare_word<P: Space>(cpu: &mut Cpu, space: &mut P, code: &Code, at: Addr) -> Next
-    requires { at ≡ ex cpu.old code.now }
-    ensures { Performs P.memory P.bytes (fixed_row Op.C code.now) cpu.old space.old cpu.new space.new result }
+pub fn compare_word<P: Space>(cpu: &mut Cpu, space: &mut P, it: &Decoded) -> Next
+    ensures { Performs P.memory P.bytes (fixed_row Op.C it.now.code) cpu.old space.old cpu.new space.new result }
 {
-    match read_word(space, at) {
-        Ok(v) => compare(cpu, code.r1(), signed(v)),
+    match read_word(space, cpu.second_indexed(it)) {
+        Ok(v) => compare(cpu, it.first, signed(v)),
         Err(e) => Next::Ended(e),
     }
 }
 
 /// CH: compares R1 with a halfword, extended by its sign.
 #[inline(always)]
-pub fn compare_half<P: Space>(cpu: &mut Cpu, space: &mut P, code: &Code) -> Next
-    ensures { Performs P.memory P.bytes (fixed_row Op.CH code.now) cpu.old space.old cpu.new space.new result }
+pub fn compare_half<P: Space>(cpu: &mut Cpu, space: &mut P, it: &Decoded) -> Next
+    ensures { Performs P.memory P.bytes (fixed_row Op.CH it.now.code) cpu.old space.old cpu.new space.new result }
 {
-    match half(cpu, space, code) {
-        Ok(z) => compare(cpu, code.r1(), z),
+    match half_at(space, cpu.second_indexed(it)) {
+        Ok(z) => compare(cpu, it.first, z),
         Err(e) => Next::Ended(e),
     }
 }

@@ -22,8 +22,8 @@ use crate::sums::{
     compare_register, compare_word, subtract_half, subtract_logical_register,
     subtract_logical_word, subtract_register, subtract_word,
 };
-use s370_decode::{Code, Group, Op};
-use s370_state::{Cpu, Next, Space, indexed};
+use s370_decode::{Code, Decoded, Group, Op};
+use s370_state::{Cpu, Next, Space};
 
 /// Performs an operation of fixed point and loads: LR L LH LTR LCR LPR LNR LA ST STH LM STM, AR A AH SR S SH ALR AL
 /// SLR SL CR C CH, MR M MH DR D, SLL SRL SLA SRA SLDL SRDL SLDA SRDA, CVB and CVD (Principles of Operation, "General
@@ -37,31 +37,31 @@ pub fn fixed<P: Space>(cpu: &mut Cpu, space: &mut P, code: &Code, op: Op) -> Nex
     ensures { Performs P.memory P.bytes (fixed_row op code.now) cpu.old space.old cpu.new space.new result }
 {
     match op {
-        Op::LR => load_register(cpu, space, code),
-        Op::L => load_word(cpu, space, code, indexed(cpu, code)),
-        Op::LH => load_half(cpu, space, code, indexed(cpu, code)),
-        Op::LTR => load_and_test(cpu, space, code),
-        Op::LCR => load_complement(cpu, space, code),
+        Op::LR => load_register(cpu, space, &Decoded::of(*code)),
+        Op::L => load_word(cpu, space, &Decoded::of(*code)),
+        Op::LH => load_half(cpu, space, &Decoded::of(*code)),
+        Op::LTR => load_and_test(cpu, space, &Decoded::of(*code)),
+        Op::LCR => load_complement(cpu, space, &Decoded::of(*code)),
         Op::LPR => load_positive(cpu, space, code),
         Op::LNR => load_negative(cpu, space, code),
-        Op::LA => load_address(cpu, space, code, indexed(cpu, code)),
-        Op::ST => store_word(cpu, space, code, indexed(cpu, code)),
-        Op::STH => store_half(cpu, space, code, indexed(cpu, code)),
+        Op::LA => load_address(cpu, space, &Decoded::of(*code)),
+        Op::ST => store_word(cpu, space, &Decoded::of(*code)),
+        Op::STH => store_half(cpu, space, &Decoded::of(*code)),
         Op::LM => load_multiple(cpu, space, code),
         Op::STM => store_multiple(cpu, space, code),
-        Op::AR => add_register(cpu, space, code),
-        Op::A => add_word(cpu, space, code, indexed(cpu, code)),
-        Op::AH => add_half(cpu, space, code),
-        Op::SR => subtract_register(cpu, space, code),
-        Op::S => subtract_word(cpu, space, code, indexed(cpu, code)),
-        Op::SH => subtract_half(cpu, space, code),
+        Op::AR => add_register(cpu, space, &Decoded::of(*code)),
+        Op::A => add_word(cpu, space, &Decoded::of(*code)),
+        Op::AH => add_half(cpu, space, &Decoded::of(*code)),
+        Op::SR => subtract_register(cpu, space, &Decoded::of(*code)),
+        Op::S => subtract_word(cpu, space, &Decoded::of(*code)),
+        Op::SH => subtract_half(cpu, space, &Decoded::of(*code)),
         Op::ALR => add_logical_register(cpu, space, code),
-        Op::AL => add_logical_word(cpu, space, code),
+        Op::AL => add_logical_word(cpu, space, &Decoded::of(*code)),
         Op::SLR => subtract_logical_register(cpu, space, code),
-        Op::SL => subtract_logical_word(cpu, space, code),
-        Op::CR => compare_register(cpu, space, code),
-        Op::C => compare_word(cpu, space, code, indexed(cpu, code)),
-        Op::CH => compare_half(cpu, space, code),
+        Op::SL => subtract_logical_word(cpu, space, &Decoded::of(*code)),
+        Op::CR => compare_register(cpu, space, &Decoded::of(*code)),
+        Op::C => compare_word(cpu, space, &Decoded::of(*code)),
+        Op::CH => compare_half(cpu, space, &Decoded::of(*code)),
         Op::MR => multiply_register(cpu, space, code),
         Op::M => multiply_word(cpu, space, code),
         Op::MH => multiply_half(cpu, space, code),

@@ -5,14 +5,13 @@ ghost use Rattle.std.specs.Prelude.{◌≡◌, ℕ, ◌+◌, ◌<◌, ◌≤◌,
 ghost use Rattle.std.specs.Ordering.{nat_cmp};
 ghost use Rattle.cov_base.specs.Meaning.{can_reach};
 ghost use Rattle.s370_state.specs.Row.{Attempts, Performs};
-ghost use Rattle.s370_decode.specs.Meaning.{e2};
 ghost use Rattle.s370_state.specs.Fields.{AreBytes};
 ghost use Rattle.s370_state.specs.Meaning.{order_code};
 ghost use Rattle.s370_logic.specs.Rows.{number_in};
 ghost use Rattle.s370_logic.specs.Meaning.{compared, logic_row};
 
 use cov_base::Addr;
-use s370_decode::{Code, Op};
+use s370_decode::{Code, Decoded, Op};
 use s370_state::{
     Cpu, Next, Space, byte_of, order_code, read_word, reads_both_own, test_read, test_read_both,
 };
@@ -127,34 +126,32 @@ pub fn compare_word<P: Space>(cpu: &mut Cpu, space: &mut P, code: &Code) -> Next
 
 /// CLI: compares a byte with I2.
 #[inline(always)]
-pub fn compare_immediate<P: Space>(cpu: &mut Cpu, space: &mut P, code: &Code) -> Next
-    ensures { Performs P.memory P.bytes (logic_row Op.CLI code.now) cpu.old space.old cpu.new space.new result }
+pub fn compare_immediate<P: Space>(cpu: &mut Cpu, space: &mut P, it: &Decoded) -> Next
+    ensures { Performs P.memory P.bytes (logic_row Op.CLI it.now.code) cpu.old space.old cpu.new space.new result }
 {
-    let at = cpu.based(code.b1(), code.d1());
+    let at = cpu.first_based(it);
     if let Err(e) = test_read(space, at, 1) {
         return Next::Ended(e);
     }
     let byte = byte_of(space, at, 0, 1);
-    cpu.set_cc(order_code(byte.cmp(&code.i2())));
+    cpu.set_cc(order_code(byte.cmp(&it.code.i2())));
     Next::On
 }
 
-/// CLC where both operands, of which the second's address is given, are seen at once to lie in private storage. Else it is
-/// false, and nothing is done.
+/// CLC where both operands are seen at once to lie in private storage. Else it is false, and nothing is done.
 #[inline(always)]
-pub fn compare_fields_own<P: Space>(cpu: &mut Cpu, space: &mut P, code: &Code, second: Addr) -> bool
-    requires second { second ≡ e2 cpu.old code.now }
-    ensures { Attempts P.memory P.bytes (logic_row Op.CLC code.now) cpu.old space.old cpu.new space.new result }
+pub fn compare_fields_own<P: Space>(cpu: &mut Cpu, space: &mut P, it: &Decoded) -> bool
+    ensures { Attempts P.memory P.bytes (logic_row Op.CLC it.now.code) cpu.old space.old cpu.new space.new result }
 {
-    let n = u32::from(code.l()) + 1;
-    let a = cpu.based(code.b1(), code.d1());
-    if !reads_both_own(space, a, n, second, n) {
+    let n = u32::from(it.code.l()) + 1;
+    let (a, b) = (cpu.first_based(it), cpu.second_based(it));
+    if !reads_both_own(space, a, n, b, n) {
         return false;
     }
     match space.slice(a, n) {
-        Some(x) => match space.slice(second, n) {
+        Some(x) => match space.slice(b, n) {
             Some(y) => {
-                cpu.set_cc(compare_rows(space, a, second, n, x, y));
+                cpu.set_cc(compare_rows(space, a, b, n, x, y));
                 true
             }
             None => false,

@@ -1,14 +1,12 @@
-//! One byte in storage, and the program mask. Each call does what `logic` does for its operation, refusals too. Where it is
-//! given an address, that is the second operand's, with its index.
+//! One byte in storage, and the program mask. Each call does what `logic` does for its operation, refusals too.
 #![tactic(auto, using(s370_state::proofs::Laws::at_once, s370_state::proofs::Laws::passes, s370_state::proofs::Laws::refuses))]
 
 ghost use Rattle.std.specs.Prelude.{◌≡◌, ◌+◌, ◌*◌, ◌/◌, ◌%◌, ◌<◌, ◌≤◌, ◌==◌, if◌then◌else◌};
-ghost use Rattle.s370_decode.specs.Meaning.{ex};
 ghost use Rattle.s370_state.specs.Row.{Performs};
 ghost use Rattle.s370_logic.specs.Meaning.{mask_code, stores_byte, logic_row};
 
 use cov_base::Addr;
-use s370_decode::{Code, Op};
+use s370_decode::{Code, Decoded, Op};
 use s370_state::{Cpu, Next, Space, byte_of, put_into, test_read, test_store};
 
 /// Stores one byte.
@@ -25,46 +23,46 @@ fn store_byte<P: Space>(cpu: &Cpu, space: &mut P, at: Addr, v: u8) -> Next
 
 /// IC: loads bits 24-31 of R1 from a byte.
 #[inline(always)]
-pub fn insert_character<P: Space>(cpu: &mut Cpu, space: &mut P, code: &Code, at: Addr) -> Next
-    requires { at ≡ ex cpu.old code.now }
-    ensures { Performs P.memory P.bytes (logic_row Op.IC code.now) cpu.old space.old cpu.new space.new result }
+pub fn insert_character<P: Space>(cpu: &mut Cpu, space: &mut P, it: &Decoded) -> Next
+    ensures { Performs P.memory P.bytes (logic_row Op.IC it.now.code) cpu.old space.old cpu.new space.new result }
 {
+    let at = cpu.second_indexed(it);
     if let Err(e) = test_read(space, at, 1) {
         return Next::Ended(e);
     }
-    let high = cpu.reg(code.r1()) / 256 * 256;
-    cpu.set_reg(code.r1(), high + u32::from(byte_of(space, at, 0, 1)));
+    let high = cpu.reg(it.first) / 256 * 256;
+    cpu.set_reg(it.first, high + u32::from(byte_of(space, at, 0, 1)));
     Next::On
 }
 
 /// STC: stores bits 24-31 of R1 in a byte.
 #[inline(always)]
-pub fn store_character<P: Space>(cpu: &mut Cpu, space: &mut P, code: &Code, at: Addr) -> Next
-    requires { at ≡ ex cpu.old code.now }
-    ensures { Performs P.memory P.bytes (logic_row Op.STC code.now) cpu.old space.old cpu.new space.new result }
+pub fn store_character<P: Space>(cpu: &mut Cpu, space: &mut P, it: &Decoded) -> Next
+    ensures { Performs P.memory P.bytes (logic_row Op.STC it.now.code) cpu.old space.old cpu.new space.new result }
 {
-    store_byte(cpu, space, at, (cpu.reg(code.r1()) % 256) as u8)
+    let at = cpu.second_indexed(it);
+    store_byte(cpu, space, at, (cpu.reg(it.first) % 256) as u8)
 }
 
 /// MVI: stores I2 in a byte.
 #[inline(always)]
-pub fn move_immediate<P: Space>(cpu: &mut Cpu, space: &mut P, code: &Code) -> Next
-    ensures { Performs P.memory P.bytes (logic_row Op.MVI code.now) cpu.old space.old cpu.new space.new result }
+pub fn move_immediate<P: Space>(cpu: &mut Cpu, space: &mut P, it: &Decoded) -> Next
+    ensures { Performs P.memory P.bytes (logic_row Op.MVI it.now.code) cpu.old space.old cpu.new space.new result }
 {
-    let at = cpu.based(code.b1(), code.d1());
-    store_byte(cpu, space, at, code.i2())
+    let at = cpu.first_based(it);
+    store_byte(cpu, space, at, it.code.i2())
 }
 
 /// TM: tests the bits of a byte that I2 selects.
 #[inline(always)]
-pub fn test_under_mask<P: Space>(cpu: &mut Cpu, space: &mut P, code: &Code) -> Next
-    ensures { Performs P.memory P.bytes (logic_row Op.TM code.now) cpu.old space.old cpu.new space.new result }
+pub fn test_under_mask<P: Space>(cpu: &mut Cpu, space: &mut P, it: &Decoded) -> Next
+    ensures { Performs P.memory P.bytes (logic_row Op.TM it.now.code) cpu.old space.old cpu.new space.new result }
 {
-    let at = cpu.based(code.b1(), code.d1());
+    let at = cpu.first_based(it);
     if let Err(e) = test_read(space, at, 1) {
         return Next::Ended(e);
     }
-    let mask = code.i2();
+    let mask = it.code.i2();
     let selected = byte_of(space, at, 0, 1) & mask;
     cpu.set_cc(mask_code(selected, mask));
     Next::On

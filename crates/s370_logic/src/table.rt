@@ -12,8 +12,8 @@ use crate::single_bytes::{
     test_under_mask,
 };
 use crate::swaps::{compare_and_swap, compare_double_and_swap};
-use s370_decode::{Code, Group, Op};
-use s370_state::{Cpu, Next, Space, indexed};
+use s370_decode::{Code, Decoded, Group, Op};
+use s370_state::{Cpu, Next, Space};
 
 /// Performs an operation of logic and tests: NR N NI NC, OR O OI OC, XR X XI XC, CLR CL CLI CLC, IC STC, ICM STCM CLM,
 /// TM MVI TS, CS CDS and SPM (Principles of Operation, "General Instructions"). All tests are made before anything is
@@ -40,15 +40,15 @@ pub fn logic<P: Space>(cpu: &mut Cpu, space: &mut P, code: &Code, op: Op) -> Nex
         Op::XC => join_fields(cpu, space, code, Connective::ExclusiveOr),
         Op::CLR => compare_registers(cpu, space, code),
         Op::CL => compare_word(cpu, space, code),
-        Op::CLI => compare_immediate(cpu, space, code),
+        Op::CLI => compare_immediate(cpu, space, &Decoded::of(*code)),
         Op::CLC => compare_fields(cpu, space, code),
-        Op::IC => insert_character(cpu, space, code, indexed(cpu, code)),
-        Op::STC => store_character(cpu, space, code, indexed(cpu, code)),
+        Op::IC => insert_character(cpu, space, &Decoded::of(*code)),
+        Op::STC => store_character(cpu, space, &Decoded::of(*code)),
         Op::ICM => insert_under_mask(cpu, space, code),
         Op::STCM => store_under_mask(cpu, space, code),
         Op::CLM => compare_under_mask(cpu, space, code),
-        Op::TM => test_under_mask(cpu, space, code),
-        Op::MVI => move_immediate(cpu, space, code),
+        Op::TM => test_under_mask(cpu, space, &Decoded::of(*code)),
+        Op::MVI => move_immediate(cpu, space, &Decoded::of(*code)),
         Op::TS => test_and_set(cpu, space, code),
         Op::CS => compare_and_swap(cpu, space, code),
         Op::CDS => compare_double_and_swap(cpu, space, code),

@@ -4,11 +4,10 @@
 ghost use Rattle.std.specs.Prelude.{◌≡◌, ◌+◌, ◌-◌, ◌*◌, ◌/◌, ◌%◌, ◌<◌, ◌≤◌, true};
 ghost use Rattle.cov_base.specs.Meaning.{byte_at, can_reach, can_store, wrap};
 ghost use Rattle.s370_state.specs.Row.{Attempts, Performs};
-ghost use Rattle.s370_decode.specs.Meaning.{e2};
 ghost use Rattle.s370_storage.specs.Meaning.{with_part, moved, moves, left_of, inverted, storage_row};
 
 use cov_base::Addr;
-use s370_decode::{Code, Op};
+use s370_decode::{Code, Decoded, Op};
 use s370_state::{Cpu, Next, Space, byte_of, put_into, stores_reads_own, test_store_read};
 
 /// What is moved of a byte.
@@ -66,25 +65,18 @@ fn move_parts<P: Space>(part: Part, cpu: &Cpu, space: &mut P, code: &Code) -> Ne
     Next::On
 }
 
-/// MVC where both operands, of which the second's address is given, are seen at once to lie in private storage. Else it is
-/// false, and nothing is done.
+/// MVC where both operands are seen at once to lie in private storage. Else it is false, and nothing is done.
 #[inline(always)]
 #[tactic(auto, using(s370_state::proofs::Laws::passes, crate::proofs::Steps::moved_copied))]
-pub fn move_characters_own<P: Space>(
-    cpu: &mut Cpu,
-    space: &mut P,
-    code: &Code,
-    second: Addr,
-) -> bool
-    requires second { second ≡ e2 cpu.old code.now }
-    ensures { Attempts P.memory P.bytes (storage_row Op.MVC code.now) cpu.old space.old cpu.new space.new result }
+pub fn move_characters_own<P: Space>(cpu: &mut Cpu, space: &mut P, it: &Decoded) -> bool
+    ensures { Attempts P.memory P.bytes (storage_row Op.MVC it.now.code) cpu.old space.old cpu.new space.new result }
 {
-    let a = cpu.based(code.b1(), code.d1());
-    let n = u32::from(code.l()) + 1;
-    if !stores_reads_own(space, a, n, second, n) {
+    let (a, b) = (cpu.first_based(it), cpu.second_based(it));
+    let n = u32::from(it.code.l()) + 1;
+    if !stores_reads_own(space, a, n, b, n) {
         return false;
     }
-    space.copy(a, second, n);
+    space.copy(a, b, n);
     true
 }
 

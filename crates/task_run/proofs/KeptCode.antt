@@ -7,7 +7,7 @@ use Rattle.module_area.specs.declared.places.Place.{Place}
 use Rattle.s370_decode.specs.declared.code.Code.{Code}
 use Rattle.brk_table.specs.Kept.{AreKept, IsKept, later_half}
 use Rattle.brk_table.specs.Meaning.{TablesView}
-use Rattle.brk_table.specs.Unpacked.{AreAtPlaces}
+use Rattle.brk_table.specs.Decoded.{AreAtPlaces}
 use Rattle.brk_table.specs.Places.{IsPlace, ArePlaces, IsSeen, AreSeen}
 use Rattle.s370_exec.specs.Meaning.{first_tests, rest_tests, code_at}
 use Rattle.s370_exec.proofs.Laws.{rest_none, code_at-halves, first_half-code_at}

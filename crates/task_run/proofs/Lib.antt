@@ -19,6 +19,7 @@ mod ObservedLemmas
 mod PlaceLemmas
 mod PlainGoes
 mod PlainLemmas
+mod PositionLemmas
 mod RanLemmas
 mod RiseLemmas
 mod RunLemmas

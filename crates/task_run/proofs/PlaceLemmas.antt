@@ -16,15 +16,6 @@ begins_at places a p are lt at = record {
   only = λ q within same. one_begins places p q are lt within (same ∙ sym at);
 }
 
--- as the tables have found it
-pub placed_by : (places : List Place) (a : ℕ) (r : Option PlaceNo) → ArePlaces places → IfSome r (λ n. n.0 < length places) → IfSome r (λ n. (place_of places n.0).at ≡ a) → (IsNone r → is_place places a ≡ false) → IsPlaced places a r
-placed_by places a (Some n) are exists begins none = begins_at places a n.0 are exists begins
-placed_by places a None are exists begins none = none refl
-
-pub exists_at_most : (places : List Place) (a : ℕ) (r : Option PlaceNo) → IsPlaced places a r → IfSome r (λ n. n.0 ≤ length places)
-exists_at_most places a (Some n) at = omega (arith, at.exists)
-exists_at_most places a None none = tt
-
 -- no place begins at an address where none does
 pub none_begins : (places : List Place) (a p : ℕ) → is_place places a ≡ false → p < length places → (place_of places p).at ≢ a
 none_begins places a p none lt at = both_ways (is_place places a) none (is_place-there places p a lt at)

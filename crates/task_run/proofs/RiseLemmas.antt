@@ -1,5 +1,5 @@
 -- The tags of a pass's fetches at one place never fall.
-use Rattle.std.proofs.Common.{◌≡◌, ℕ, suc, zero, ◌+◌, ◌<◌, ◌≤◌, Bool, true, false, if◌then◌else◌, min, nat_eq, List, [], ◌∷◌, ◌++◌, length, get_or, AllPairs, refl, sym, ◌∙◌, ap, subst, arith, eqb-true, eq-eqb}
+use Rattle.std.proofs.Common.{◌≡◌, ℕ, suc, zero, ◌<◌, ◌≤◌, Bool, true, false, if◌then◌else◌, min, nat_eq, List, [], ◌∷◌, ◌++◌, length, get_or, AllPairs, refl, sym, ◌∙◌, ap, subst, arith, eqb-true, eq-eqb}
 use Rattle.module_area.specs.declared.cells.Cell.{Cell}
 use Rattle.module_area.specs.Meaning.{PlanView}
 use Rattle.module_area.specs.Notes.{Notes, keeps, keeps_as, IsAnswer}

@@ -8,6 +8,7 @@ pub mod Laws
 pub mod Meaning
 pub mod Noting
 pub mod Observed
+pub mod Position
 pub mod Ran
 pub mod Runs
 pub mod Settled

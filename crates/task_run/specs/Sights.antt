@@ -1,6 +1,6 @@
 -- What an observer is shown.
-use Rattle.std.specs.Prelude.{◌≡◌, ℕ, ◌<◌, true, false, if◌then◌else◌, Option, Some, None, List, length}
-use Rattle.cov_base.specs.Meaning.{CpuView, Visit}
+use Rattle.std.specs.Prelude.{◌≡◌, ℕ, ◌<◌, true, false, if◌then◌else◌, Option, Some, None, List, length, IfSome}
+use Rattle.cov_base.specs.Meaning.{CpuView, Visit, kind_of}
 use Rattle.cov_base.specs.declared.numbers.PlaceNo.{PlaceNo}
 use Rattle.module_area.specs.declared.places.Place.{Place}
 use Rattle.module_area.specs.Meaning.{place_of, is_place}
@@ -22,6 +22,10 @@ pub record BeginsAt (places : List Place) (a p : ℕ) : Type 0 where
 abbrev pub IsPlaced : List Place → ℕ → Option PlaceNo → Type 0
 IsPlaced places a None = is_place places a ≡ false
 IsPlaced places a (Some p) = BeginsAt places a p.0
+
+-- the place has the kind of this instruction
+abbrev pub HasKindOf : List Place → Option PlaceNo → Code → Type 0
+HasKindOf places place code = IfSome place (λ p. (place_of places p.0).kind ≡ kind_of (first_half code))
 
 -- how many visits of its instruction were shown before
 abbrev pub stage_of : Sight → ℕ

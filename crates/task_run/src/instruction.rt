@@ -1,10 +1,11 @@
 //! One instruction of a task.
-ghost use Rattle.std.specs.Prelude.{◌≡◌, ◌+◌, ◌<◌, length, IfOk, IfErr, None, Some, false};
+ghost use Rattle.std.specs.Prelude.{◌≡◌, ◌+◌, IfOk, IfErr, IfSome, None, Some, false};
 ghost use Rattle.cov_base.specs.Meaning.{half_at};
-ghost use Rattle.module_area.specs.Meaning.{is_place, place_of};
+ghost use Rattle.module_area.specs.Meaning.{is_place};
 ghost use Rattle.s370_exec.specs.Meaning.{first_tests};
 ghost use Rattle.space_map.specs.Space.{memory_of_space};
-ghost use Rattle.task_run.specs.Sights.{IsPlaced, IsKnown};
+ghost use Rattle.task_run.specs.Sights.{BeginsAt, IsPlaced, IsKnown};
+ghost use Rattle.task_run.specs.Position.{IsKeptOf};
 ghost use Rattle.task_run.specs.Steps.{CanStep, IsFetched, IsShown, StepsAs, StepsTold, StepsOn, GoesOn, GoesOnTold};
 
 use crate::bench::Bench;
@@ -171,7 +172,7 @@ fn carry_on_kept<O: Observer, Caller>(
     kept: &Kept,
     end: &mut Ending,
 ) -> Told
-    requires fetched { IsFetched bench.old kept.now.code }
+    requires fetched { IsFetched bench.old kept.now.decoded.code }
     requires can { CanStep O.IsReady O.IsTied observer.now tables.now pass.old bench.old done 1 }
     ensures can { CanStep O.IsReady O.IsTied observer.now tables.now pass.new bench.new (done + 1) 0 }
     ensures goes { GoesOnTold O.Observer observer.now tables.now pass.old bench.old done pass.new bench.new result end.new }
@@ -180,15 +181,11 @@ fn carry_on_kept<O: Observer, Caller>(
         &mut bench.cpu,
         &mut bench.space,
         &mut bench.io,
-        &kept.code,
-        kept.op,
-        kept.next,
-        kept.base,
-        kept.displacement,
+        &kept.decoded,
         end,
     ) {
         Some(told) => told,
-        None => carry_on_apart(observer, pass, tables, bench, done, &kept.code, end),
+        None => carry_on_apart(observer, pass, tables, bench, done, &kept.decoded.code, end),
     }
 }
 
@@ -204,9 +201,9 @@ fn carry_on_known<O: Observer, Caller>(
     known: Known,
     end: &mut Ending,
 ) -> Told
-    requires fetched { IsFetched bench.old kept.now.code }
+    requires fetched { IsFetched bench.old kept.now.decoded.code }
     requires can { CanStep O.IsReady O.IsTied observer.now tables.now pass.old bench.old done 1 }
-    requires known { IsKnown known kept.now.code bench.old.cpu }
+    requires known { IsKnown known kept.now.decoded.code bench.old.cpu }
     ensures can { CanStep O.IsReady O.IsTied observer.now tables.now pass.new bench.new (done + 1) 0 }
     ensures goes { GoesOnTold O.Observer observer.now tables.now pass.old bench.old done pass.new bench.new result end.new }
 {
@@ -215,11 +212,11 @@ fn carry_on_known<O: Observer, Caller>(
             observer, pass, tables, bench, done, kept, end,
         ),
         Known::Condition(went) => {
-            go_on_condition(&mut bench.cpu, &kept.code, kept.next, went);
+            go_on_condition(&mut bench.cpu, &kept.decoded, kept.decoded.next, went);
             Told::GoesOn
         }
         Known::Count(left) => {
-            go_on_count(&mut bench.cpu, &kept.code, kept.next, left);
+            go_on_count(&mut bench.cpu, &kept.decoded, kept.decoded.next, left);
             Told::GoesOn
         }
     }
@@ -276,11 +273,12 @@ fn step_placed<O: Observer, Caller>(
     bench: &mut Bench<'_>,
     done: u32,
     place: PlaceNo,
+    kept: &Kept,
     end: &mut Ending,
 ) -> Told
     requires can { CanStep O.IsReady O.IsTied observer.now tables.now pass.old bench.old done 0 }
-    requires place { place.0 < length tables.now.places }
-    requires begins { (place_of tables.now.places place.0).at ≡ bench.old.cpu.ia }
+    requires placed { BeginsAt tables.now.places bench.old.cpu.ia place.0 }
+    requires kept { IsKeptOf tables.now place.0 kept.now }
     ensures can { CanStep O.IsReady O.IsTied observer.now tables.now pass.new bench.new (done + 1) 0 }
     ensures steps { StepsTold O.Observer observer.now tables.now pass.old bench.old done pass.new bench.new result end.new }
 {
@@ -290,12 +288,12 @@ fn step_placed<O: Observer, Caller>(
         place: Some(place),
         subject: false,
     };
-    let kept = tables.kept(place);
     let known = observer.begun_kept(pass, tables, &bench.cpu, kept, sight);
     carry_on_known::<O, Caller>(observer, pass, tables, bench, done, kept, known, end)
 }
 
-/// One instruction, with the place that begins there, if one does. Where the task has ended `end` tells how.
+/// One instruction, with the place that begins there, if one does, and then that place's, as the tables keep it. Where the task
+/// has ended `end` tells how.
 #[inline(always)]
 fn step_told<O: Observer, Caller>(
     observer: &O,
@@ -304,23 +302,27 @@ fn step_told<O: Observer, Caller>(
     bench: &mut Bench<'_>,
     done: u32,
     place: Option<PlaceNo>,
+    kept: &Kept,
     end: &mut Ending,
 ) -> Told
     requires can { CanStep O.IsReady O.IsTied observer.now tables.now pass.old bench.old done 0 }
     requires placed { IsPlaced tables.now.places bench.old.cpu.ia place }
+    requires kept { IfSome place (λ p. IsKeptOf tables.now p.0 kept.now) }
     ensures can { CanStep O.IsReady O.IsTied observer.now tables.now pass.new bench.new (done + 1) 0 }
     ensures steps { StepsTold O.Observer observer.now tables.now pass.old bench.old done pass.new bench.new result end.new }
 {
     match place {
-        Some(place) => step_placed::<O, Caller>(observer, pass, tables, bench, done, place, end),
+        Some(place) => step_placed::<O, Caller>(
+            observer, pass, tables, bench, done, place, kept, end,
+        ),
         None => step_far(observer, pass, tables, bench, done, end),
     }
 }
 
 /// One instruction of the task, which has done so many before, and of which neither budget nor return address is tested, with
 /// the place that begins there, if one does: it ends or goes on as over modules that were never planted, and the observer is
-/// shown its visits, and then its supervisor call, before what the instruction does. `end` is room for an ending. `Caller` is
-/// that of `execute_frequent`.
+/// shown its visits, and then its supervisor call, before what the instruction does. `kept` is the place's instruction; where
+/// there is no place it is not read. `end` is room for an ending. `Caller` is that of `execute_frequent`.
 #[inline(always)]
 pub fn step<O: Observer, Caller>(
     observer: &O,
@@ -329,13 +331,15 @@ pub fn step<O: Observer, Caller>(
     bench: &mut Bench<'_>,
     done: u32,
     place: Option<PlaceNo>,
+    kept: &Kept,
     end: &mut Ending,
 ) -> Next
     requires can { CanStep O.IsReady O.IsTied observer.now tables.now pass.old bench.old done 0 }
     requires placed { IsPlaced tables.now.places bench.old.cpu.ia place }
+    requires kept { IfSome place (λ p. IsKeptOf tables.now p.0 kept.now) }
     ensures can { CanStep O.IsReady O.IsTied observer.now tables.now pass.new bench.new (done + 1) 0 }
     ensures steps { StepsAs O.Makes O.Answers observer.now tables.now pass.old bench.old done pass.new bench.new result }
 {
-    let told = step_told::<O, Caller>(observer, pass, tables, bench, done, place, end);
+    let told = step_told::<O, Caller>(observer, pass, tables, bench, done, place, kept, end);
     next_of(told, end)
 }

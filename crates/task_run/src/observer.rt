@@ -4,7 +4,7 @@ ghost use Rattle.cov_base.specs.Meaning.{Visit, kind_of};
 ghost use Rattle.brk_table.specs.Meaning.{TablesView};
 ghost use Rattle.module_area.specs.Meaning.{ControlView, place_of};
 ghost use Rattle.s370_decode.specs.Meaning.{first_half};
-ghost use Rattle.task_run.specs.Sights.{IsPlaced, IsKnown, begun_visit, refused_visit, stage_of};
+ghost use Rattle.task_run.specs.Sights.{IsPlaced, HasKindOf, IsKnown, begun_visit, refused_visit, stage_of};
 ghost use Rattle.task_run.specs.Called.{call_at};
 
 use brk_table::{Kept, Tables};
@@ -80,13 +80,13 @@ pub trait Observer {
     ) -> Known
         requires placed { IsPlaced tables.now.places sight.at sight.place }
         requires ready { IsReady self.now tables.now pass.old sight.done (stage_of sight) }
-        requires kind { IfSome sight.place (λ p. (place_of tables.now.places p.0).kind ≡ kind_of (first_half kept.now.code)) }
+        requires kind { HasKindOf tables.now.places sight.place kept.now.decoded.code }
         ensures ready { IsReady self.now tables.now pass.new sight.done (stage_of sight + 1) }
         ensures tied { (c : ControlView) → IsTied self.now pass.old c → IsTied self.now pass.new c }
-        ensures makes { Makes self.now tables.now pass.old (begun_visit sight cpu.now kept.now.code ∷ []) pass.new }
-        ensures known { IsKnown result kept.now.code cpu.now }
+        ensures makes { Makes self.now tables.now pass.old (begun_visit sight cpu.now kept.now.decoded.code ∷ []) pass.new }
+        ensures known { IsKnown result kept.now.decoded.code cpu.now }
     {
-        self.begun(pass, tables, cpu, &kept.code, sight);
+        self.begun(pass, tables, cpu, &kept.decoded.code, sight);
         Known::Nothing
     }
 

@@ -61,9 +61,17 @@ impl<'a, C: Cells> Observer for Planted<'a, C> {
         if cell.half != BREAKPOINT {
             return Known::Nothing;
         }
-        match settle_again(self.cells, pass, cpu, &kept.code, place, cell) {
+        match settle_again(self.cells, pass, cpu, &kept.decoded, place, cell) {
             Known::Nothing => {
-                settle_apart(self.cells, pass, tables, cpu, &kept.code, place, cell);
+                settle_apart(
+                    self.cells,
+                    pass,
+                    tables,
+                    cpu,
+                    &kept.decoded.code,
+                    place,
+                    cell,
+                );
                 Known::Nothing
             }
             Known::Condition(went) => Known::Condition(went),

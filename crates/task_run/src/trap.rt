@@ -13,8 +13,8 @@ use crate::observer::Known;
 use brk_table::Tables;
 use cov_base::{Fact, Kind, PlaceNo, SessNo};
 use module_area::{Cell, Cells};
-use s370_branch::{goes, less_one, outcome};
-use s370_decode::{Code, Op, kind};
+use s370_branch::{condition_goes, count_left, outcome};
+use s370_decode::{Code, Decoded, Op, kind};
 use s370_state::Cpu;
 
 /// The session whose breakpoint the cell is.
@@ -121,7 +121,7 @@ fn condition_again<C: Cells>(
     cells: &C,
     pass: &mut C::Pass,
     cpu: &Cpu,
-    code: &Code,
+    it: &Decoded,
     place: PlaceNo,
     cell: Cell,
 ) -> Known
@@ -131,16 +131,16 @@ fn condition_again<C: Cells>(
     requires place { place.0 < length (C.plan cells.now).places }
     requires pending { (C.notes pass.old).pending ≡ Some (place.0, cell.tag) }
     requires planted { cell.tag % 2 ≡ 1 }
-    requires kind { kind_at (C.plan cells.now) place.0 ≡ kind_of (first_half code.now) }
-    requires op { op_of (first_half code.now) ≡ Op.BC }
+    requires kind { kind_at (C.plan cells.now) place.0 ≡ kind_of (first_half it.now.code) }
+    requires op { op_of (first_half it.now.code) ≡ Op.BC }
     ensures area { C.is_pass cells.now pass.new }
-    ensures settles { Traps (C.plan cells.now) (C.notes pass.old) (C.notes pass.new) cell place.0 code.now cpu.now result }
-    ensures known { IsKnown result code.now cpu.now }
+    ensures traps { Traps (C.plan cells.now) (C.notes pass.old) (C.notes pass.new) cell place.0 it.now.code cpu.now result }
+    ensures known { IsKnown result it.now.code cpu.now }
 {
-    match kind(code.first_half()) {
+    match kind(it.code.first_half()) {
         Kind::Straight => Known::Nothing,
         Kind::Conditional => {
-            let went = goes(cpu, code, Op::BC);
+            let went = condition_goes(cpu, it);
             if mark_again(cells, pass, place, cell, went) {
                 Known::Condition(went)
             } else {
@@ -157,7 +157,7 @@ fn count_again<C: Cells>(
     cells: &C,
     pass: &mut C::Pass,
     cpu: &Cpu,
-    code: &Code,
+    it: &Decoded,
     place: PlaceNo,
     cell: Cell,
 ) -> Known
@@ -167,16 +167,16 @@ fn count_again<C: Cells>(
     requires place { place.0 < length (C.plan cells.now).places }
     requires pending { (C.notes pass.old).pending ≡ Some (place.0, cell.tag) }
     requires planted { cell.tag % 2 ≡ 1 }
-    requires kind { kind_at (C.plan cells.now) place.0 ≡ kind_of (first_half code.now) }
-    requires op { op_of (first_half code.now) ≡ Op.BCT }
+    requires kind { kind_at (C.plan cells.now) place.0 ≡ kind_of (first_half it.now.code) }
+    requires op { op_of (first_half it.now.code) ≡ Op.BCT }
     ensures area { C.is_pass cells.now pass.new }
-    ensures settles { Traps (C.plan cells.now) (C.notes pass.old) (C.notes pass.new) cell place.0 code.now cpu.now result }
-    ensures known { IsKnown result code.now cpu.now }
+    ensures traps { Traps (C.plan cells.now) (C.notes pass.old) (C.notes pass.new) cell place.0 it.now.code cpu.now result }
+    ensures known { IsKnown result it.now.code cpu.now }
 {
-    match kind(code.first_half()) {
+    match kind(it.code.first_half()) {
         Kind::Straight => Known::Nothing,
         Kind::Conditional => {
-            let left = less_one(cpu, code);
+            let left = count_left(cpu, it);
             if mark_again(cells, pass, place, cell, left != 0) {
                 Known::Count(left)
             } else {
@@ -192,7 +192,7 @@ pub(crate) fn settle_again<C: Cells>(
     cells: &C,
     pass: &mut C::Pass,
     cpu: &Cpu,
-    code: &Code,
+    it: &Decoded,
     place: PlaceNo,
     cell: Cell,
 ) -> Known
@@ -202,15 +202,15 @@ pub(crate) fn settle_again<C: Cells>(
     requires place { place.0 < length (C.plan cells.now).places }
     requires pending { (C.notes pass.old).pending ≡ Some (place.0, cell.tag) }
     requires planted { cell.tag % 2 ≡ 1 }
-    requires kind { kind_at (C.plan cells.now) place.0 ≡ kind_of (first_half code.now) }
+    requires kind { kind_at (C.plan cells.now) place.0 ≡ kind_of (first_half it.now.code) }
     ensures area { C.is_pass cells.now pass.new }
-    ensures settles { Traps (C.plan cells.now) (C.notes pass.old) (C.notes pass.new) cell place.0 code.now cpu.now result }
-    ensures known { IsKnown result code.now cpu.now }
+    ensures traps { Traps (C.plan cells.now) (C.notes pass.old) (C.notes pass.new) cell place.0 it.now.code cpu.now result }
+    ensures known { IsKnown result it.now.code cpu.now }
 {
     // Two tests, with no load from a table.
-    match code.first_half() / 256 {
-        0x47 => condition_again(cells, pass, cpu, code, place, cell),
-        0x46 => count_again(cells, pass, cpu, code, place, cell),
+    match it.code.first_half() / 256 {
+        0x47 => condition_again(cells, pass, cpu, it, place, cell),
+        0x46 => count_again(cells, pass, cpu, it, place, cell),
         _ => Known::Nothing,
     }
 }

@@ -1,17 +1,17 @@
 //! Where a task has gone on elsewhere than at the next place.
-ghost use Rattle.std.specs.Prelude.{ℕ, ◌<◌, ◌≤◌, All, IfSome};
+ghost use Rattle.std.specs.Prelude.{ℕ, ◌≤◌, All};
 
 use cov_base::PlaceNo;
 
-/// For each place, found by its number modulo 256, where the task has gone on behind it when that was last looked up: the number of
-/// that place and 1, or 0. It is but a guess, for a branch mostly goes where it has gone.
+/// For each place, found by its number modulo 256, the number of the place that was last looked up and found behind it. It is but a
+/// guess, for a branch mostly goes where it has gone.
 pub(crate) type Turns = [u32; 256];
 
-/// Nothing was looked up.
-pub(crate) fn no_turns() -> Turns
-    ensures { (n : ℕ) → All (λ t. t ≤ n) result }
+/// Nothing was looked up yet: `none` is the number of no place.
+pub(crate) fn no_turns(none: u32) -> Turns
+    ensures { All (λ t. t ≤ none) result }
 {
-    [0; 256]
+    [none; 256]
 }
 
 /// What is guessed behind the place.
@@ -24,12 +24,8 @@ pub(crate) fn guess(turns: &Turns, last: u32) -> u32
 
 /// Keeps where the task has gone on behind the place.
 #[inline(always)]
-pub(crate) fn keep(turns: &mut Turns, last: u32, to: Option<PlaceNo>)
-    ensures { (n : ℕ) → All (λ t. t ≤ n) turns.old → IfSome to (λ p. p.0 < n) → All (λ t. t ≤ n) turns.new }
+pub(crate) fn keep(turns: &mut Turns, last: u32, to: PlaceNo)
+    ensures { (n : ℕ) → All (λ t. t ≤ n) turns.old → to.0 ≤ n → All (λ t. t ≤ n) turns.new }
 {
-    let entry = match to {
-        Some(p) => p.0.saturating_add(1),
-        None => 0,
-    };
-    turns[last as usize % 256] = entry;
+    turns[last as usize % 256] = to.0;
 }

@@ -36,12 +36,7 @@ fn caller_at<P: Space>(cpu: &Cpu, space: &P) -> Cpu
     requires { first_tests (P.memory space.now) cpu.now.ia ≡ None }
     ensures { result ≡ caller_at (P.memory space.now) (machine_of cpu.now (P.bytes space.now)) }
 {
-    Cpu {
-        regs: cpu.regs,
-        ia: behind_call(cpu, space),
-        cc: cpu.condition(),
-        mask: cpu.mask(),
-    }
+    cpu.copy_at(behind_call(cpu, space))
 }
 
 /// Goes on at the entry of a routine.
@@ -57,14 +52,11 @@ fn enter(cpu: &mut Cpu, entry: Addr)
 fn resume(cpu: &mut Cpu, caller: &Cpu)
     ensures { cpu.new ≡ resumed cpu.old caller.now }
 {
-    let mut regs = caller.regs;
-    regs[0] = cpu.reg(0);
-    regs[1] = cpu.reg(1);
-    regs[15] = cpu.reg(15);
-    cpu.regs = regs;
-    cpu.set_cc(caller.condition());
-    cpu.set_mask(caller.mask());
-    cpu.go(caller.at());
+    let answers = (cpu.reg(0), cpu.reg(1), cpu.reg(15));
+    *cpu = caller.copy_at(caller.at());
+    cpu.set_reg(0, answers.0);
+    cpu.set_reg(1, answers.1);
+    cpu.set_reg(15, answers.2);
 }
 
 impl Services<'_> {

@@ -342,12 +342,7 @@ fn check_line(
     take_all(&mut known, words);
     let code = code_of(&mut known, digits);
     let start = start_of(&known, &code);
-    let mut cpu = Cpu {
-        regs: known.regs,
-        ia: start,
-        cc: known.cc % 4,
-        mask: known.mask % 16,
-    };
+    let mut cpu = Cpu::new(&known.regs, start, known.cc % 4, known.mask % 16);
     let mut space = space_of(alloc, table, &known)?;
     let mut io = io_of(alloc, &known)?;
     let branches = outcome(&cpu, &code);
@@ -356,7 +351,7 @@ fn check_line(
     take_all(&mut known, after);
     assert!(rt; known.is_read, "{line}");
     assert_eq!(rt; branches, known.ia != updated, "{line}");
-    assert_eq!(rt; cpu.regs, known.regs, "{line}");
+    assert_eq!(rt; cpu.regs(), known.regs.as_slice(), "{line}");
     assert_eq!(rt; (cpu.cc, cpu.mask), (known.cc, known.mask), "{line}");
     assert_eq!(rt; space.bytes.as_slice(), known.bytes.as_slice(), "{line}");
     assert!(rt; next == known.next, "{line}");

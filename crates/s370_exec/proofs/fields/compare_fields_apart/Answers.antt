@@ -6,5 +6,5 @@ pub returns-then-compare_fields_own : goal.returns-then-compare_fields_own
 unfolding effect
 returns-then-compare_fields_own g c = record {
   memory = c.if-compare_fields_own.ensures.memory;
-  effect = λ io link. c.onward.ensures _ io ∙ ap (onward c.args.next io) c.if-compare_fields_own.ensures.effect;
+  effect = λ io link. c.onward.ensures _ io ∙ ap (onward c.args.it.now.next io) c.if-compare_fields_own.ensures.effect;
 }

@@ -6,5 +6,5 @@ pub returns-then-move_characters_own : goal.returns-then-move_characters_own
 unfolding effect
 returns-then-move_characters_own g c = record {
   memory = c.if-move_characters_own.ensures.memory;
-  effect = λ io link. c.onward.ensures _ io ∙ ap (onward c.args.next io) c.if-move_characters_own.ensures.effect;
+  effect = λ io link. c.onward.ensures _ io ∙ ap (onward c.args.it.now.next io) c.if-move_characters_own.ensures.effect;
 }

@@ -6,5 +6,5 @@ pub returns-then-store_multiple_own : goal.returns-then-store_multiple_own
 unfolding effect
 returns-then-store_multiple_own g c = record {
   memory = c.if-store_multiple_own.ensures.memory;
-  effect = λ io link. c.onward.ensures _ io ∙ ap (onward c.args.next io) c.if-store_multiple_own.ensures.effect;
+  effect = λ io link. c.onward.ensures _ io ∙ ap (onward c.args.it.now.next io) c.if-store_multiple_own.ensures.effect;
 }

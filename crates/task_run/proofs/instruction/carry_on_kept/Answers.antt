@@ -8,7 +8,7 @@ use Rattle.task_run.proofs.instruction.carry_on_kept.Goals as goal
 pub returns-in-Some-clause-goes : goal.returns-in-Some-clause-goes
 returns-in-Some-clause-goes g c =
     let b = c.args.bench.now in
-    let kept = c.args.kept.now in
+    let kept = c.args.kept.now.decoded in
     let new = c.execute_frequent.new in
     let tries = c.in-Some.ensures.tries in
     let plain : is_plain kept.op ≡ true = c.in-Some.ensures.plain refl in

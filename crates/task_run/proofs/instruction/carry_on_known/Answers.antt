@@ -10,7 +10,7 @@ use Rattle.task_run.proofs.instruction.carry_on_known.Goals as goal
 pub returns-in-Condition-clause-goes : goal.returns-in-Condition-clause-goes
 returns-in-Condition-clause-goes g c =
     let b = c.args.bench.now in
-    let kept = c.args.kept.now in
+    let kept = c.args.kept.now.decoded in
     let known = rw c.in-Condition.is at c.requires.known in
     let new : Bench = record b { cpu = c.go_on_condition.new.cpu } in
     plain_goes g.O.Observer c.args.observer.now c.args.tables.now c.args.pass.now b new c.args.done kept.code kept.op On c.requires.fetched kept.operates (ap is_plain (kept.operates ∙ known.0)) refl
@@ -19,7 +19,7 @@ returns-in-Condition-clause-goes g c =
 pub returns-in-Count-clause-goes : goal.returns-in-Count-clause-goes
 returns-in-Count-clause-goes g c =
     let b = c.args.bench.now in
-    let kept = c.args.kept.now in
+    let kept = c.args.kept.now.decoded in
     let known = rw c.in-Count.is at c.requires.known in
     let new : Bench = record b { cpu = c.go_on_count.new.cpu } in
     plain_goes g.O.Observer c.args.observer.now c.args.tables.now c.args.pass.now b new c.args.done kept.code kept.op On c.requires.fetched kept.operates (ap is_plain (kept.operates ∙ known.0)) refl

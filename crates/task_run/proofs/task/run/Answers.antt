@@ -1,29 +1,34 @@
-use Rattle.std.proofs.Common.{◌≡◌, ◌+◌, length, refl, sym, ◌∙◌, arith}
+use Rattle.std.proofs.Common.{◌≡◌, ◌+◌, refl, sym, ◌∙◌, arith}
 use Rattle.s370_state.specs.declared.endings.Ending.TheVariants.{Returned}
 use Rattle.task_run.specs.Runs.{Takes, course_of, stand}
 use Rattle.task_run.specs.Steps.{memory_at, stands}
 use Rattle.task_run.proofs.HookLemmas.{hooked_memory, hooked_turn, hooked_step, hooked_state}
 use Rattle.task_run.proofs.KeptCode.{kept_at_places}
-use Rattle.task_run.proofs.PlaceLemmas.{exists_at_most}
 use Rattle.task_run.proofs.RunLemmas.{Ran, LedTo-more, Ran-ended, Ran-returned, Ran-all}
+use Rattle.task_run.proofs.PositionLemmas.{kept_there}
 use Rattle.task_run.proofs.task.run.Given as given
 use Rattle.task_run.proofs.task.run.Goals as goal
 
 pub comes_to-requires-clause-codes : goal.comes_to-requires-clause-codes
 comes_to-requires-clause-codes g c = kept_at_places (memory_at c.loop-done.bench) c.args.watch.now.tables.now c.loop-done.invariant.can.places.kept
 
+pub step-next-requires-clause-kept : goal.step-next-requires-clause-kept
+step-next-requires-clause-kept g c =
+    let tables = c.args.watch.now.tables.now in
+    kept_there tables c.comes_to.new.position c.loop-done.bench.cpu.ia c.in-Some.place c.index-position-0.result c.comes_to.ensures.position
+    (kept_at_places (memory_at c.loop-done.bench) tables c.loop-done.invariant.can.places.kept) c.in-Some.ensures.placed
+
 pub loop-done-preserved : goal.loop-done-preserved
 loop-done-preserved g c =
     let same = c.loop-done.invariant.memory in
     let steps = c.step-next.ensures.steps in
     let does = c.behind.ensures.does in
-    let places = c.args.watch.now.tables.now.places in
     record {
       can = c.behind.ensures.can;
       set = does.set;
       memory = hooked_memory steps does ∙ same;
       turns = c.comes_to.ensures.turns;
-      last = c.number_or-last.ensures (length places) c.loop-done.invariant.last (exists_at_most places c.loop-done.bench.cpu.ia c.in-Some.place c.in-Some.ensures.placed);
+      position = c.comes_to.ensures.position;
       run = LedTo-more _ _ (Takes g.O.Observer.Makes g.O.Observer.Answers g.H.Hook.way.Aside c.args.watch.now.observer.now c.args.watch.now.tables.now)
           _ _ _ _ c.loop-done.done _ (stands c.loop-done.bench c.loop-done.done) _ (stand c.loop-done.hook c.loop-done.pass c.loop-done.bench) _ _
           c.loop-done.invariant.run c.loop-done-test.true (c.in-Some.ensures.goes_on refl) (rw same at (hooked_step steps does)) c.in_default-behind.is (rw same at (hooked_state steps does))

@@ -3,4 +3,4 @@ use Rattle.std.proofs.lemmas.List.Elements.{All-replicate}
 use Rattle.task_run.proofs.turns.no_turns.Goals as goal
 
 pub returns : goal.returns
-returns c = λ n. All-replicate (λ t. t ≤ n) 256 0 (omega arith)
+returns c = All-replicate (λ t. t ≤ c.args.none) 256 c.args.none (omega arith)

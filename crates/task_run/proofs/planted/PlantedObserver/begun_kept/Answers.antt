@@ -14,14 +14,14 @@ returns-then-cell-ne-BREAKPOINT-clause-makes g c =
 pub returns-in-Nothing-clause-makes : goal.returns-in-Nothing-clause-makes
 returns-in-Nothing-clause-makes g c =
     makes_settled (g.C.Cells.plan c.args.self.now.cells.now) _ c.args.tables.now.places c.requires.ready.plan c.requires.ready.places _ _ _ c.in-Some.place.0 c.fetch-cell.result _ _
-    (rw c.in-Some.is at c.requires.placed) c.fetch-cell.ensures.answer ((rw c.in-Nothing.is at c.settle_again.ensures.settles) ∙ c.fetch-cell.ensures.notes) c.if-cell-ne-BREAKPOINT.false refl refl c.settle_apart.ensures.settles
+    (rw c.in-Some.is at c.requires.placed) c.fetch-cell.ensures.answer ((rw c.in-Nothing.is at c.settle_again.ensures.traps) ∙ c.fetch-cell.ensures.notes) c.if-cell-ne-BREAKPOINT.false refl refl c.settle_apart.ensures.settles
 
 pub returns-in-Condition-clause-makes : goal.returns-in-Condition-clause-makes
 returns-in-Condition-clause-makes g c =
     makes_settled (g.C.Cells.plan c.args.self.now.cells.now) _ c.args.tables.now.places c.requires.ready.plan c.requires.ready.places _ _ _ c.in-Some.place.0 c.fetch-cell.result _ _
-    (rw c.in-Some.is at c.requires.placed) c.fetch-cell.ensures.answer c.fetch-cell.ensures.notes c.if-cell-ne-BREAKPOINT.false refl refl (rw c.in-Condition.is at c.settle_again.ensures.settles)
+    (rw c.in-Some.is at c.requires.placed) c.fetch-cell.ensures.answer c.fetch-cell.ensures.notes c.if-cell-ne-BREAKPOINT.false refl refl (rw c.in-Condition.is at c.settle_again.ensures.traps)
 
 pub returns-in-Count-clause-makes : goal.returns-in-Count-clause-makes
 returns-in-Count-clause-makes g c =
     makes_settled (g.C.Cells.plan c.args.self.now.cells.now) _ c.args.tables.now.places c.requires.ready.plan c.requires.ready.places _ _ _ c.in-Some.place.0 c.fetch-cell.result _ _
-    (rw c.in-Some.is at c.requires.placed) c.fetch-cell.ensures.answer c.fetch-cell.ensures.notes c.if-cell-ne-BREAKPOINT.false refl refl (rw c.in-Count.is at c.settle_again.ensures.settles)
+    (rw c.in-Some.is at c.requires.placed) c.fetch-cell.ensures.answer c.fetch-cell.ensures.notes c.if-cell-ne-BREAKPOINT.false refl refl (rw c.in-Count.is at c.settle_again.ensures.traps)
