@@ -1,15 +1,18 @@
-"""README's commands, as they are written; and which commands the help and the documents list."""
+"""README's commands, as they are written, as recipe_cases has other pages'; and which commands the help and the documents list."""
 from __future__ import annotations
 
 import os
 import re
 import shutil
 import subprocess
+import textwrap
 
 from harness import TOP, Tally, coverage, equal, folder, run, well
 from jobs import USAGE
 
-COMMAND = re.compile(r" {4,}(\./coverage .*|(?:\(cd [a-z.]+ && )?genhtml .*|cat .*|lcov .*)")
+BLOCK = re.compile(r"^```.*\n((?:.*\n)*?)```$|((?:^ {4,}.*\n)+)", re.M)
+# What a reader types begins so. Samples, as cards and lines of reports, begin with capitals, digits or marks.
+TYPED = re.compile(r"[a-z.(]")
 
 
 def text_of(path: str) -> str:
@@ -17,10 +20,16 @@ def text_of(path: str) -> str:
         return file.read()
 
 
+def blocks(text: str, typed: bool = True) -> list[str]:
+    """The blocks of a page that are commands; or those that are samples."""
+    found = [fenced or textwrap.dedent(indented) for fenced, indented in BLOCK.findall(text)]
+    return [it for it in found if bool(TYPED.match(it)) == typed]
+
+
 def commands() -> list[str]:
-    """The commands of README's blocks, without the words that explain them, two blanks and more behind."""
-    found = [it[1] for line in text_of("README.md").splitlines() if (it := COMMAND.fullmatch(line))]
-    return [re.split(r" {2,}", it)[0] for it in found]
+    """README's commands but the gate, which runs this, without the words that explain them, two blanks and more behind."""
+    found = [it for block in blocks(text_of("README.md")) for it in block.splitlines()]
+    return [re.split(r" {2,}", it)[0] for it in found if not it.startswith(".ci/run ")]
 
 
 def run_all(tally: Tally) -> None:
