@@ -11,7 +11,7 @@ pub record IsSessionOf (j : JobView) (name : List ℕ) (s : ℕ) : Type 0 where
   pub from : 0 < s
   pub to : s ≤ length j.sessions
 
--- so where one is asked for
+-- so where one is asked for by its name; where none is the number is 0
 abbrev pub HasSession : Asked → JobView → ℕ → Type 0
 HasSession (WithSession wanted) j s = IsSessionOf j wanted.name s
-HasSession asked j s = Unit {0}
+HasSession asked j s = s ≡ 0
