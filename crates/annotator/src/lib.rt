@@ -5,6 +5,3 @@ mod annotation;
 pub mod text;
 
 pub use annotation::annotate;
-
-#[cfg(test)]
-mod tests;

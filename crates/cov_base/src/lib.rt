@@ -21,6 +21,3 @@ pub use marks::{Mark, mark_of};
 pub use names::Name;
 pub use numbers::{PlaceNo, SessNo, TaskNo};
 pub use shortage::NoMemory;
-
-#[cfg(test)]
-mod tests;

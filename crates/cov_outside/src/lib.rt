@@ -16,6 +16,3 @@ pub use memory::{MemSink, MemSource};
 pub use streams::{Failed, Sink, Source};
 pub use sure::{SureSink, SureSource};
 pub use whole::{ReadFault, read_all, read_piece, write_all};
-
-#[cfg(test)]
-mod tests;

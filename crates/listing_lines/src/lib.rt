@@ -4,8 +4,6 @@
 mod columns;
 mod heading;
 mod lines;
-#[cfg(test)]
-mod tests;
 
 pub use columns::{Columns, Width, column, columns_of};
 pub use heading::heading_of;

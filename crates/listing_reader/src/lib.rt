@@ -7,8 +7,6 @@ mod listing;
 mod object;
 mod operation;
 mod reader;
-#[cfg(test)]
-mod tests;
 
 pub use lines::{Line, ListFault};
 pub use listing::Listing;

@@ -4,6 +4,3 @@
 mod list;
 
 pub use list::NameList;
-
-#[cfg(test)]
-mod tests;

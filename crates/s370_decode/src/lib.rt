@@ -16,6 +16,3 @@ pub use halfword::{kind, length};
 pub use mnemonics::is_mnemonic;
 pub use op::Op;
 pub use table::op_of;
-
-#[cfg(test)]
-mod tests;

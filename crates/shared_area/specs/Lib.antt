@@ -1,4 +1,3 @@
-pub mod Late
 pub mod Passes
 pub mod Rule
 pub mod Sets

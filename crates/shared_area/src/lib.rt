@@ -4,22 +4,14 @@
 
 mod areas;
 mod cells;
-#[cfg(test)]
-mod drained;
 mod drains;
 mod fetches;
 mod forks;
-#[cfg(test)]
-mod late;
 mod marks;
 mod pass;
 mod rule;
 mod sets;
 mod steps;
-#[cfg(test)]
-mod tests;
-#[cfg(test)]
-mod through;
 mod words;
 
 pub use areas::SharedAreas;

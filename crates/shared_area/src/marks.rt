@@ -46,13 +46,7 @@ impl SharedCells {
     }
 
     /// The set as a load finds it. Where the fact is there the mark is done; else nothing is.
-    pub(crate) fn look(
-        &self,
-        seat: &mut Seat<NoSlot, View>,
-        s: SessNo,
-        place: PlaceNo,
-        fact: Fact,
-    ) -> Bits
+    fn look(&self, seat: &mut Seat<NoSlot, View>, s: SessNo, place: PlaceNo, fact: Fact) -> Bits
         requires area { seat.old.table_id ≡ self.now.table.shared.table_id }
         requires may { MayMark self.now.plan s.0 place.0 fact seat.old.me.0 }
         ensures area { seat.new.table_id ≡ seat.old.table_id }
@@ -87,7 +81,7 @@ impl SharedCells {
     /// that it stays out of the task's loop.
     #[cold]
     #[inline(never)]
-    pub(crate) fn add<K: Marking>(
+    fn add<K: Marking>(
         &self,
         seat: &mut Seat<NoSlot, View>,
         s: SessNo,

@@ -6,6 +6,3 @@ mod images;
 mod space;
 
 pub use space::TaskSpace;
-
-#[cfg(test)]
-mod tests;

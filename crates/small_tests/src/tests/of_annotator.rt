@@ -1,6 +1,6 @@
 //! Marks on lines of a sample listing, a longest line, and numbers in both bases.
-use crate::annotate;
-use crate::text::{add_hex, add_number, add_text};
+use annotator::annotate;
+use annotator::text::{add_hex, add_number, add_text};
 use arrayvec::ArrayVec;
 use cov_base::Mark;
 use std::test::Fail;

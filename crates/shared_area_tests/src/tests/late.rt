@@ -1,15 +1,15 @@
 //! Three instructions under two sessions that task 1 opens and closes, and traps of tasks 0 and 2 that are settled late.
 ghost use Rattle.std.specs.Prelude.{◌≡◌, ℕ, ◌+◌, ◌-◌, ◌*◌, ◌<◌, ◌≤◌, ◌^◌, true, length, [], ◌∷◌, IfOk, IfSome};
-ghost use Rattle.std.specs.declared.option.Option.TheVariants.{Some, None};
+ghost use Rattle.std.specs.declared.option.Option.TheVariants.{Some};
 ghost use Rattle.cov_base.specs.declared.facts.Kind.TheVariants.{Straight};
 ghost use Rattle.module_area.specs.Meaning.{kind_at};
 ghost use Rattle.module_area.specs.Rule.{has_task};
-ghost use Rattle.shared_area.specs.Late.{IsTwice, HasKind, IsPassFor, IsAtWork, IsLater, OfThree};
+ghost use Rattle.shared_area_tests.specs.Late.{IsTwice, HasKind, IsPassFor, IsAtWork, IsLater, OfThree};
 ghost use Rattle.module_area.specs.Notes.{calls, is_working};
 
-use crate::SharedAreas;
 use cov_base::{Addr, Fact, Kind, NoMemory, PlaceNo, SessNo, TaskNo};
 use module_area::{Areas, Cell, Cells, Controlled, Forks, Place, Plan};
+use shared_area::SharedAreas;
 use std::alloc::Global;
 use std::test::Fail;
 

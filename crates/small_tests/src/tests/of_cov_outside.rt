@@ -1,7 +1,7 @@
 //! Faults in mid-stream, at the call that is listed and at the next, and each call with ample memory.
 ghost use Rattle.std.specs.Prelude.{◌<◌, ◌≤◌};
 
-use crate::{
+use cov_outside::{
     Failed, MemSink, MemSource, ReadFault, Sink, Source, StdSink, StdSource, SureSink, SureSource,
     WriteBuffer, read_all, write_all,
 };

@@ -1,6 +1,6 @@
 //! The heading of listings with and without a print control character, and lines that are read as they were added.
-use crate::{ListingLines, Width, column, heading_of};
 use cov_base::{LINE_LIMIT, NoMemory};
+use listing_lines::{ListingLines, Width, column, heading_of};
 use std::alloc::Global;
 use std::test::Fail;
 

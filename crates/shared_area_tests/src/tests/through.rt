@@ -1,16 +1,15 @@
 //! The course of a task through two sessions: one is closed and the next one planted while it holds a trap.
 ghost use Rattle.std.specs.Prelude.{◌≡◌, ◌+◌, ◌*◌, ◌<◌, ◌≤◌, ◌^◌, true, length, IfSome};
-ghost use Rattle.std.specs.declared.option.Option.TheVariants.{Some};
 ghost use Rattle.cov_base.specs.declared.facts.Kind.TheVariants.{Straight};
 ghost use Rattle.module_area.specs.Meaning.{kind_at, is_controlled, is_over};
 ghost use Rattle.module_area.specs.Rule.{has_task};
-ghost use Rattle.shared_area.specs.Late.{IsTwice, HasKind, IsPassFor, IsAtWork, IsLater, OfThree};
+ghost use Rattle.shared_area_tests.specs.Late.{IsTwice, HasKind, IsPassFor, IsAtWork, IsLater, OfThree};
 ghost use Rattle.module_area.specs.Notes.{calls, is_working, keeps};
 
-use crate::SharedAreas;
-use crate::late::{Late, marks, three_instructions, traps};
+use super::late::{Late, marks, three_instructions, traps};
 use cov_base::{Fact, NoMemory, PlaceNo, SessNo, TaskNo};
 use module_area::{Areas, Cell, Cells, Finals, Forks, Plan, Tally};
+use shared_area::SharedAreas;
 use std::alloc::Global;
 use std::test::Fail;
 

@@ -1,6 +1,6 @@
 //! Lengths, kinds, operations and mnemonics against the machine's own tables.
-use super::*;
 use cov_base::Kind;
+use s370_decode::{Code, Op, is_mnemonic, kind, length, op_of};
 use std::test::*;
 
 /// The operations and the codes of the supervisor state, by the lists of instructions.

@@ -1,6 +1,6 @@
 //! Names that are added, and found again.
-use super::*;
 use cov_base::Name;
+use names::NameList;
 use std::alloc::Global;
 use std::test::*;
 

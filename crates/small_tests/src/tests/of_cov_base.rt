@@ -1,5 +1,5 @@
 //! Names and marks by their rules, and a set's facts.
-use super::*;
+use cov_base::{Addr, Bits, Fact, Kind, Mark, Name, mark_of};
 use std::test::*;
 
 static NAMES: [&str; 7] = ["A", "Z9", "@", "#1", "$A", "M@#$0123", "ABCDEFGH"];

@@ -6,12 +6,11 @@ ghost use Rattle.module_area.specs.Images.{AreImages};
 ghost use Rattle.brk_table.specs.Meaning.{memory_of};
 ghost use Rattle.brk_table.specs.Places.{IsIn};
 
-use super::bytes::first_bytes;
-use super::*;
 use brk_table::Tables;
 use cov_base::{Addr, NoMemory};
 use module_area::{DataCard, Images};
 use s370_state::test_read;
+use space_map::TaskSpace;
 use std::alloc::Global;
 use std::test::Fail;
 
@@ -52,7 +51,9 @@ fn later_cards_count(rt: HostRuntime) -> Result<(), Fail> {
             bytes: vec![in rt.alloc(); 4]?,
         },
     ];
-    let bytes = first_bytes(rt.alloc(), 8, &cards)?;
-    assert_eq!(rt; bytes.as_slice(), [0, 0, 1, 0xFF, 3, 0, 0, 4].as_slice());
+    let images = Images(Vec::new(rt.alloc()));
+    let tables = Tables::of(rt.alloc(), Vec::new(rt.alloc()))?;
+    let space = TaskSpace::new(rt.alloc(), 8, &cards, &images, &tables)?;
+    assert_eq!(rt; space.bytes(), [0, 0, 1, 0xFF, 3, 0, 0, 4].as_slice());
     Ok(())
 }

@@ -1,7 +1,7 @@
 //! Listings as the assembler lays them out, and lines with one thing changed.
-use crate::{Line, ListFault, Listing, read_listing};
 use cov_base::{LINE_LIMIT, NoMemory};
 use listing_lines::ListingLines;
+use listing_reader::{Line, ListFault, Listing, read_listing};
 use std::alloc::Global;
 use std::process::Abort;
 use std::test::Fail;

@@ -1,22 +1,23 @@
-//! A branch and a return under one session: two passes in turn, a mark between the two steps of another, and two
-//! threads at once. How many words an area has.
+//! A branch and a return under one session: two passes in turn, a mark between the look and the addition of another pass, and
+//! two threads at once. How many words an area has.
+mod drained;
+mod late;
+mod through;
+
 ghost use Rattle.std.specs.Prelude.{◌≡◌, ◌+◌, ◌<◌, ◌≤◌, ◌^◌, length, true, IfOk};
-ghost use Rattle.std.specs.declared.option.Option.TheVariants.{Some, None};
+ghost use Rattle.std.specs.declared.option.Option.TheVariants.{Some};
 ghost use Rattle.cov_base.specs.declared.facts.Fact.TheVariants.{Went, Stayed};
 ghost use Rattle.cov_base.specs.declared.facts.Kind.TheVariants.{Straight, Conditional};
-ghost use Rattle.cov_base.specs.FactKind.{is_of_kind};
 ghost use Rattle.module_area.specs.Meaning.{kind_at, window_at};
 ghost use Rattle.module_area.specs.Rule.{has_task};
 ghost use Rattle.module_area.specs.Notes.{calls, is_working};
-ghost use Rattle.shared_area.specs.Late.{HasKind, IsAtWork, MayVisit, OfThree};
-ghost use Rattle.shared_area.specs.Passes.{notes_of, IsPassOf};
+ghost use Rattle.shared_area_tests.specs.Late.{IsAtWork, MayVisit, OfThree};
 
-use crate::late::traps;
-use crate::{SharedAreas, SharedCells, SharedPass};
 use cov_base::{Addr, Bits, Fact, Kind, NoMemory, PlaceNo, SessNo, TaskNo};
-use module_area::{Areas, Cells, Forks, Place, Plan, Tally};
+use late::traps;
+use module_area::{Areas, Cells, Drains, Forks, Place, Plan, Tally};
+use shared_area::SharedAreas;
 use std::alloc::Global;
-use std::marker::Brand;
 use std::test::Fail;
 use std::thread;
 use std::thread::Threads;
@@ -145,42 +146,32 @@ fn shown(set: Bits) -> Shown {
     (set.has(Fact::Went), set.has(Fact::Stayed))
 }
 
-/// The two steps of a mark of Went, with a mark of Stayed by the other pass between them: the sets that these three
-/// find, or none where the look has found the fact.
-fn raced(cells: &SharedCells, pass: SharedPass, other: &mut SharedPass) -> Option<[Shown; 3]>
-    requires area { IsPassOf cells.now pass }
-    requires other { IsPassOf cells.now other.old }
-    requires room { calls (notes_of other.old) < 2 ^ 60 }
-    requires working { is_working (notes_of other.old) ≡ true }
-    requires branch { HasKind cells.now.plan 0 Conditional × (1 ≤ cells.now.plan.sessions) }
-    requires pending { ((notes_of pass).pending ≡ Some (0, 1)) × ((notes_of other.old).pending ≡ Some (0, 1)) }
+/// The two calls of a mark of Went, `mark_again`, whose look does nothing where the set lacks the fact, and `mark`, with a mark of
+/// Stayed by the other pass between them: the set at the look, and those that the two marks find, or none where the look has
+/// found the fact.
+fn raced<C: Drains>(cells: &C, pass: &mut C::Pass, other: &mut C::Pass) -> Option<[Shown; 3]>
+    requires area { C.is_pass cells.now pass.old × C.is_pass cells.now other.old }
+    requires first { MayVisit (C.plan cells.now) (C.notes pass.old) 0 Went }
+    requires second { MayVisit (C.plan cells.now) (C.notes other.old) 0 Stayed }
+    requires sessions { 1 ≤ (C.plan cells.now).sessions }
+    requires pending { ((C.notes pass.old).pending ≡ Some (0, 1)) × ((C.notes other.old).pending ≡ Some (0, 1)) }
 {
-    let SharedPass {
-        mut seat,
-        tally: _,
-        word: _,
-    } = pass;
-    let looked = cells.look(&mut seat, SessNo(1), PlaceNo(0), Fact::Went);
-    if looked.has(Fact::Went) {
+    let looked = cells.read_set(pass, SessNo(1), PlaceNo(0));
+    if cells.mark_again(pass, SessNo(1), PlaceNo(0), Fact::Went) {
         return None;
     }
     let between = cells.mark(other, SessNo(1), PlaceNo(0), Fact::Stayed);
-    let added = cells.add::<Brand>(&mut seat, SessNo(1), PlaceNo(0), Fact::Went);
+    let added = cells.mark(pass, SessNo(1), PlaceNo(0), Fact::Went);
     Some([shown(looked), shown(between), shown(added)])
 }
 
-/// The set that a look for Went finds.
-fn looked(cells: &SharedCells, pass: SharedPass) -> Shown
-    requires area { IsPassOf cells.now pass }
-    requires branch { HasKind cells.now.plan 0 Conditional × (1 ≤ cells.now.plan.sessions) }
-    requires pending { (notes_of pass).pending ≡ Some (0, 1) }
+/// The set that a mark of Went finds, which its look is where the fact is there.
+fn looked<C: Cells>(cells: &C, pass: &mut C::Pass) -> Shown
+    requires area { C.is_pass cells.now pass.old }
+    requires may { MayVisit (C.plan cells.now) (C.notes pass.old) 0 Went }
+    requires pending { (C.notes pass.old).pending ≡ Some (0, 1) }
 {
-    let SharedPass {
-        mut seat,
-        tally: _,
-        word: _,
-    } = pass;
-    shown(cells.look(&mut seat, SessNo(1), PlaceNo(0), Fact::Went))
+    shown(cells.mark(pass, SessNo(1), PlaceNo(0), Fact::Went))
 }
 
 /// An area in which the branch is planted, and the passes of tasks 0, 1 and 2.
@@ -214,23 +205,27 @@ fn three_passes<A: Areas>(
 }
 
 /// What the steps of two passes find in turn, and then a look of the third; none where no breakpoint stands.
-fn step_by_step(alloc: Global, plan: &Plan) -> Result<Option<([Shown; 3], Shown)>, NoMemory>
+fn step_by_step<A: Areas>(
+    alloc: Global,
+    areas: &mut A,
+    plan: &Plan,
+) -> Result<Option<([Shown; 3], Shown)>, NoMemory>
+    requires room { A.made areas.old < 2 ^ 62 }
     requires branch { (0 < length plan.now.places) × (kind_at plan.now 0 ≡ Conditional) × (window_at plan.now 0 ≡ 1) }
     requires tasks { OfThree (λ t. has_task plan.now.tasks t ≡ true) }
     requires sessions { 1 ≤ plan.now.sessions }
 {
-    let mut areas = SharedAreas::new(alloc, 1)?;
-    let (cells, mut first, mut second, mut third) = three_passes(alloc, &mut areas, plan)?;
+    let (cells, mut first, mut second, mut third) = three_passes(alloc, areas, plan)?;
     if !traps(&cells, &mut first, PlaceNo(0), 1)
         || !traps(&cells, &mut second, PlaceNo(0), 1)
         || !traps(&cells, &mut third, PlaceNo(0), 1)
     {
         return Ok(None);
     }
-    let Some(three) = raced(&cells, first, &mut second) else {
+    let Some(three) = raced(&cells, &mut first, &mut second) else {
         return Ok(None);
     };
-    Ok(Some((three, looked(&cells, third))))
+    Ok(Some((three, looked(&cells, &mut third))))
 }
 
 /// An area in which nothing is done, and how many sets it ends with.
@@ -326,10 +321,11 @@ fn an_area_without_places(rt: HostRuntime) -> Result<(), Fail> {
 }
 
 #[test]
-fn a_mark_between_look_and_addition(rt: HostRuntime) -> Result<(), Fail> {
+fn a_mark_between_a_look_and_its_mark(rt: HostRuntime) -> Result<(), Fail> {
     let alloc = rt.alloc();
     let plan = branch_and_return(alloc)?;
-    let found = step_by_step(alloc, &plan)?;
+    let mut areas = SharedAreas::new(alloc, 1)?;
+    let found = step_by_step(alloc, &mut areas, &plan)?;
     let three = [(false, false), (false, false), (false, true)];
     assert_eq!(rt; found, Some((three, (true, true))));
     Ok(())

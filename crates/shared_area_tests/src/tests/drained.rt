@@ -1,18 +1,16 @@
 //! A session that is closed while another task holds a trap of it: the numbers of tasks and the sets that the controller
 //! reads before and behind that task's boundary.
 ghost use Rattle.std.specs.Prelude.{◌≡◌, ◌<◌, ◌^◌, ◌≤◌, true, length};
-ghost use Rattle.std.specs.declared.option.Option.TheVariants.{Some};
 ghost use Rattle.cov_base.specs.declared.facts.Kind.TheVariants.{Straight};
 ghost use Rattle.module_area.specs.Meaning.{kind_at};
 ghost use Rattle.module_area.specs.Rule.{has_task};
-ghost use Rattle.shared_area.specs.Late.{IsTwice, IsFirst, IsPassFor, OfThree};
-ghost use Rattle.module_area.specs.Notes.{calls, own_number};
+ghost use Rattle.shared_area_tests.specs.Late.{IsTwice, IsFirst, IsPassFor, OfThree};
 
-use crate::SharedAreas;
-use crate::late::{marks, three_instructions, traps};
-use crate::through::{closes_all, plants_all, runs};
+use super::late::{marks, three_instructions, traps};
+use super::through::{closes_all, plants_all, runs};
 use cov_base::{Fact, NoMemory, PlaceNo, SessNo, TaskNo};
 use module_area::{Areas, Drains, Forks, Plan};
+use shared_area::SharedAreas;
 use std::alloc::Global;
 use std::test::Fail;
 
