@@ -51,5 +51,5 @@ pub fn trial(alloc: Global, number: u32, tasks: u32) -> Result<Job, NoMemory>
         sessions: vec![in alloc; session]?,
         tasks: tasks_of(alloc, tasks)?,
     };
-    Ok(Job::new(alloc, cards)?)
+    Ok(Job::new(cards))
 }

@@ -7,10 +7,10 @@ use Rattle.cov_base.specs.Meaning.{ImageView}
 use Rattle.names.specs.Lists.{Differ, index_of, has, added}
 use Rattle.names.proofs.Laws.{index_of-map, has-map, none_named, one_named}
 use Rattle.session_book.specs.Meaning.{TaskView, no_task}
-use Rattle.session_book.specs.Names as naming
-use Rattle.session_book.specs.Names.{names_of, session_names, task_names}
-use Rattle.session_book.specs.declared.job_names.JobNames.{JobNames}
-use Rattle.job_text.specs.Meaning.{SessionDraft, DraftView, bound_session, bound, controller_named, has_module, has_task}
+use Rattle.job_text.specs.Names as naming
+use Rattle.job_text.specs.Names.{task_names}
+use Rattle.job_text.specs.declared.job_names.JobNames.{JobNames}
+use Rattle.job_text.specs.Meaning.{SessionDraft, DraftView, controller_named, has_module, has_task}
 use Rattle.job_text.specs.Meaning as adding
 use Rattle.job_text.specs.DraftInside.{names_in, draft_view, HasNames}
 use Rattle.job_text.specs.declared.parts.Draft.TheInside.{Inside}
@@ -67,12 +67,3 @@ pub controller_here : (names : List (List ℕ)) (tasks : List TaskView) (phase :
 controller_here names tasks phase n i d b are differ e q =
     let first : position (λ (t : TaskView). bytes_eq t.name n) tasks ≡ Some i = sym (index_of-map (λ (t : TaskView). t.name) tasks n) ∙ (ap (λ (l : List (List ℕ)). index_of l n) (sym are) ∙ e) in
     sym (one_named (λ (t : TaskView). t.name) (λ (t : TaskView). nat_eq t.phase phase) tasks n d i (subst Differ are differ) first ∙ ap (λ (t : Bool). if t then Some i else None) q)
-
--- a session that is bound keeps its name
-
-bound_names : (tasks : List TaskView) (ss : List SessionDraft) → session_names (map (bound_session tasks) ss) ≡ map (λ (s : SessionDraft). s.name) ss
-bound_names tasks [] = refl
-bound_names tasks (s ∷ ss) = ap (λ (ns : List (List ℕ)). s.name ∷ ns) (bound_names tasks ss)
-
-pub names_bound : (j : DraftView) → names_of (bound j) ≡ names_in j
-names_bound j = rw (bound_names j.tasks j.sessions) refl

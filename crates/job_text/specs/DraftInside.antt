@@ -1,7 +1,7 @@
 -- What of a job was read whole, by its fields.
 use Rattle.std.specs.Prelude.{◌≡◌, map}
-use Rattle.session_book.specs.Names.{module_names, task_names}
-use Rattle.session_book.specs.declared.job_names.JobNames.{JobNames}
+use Rattle.job_text.specs.Names.{module_names, task_names}
+use Rattle.job_text.specs.declared.job_names.JobNames.{JobNames}
 use Rattle.job_text.specs.Meaning.{SessionDraft, DraftView}
 use Rattle.job_text.specs.declared.parts.Draft.TheInside.{Inside}
 

@@ -1,6 +1,7 @@
 pub mod DraftInside
 pub mod Lines
 pub mod Meaning
+pub mod Names
 pub mod Pieces
 pub mod Refusals
 pub mod Steps

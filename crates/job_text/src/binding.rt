@@ -2,7 +2,7 @@
 ghost use Rattle.std.specs.Prelude.{◌≡◌, ◌<◌, ◌≤◌, IfOk, IfSome, length, map, option_and_then};
 ghost use Rattle.cov_base.specs.declared.limits.TheConstants.{TASK_LIMIT};
 ghost use Rattle.session_book.specs.JobView.{IsJob};
-ghost use Rattle.session_book.specs.Names.{task_names};
+ghost use Rattle.job_text.specs.Names.{task_names};
 ghost use Rattle.job_text.specs.Meaning as drafts;
 
 use crate::parts::{Draft, SessionDraft};
@@ -105,5 +105,5 @@ pub(crate) fn bound_job(alloc: Global, job: Draft) -> Result<Job, NoMemory>
         sessions,
         tasks,
     };
-    Ok(Job::named(cards, names))
+    Ok(Job::new(cards))
 }

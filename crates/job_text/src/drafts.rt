@@ -3,7 +3,7 @@ ghost use Rattle.std.specs.Prelude.{◌≡◌, ◌+◌, ◌≤◌, ◌<◌, ◌&
 ghost use Rattle.std.specs.List.{list_any, list_all};
 ghost use Rattle.std.specs.Str.{bytes_eq};
 ghost use Rattle.cov_base.specs.declared.limits.TheConstants.{MODULE_LIMIT, PHASE_LIMIT};
-ghost use Rattle.session_book.specs.Names as naming;
+ghost use Rattle.job_text.specs.Names as naming;
 ghost use Rattle.job_text.specs.Meaning.{Present};
 ghost use Rattle.job_text.specs.Meaning as adding;
 ghost use Rattle.job_text.specs.Steps as machine;
@@ -12,12 +12,13 @@ ghost use Rattle.job_text.specs.declared.parts.Part.TheVariants as kind;
 
 use crate::binding::are_met;
 use crate::grammar::Grammar;
+use crate::job_names::JobNames;
 use crate::parts::{Draft, Part, SessionDraft};
 use crate::refused::LineRefused;
 use cov_base::{Name, NoMemory};
 use listing_lines::ListingLines;
 use module_area::Image;
-use session_book::{JobNames, Service, TaskCard};
+use session_book::{Service, TaskCard};
 use std::alloc::Global;
 
 fn has_module(job: &Draft, name: &Name) -> bool

@@ -6,6 +6,7 @@ mod card;
 mod cards;
 mod drafts;
 mod grammar;
+mod job_names;
 mod jobs;
 mod limit;
 mod lines;

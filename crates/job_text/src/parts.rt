@@ -1,11 +1,12 @@
 //! How far a job was read.
 
 use crate::grammar::Grammar;
+use crate::job_names::JobNames;
 use crate::task::TaskPart;
 use cov_base::Name;
 use listing_lines::ListingLines;
 use module_area::Image;
-use session_book::{JobNames, Service, TaskCard};
+use session_book::{Service, TaskCard};
 use std::marker::Model;
 
 /// A session as its card says, with its controller's name, none for a whole session.

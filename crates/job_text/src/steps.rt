@@ -17,6 +17,7 @@ use crate::drafts::{
     with_service, with_session,
 };
 use crate::grammar::Grammar;
+use crate::job_names::JobNames;
 use crate::limit::Limit;
 use crate::lines::listing_text;
 use crate::parts::{Draft, Part};
@@ -28,7 +29,7 @@ use cov_base::{
 };
 use listing_lines::ListingLines;
 use module_area::Image;
-use session_book::{Job, JobNames, Service};
+use session_book::{Job, Service};
 use std::alloc::Global;
 use std::marker::Model;
 use std::mem;

@@ -1,17 +1,16 @@
 -- What a map finds of names is what a search of the list finds.
-use Rattle.std.proofs.Common.{◌≡◌, ◌≢◌, ℕ, ◌+◌, ◌<◌, ◌≤◌, Bool, true, false, not, ◌&&◌, ◌||◌, cond, nat_lt, Some, None, List, [], ◌∷◌, length, map, get_or, take, position, is_some, if◌then◌else◌, refl, ap, sym, ◌∙◌, arith, subst, ◌⊎◌, inl, inr}
+use Rattle.std.proofs.Common.{◌≡◌, ◌≢◌, ℕ, ◌+◌, ◌<◌, ◌≤◌, Bool, true, false, not, ◌&&◌, ◌||◌, cond, nat_lt, Some, None, List, [], ◌∷◌, length, map, get_or, position, is_some, if◌then◌else◌, refl, ap, sym, ◌∙◌, arith, ◌⊎◌, inl, inr}
 use Rattle.std.specs.List.{list_any, prefix_len, position_or_len, IsDistinct}
 use Rattle.std.specs.Str.{bytes_eq}
 use Rattle.std.specs.Cmp.Lexicographic.{nat_list_eq_equiv}
 use Rattle.std.proofs.lemmas.Bool.{cases_lt}
 use Rattle.std.proofs.lemmas.Bool.Decides.{nat_tests}
 use Rattle.std.proofs.lemmas.Slice.Eq.{bytes_eq-Decides}
-use Rattle.std.proofs.lemmas.List.{length-map, length-take-le, get_or-take, get_or_default, get_or-map, take_more}
-use Rattle.std.proofs.lemmas.List.Folds.{list_any_none}
+use Rattle.std.proofs.lemmas.List.{length-map, get_or-map}
 use Rattle.std.proofs.lemmas.List.Quantifiers.{position-Some}
 use Rattle.std.proofs.lemmas.List.Sums.{position_or_len_is, fails_before_first}
 use Rattle.std.proofs.lemmas.Map.Made.{AllPairs-from_IsDistinct}
-use Rattle.names.specs.Lists.{Differ, index_of, has, added}
+use Rattle.names.specs.Lists.{Differ, index_of, has}
 
 -- either order of the two names
 
@@ -60,7 +59,7 @@ pub has-map : {X : Type 0} (name : X → List ℕ) (xs : List X) (n : List ℕ) 
 has-map name [] n = refl
 has-map name (x ∷ xs) n = ap (λ b. bytes_eq (name x) n || b) (has-map name xs n)
 
--- one after the other
+-- two names that differ
 
 unlike : (a b : List ℕ) → a ≢ b → bytes_eq a b ≡ false
 unlike a b apart = by (bytes_eq a b) refl
@@ -68,16 +67,6 @@ unlike a b apart = by (bytes_eq a b) refl
     by : (q : Bool) → bytes_eq a b ≡ q → bytes_eq a b ≡ false
     by true e = absurd (apart ((bytes_eq-Decides a b).0 e))
     by false e = e
-
-added_next_at : (names : List (List ℕ)) (i : ℕ) (d : List ℕ) → Differ names → i < length names → added (take i names) (get_or names i d) ≡ take (i + 1) names
-added_next_at names i d differ h =
-    let few : length (take i names) ≡ i = length-take-le i names (omega (arith, h)) in
-    let new : has (take i names) (get_or names i d) ≡ false = list_any_none (λ n. bytes_eq n (get_or names i d)) (take i names) (λ k e l.
-    rw (get_or-take i names k e (omega (arith, few, l)), get_or_default names k e d (omega (arith, few, l, h))) (unlike (get_or names k d) (get_or names i d) (differ k i d (omega (arith, few, l)) h))) in
-    rw new (sym (take_more names i d h))
-
-pub added_next : (names : List (List ℕ)) (i : ℕ) (n : List ℕ) → Differ names → i < length names → n ≡ get_or names i n → added (take i names) n ≡ take (i + 1) names
-added_next names i n differ h is = subst (λ (x : List ℕ). added (take i names) x ≡ take (i + 1) names) (sym is) (added_next_at names i n differ h)
 
 -- an element that has the name and passes a further test: where names differ the one with the name, if it passes
 

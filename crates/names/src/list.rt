@@ -33,18 +33,6 @@ impl NameList {
         }
     }
 
-    /// These names, which differ, in their order.
-    pub fn of(alloc: Global, names: &[Name]) -> Result<NameList, NoMemory>
-        requires { Differ names.now }
-        ensures { IfOk result (λ list. list ≡ names.now) }
-    {
-        let mut list = NameList::new(alloc);
-        for name in names {
-            list.add(*name)?;
-        }
-        Ok(list)
-    }
-
     fn set(&self) -> &IndexSet<Name>
         ensures { result.now.keys ≡ self.now }
     {

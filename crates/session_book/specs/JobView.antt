@@ -5,8 +5,11 @@ use Rattle.cov_base.specs.Meaning.{ImageView}
 use Rattle.cov_base.specs.declared.limits.TheConstants.{MODULE_LIMIT, SIZE_LIMIT, LINE_LIMIT, PHASE_LIMIT, SESSION_LIMIT, TASK_LIMIT, PRIVATE_LIMIT, BUDGET_LIMIT, ROOM_LIMIT}
 use Rattle.module_area.specs.Images.{AreImages}
 use Rattle.module_area.specs.Meaning.{DataView}
-use Rattle.names.specs.Lists.{Differ}
 use Rattle.session_book.specs.Meaning.{SessionView, TaskView, JobView}
+
+-- names of which no two are alike
+abbrev pub Differ : List (List ℕ) → Type 0
+Differ names = AllPairs (λ a b. a ≢ b) names
 
 pub record IsTask (phases : ℕ) (t : TaskView) : Type 0 where
   pub phase : t.phase < phases

@@ -1,15 +1,14 @@
 //! The job that the cards spell.
-ghost use Rattle.std.specs.Prelude.{◌≡◌, ◌<◌, ◌≤◌, IfOk, IfSome, length};
+ghost use Rattle.std.specs.Prelude.{◌≡◌, ◌<◌, ◌≤◌, IfSome, length, position};
+ghost use Rattle.std.specs.Str.{bytes_eq};
 ghost use Rattle.session_book.specs.JobView.{IsJob, IsSession, IsTask};
-ghost use Rattle.session_book.specs.Meaning.{session_of, task_of, task_named};
-ghost use Rattle.session_book.specs.Names.{names_of, session_named};
+ghost use Rattle.session_book.specs.Meaning.{SessionView, TaskView, session_of, task_of, task_named};
+ghost use Rattle.session_book.specs.Names.{session_named};
 
-use crate::job_names::JobNames;
 use crate::services::Service;
-use cov_base::{Addr, Name, NoMemory, SessNo, TaskNo};
+use cov_base::{Addr, Name, SessNo, TaskNo};
 use listing_lines::ListingLines;
 use module_area::{DataCard, Images};
-use std::alloc::Global;
 use std::marker::Model;
 
 /// A session: its name, its phase and modules by index, and the controller's index among the job's tasks, none
@@ -73,7 +72,7 @@ impl Model for JobCards {
     ghost view = { λ j. record { images = j.images; listings = j.listings.items; services = j.services.items; phases = j.phases.items; sessions = j.sessions.items; tasks = j.tasks.items } };
 }
 
-/// The whole job, as its cards say, with its names, by which sessions and tasks are found.
+/// The whole job, as its cards say.
 #[derive(Drop)]
 pub struct Job {
     pub images: Images,
@@ -82,7 +81,6 @@ pub struct Job {
     pub phases: Vec<Name>,
     pub sessions: Vec<Session>,
     pub tasks: Vec<TaskCard>,
-    names: JobNames,
 }
 
 impl Model for Job {
@@ -97,20 +95,24 @@ impl Model for Job {
     ghost invariant = { IsSound };
 }
 
+fn session_at(sessions: &[Session], name: &Name) -> Option<usize>
+    ensures value { result ≡ position (λ (s : SessionView). bytes_eq s.name name.now) sessions.now }
+    ensures within { IfSome result (λ i. i < length sessions.now) }
+{
+    sessions.iter().position(|session| session.name == *name)
+}
+
+fn task_at(tasks: &[TaskCard], name: &Name) -> Option<usize>
+    ensures value { result ≡ position (λ (t : TaskView). bytes_eq t.name name.now) tasks.now }
+    ensures within { IfSome result (λ i. i < length tasks.now) }
+{
+    tasks.iter().position(|task| task.name == *name)
+}
+
 impl Job {
     /// The job of these cards, which keep the rules.
-    pub fn new(alloc: Global, cards: JobCards) -> Result<Job, NoMemory>
+    pub fn new(cards: JobCards) -> Job
         requires { IsJob cards }
-        ensures { IfOk result (λ j. j ≡ cards) }
-    {
-        let names = JobNames::of(alloc, &cards)?;
-        Ok(Job::named(cards, names))
-    }
-
-    /// The job of these cards, which keep the rules, with its names.
-    pub fn named(cards: JobCards, names: JobNames) -> Job
-        requires job { IsJob cards }
-        requires names { names ≡ names_of cards }
         ensures { result ≡ cards }
     {
         let JobCards {
@@ -128,7 +130,6 @@ impl Job {
             phases,
             sessions,
             tasks,
-            names,
         }
     }
 
@@ -145,7 +146,7 @@ impl Job {
         ensures from { IfSome result (λ s. 0 < s.0) }
         ensures to { IfSome result (λ s. s.0 ≤ length self.now.sessions) }
     {
-        let at = self.names.sessions.index_of(name)?;
+        let at = session_at(&self.sessions, name)?;
         Some(SessNo(at as u32 + 1))
     }
 
@@ -153,7 +154,7 @@ impl Job {
     pub fn task_named(&self, name: &Name) -> Option<TaskNo>
         ensures { result ≡ task_named self.now name.now }
     {
-        let at = self.names.tasks.index_of(name)?;
+        let at = task_at(&self.tasks, name)?;
         Some(TaskNo(at as u32))
     }
 

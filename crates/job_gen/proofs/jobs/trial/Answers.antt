@@ -9,4 +9,4 @@ new-requires-2 c = rw (c.new.ensures.items, c.in_ok-vec-2.ensures.items, c.in_ok
 
 pub returns : goal.returns
 unfolding trial_job trial_code
-returns c = c.in_ok-new.ensures ∙ rw (c.new.ensures.items, c.in_ok-vec-2.ensures.items, c.in_ok-vec-3.ensures.items, c.in_ok-vec-4.ensures.items, c.in_ok-vec-5.ensures.items, c.in_ok-tasks_of.ensures, c.in_ok-listing_of.ensures, c.in_ok-bytes_of.ensures, c.deref.ensures.value, c.deref-2.ensures.value, c.in_ok-code.ensures.code, c.letter.ensures, c.letter-2.ensures, c.letter-3.ensures, c.of.ensures, c.in_ok-vec.ensures.items) refl
+returns c = c.new-2.ensures ∙ rw (c.new.ensures.items, c.in_ok-vec-2.ensures.items, c.in_ok-vec-3.ensures.items, c.in_ok-vec-4.ensures.items, c.in_ok-vec-5.ensures.items, c.in_ok-tasks_of.ensures, c.in_ok-listing_of.ensures, c.in_ok-bytes_of.ensures, c.deref.ensures.value, c.deref-2.ensures.value, c.in_ok-code.ensures.code, c.letter.ensures, c.letter-2.ensures, c.letter-3.ensures, c.of.ensures, c.in_ok-vec.ensures.items) refl

@@ -1,6 +1,6 @@
 use Rattle.std.proofs.Common.{◌≡◌, List, [], ◌∷◌, ◌++◌, false, ap, sym, ◌∙◌, subst, rules}
 use Rattle.cov_base.specs.Meaning.{ImageView}
-use Rattle.session_book.specs.Names as naming
+use Rattle.job_text.specs.Names as naming
 use Rattle.job_text.specs.Meaning.{DraftView, has_module}
 use Rattle.job_text.specs.DraftInside.{names_in, draft_view}
 use Rattle.job_text.proofs.DraftNames.{with_module_named}

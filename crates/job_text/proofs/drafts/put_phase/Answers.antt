@@ -1,6 +1,6 @@
 use Rattle.std.proofs.Common.{◌≡◌, ℕ, List, [], ◌∷◌, ◌++◌, false, ap, sym, ◌∙◌, subst, rules}
 use Rattle.names.specs.Lists.{has}
-use Rattle.session_book.specs.Names as naming
+use Rattle.job_text.specs.Names as naming
 use Rattle.job_text.specs.Meaning.{DraftView}
 use Rattle.job_text.specs.DraftInside.{names_in, draft_view}
 use Rattle.job_text.proofs.DraftNames.{with_phase_named}

@@ -1,7 +1,7 @@
 use Rattle.std.proofs.Common.{◌≡◌, List, [], ◌∷◌, ◌++◌, false, ap, sym, ◌∙◌, subst, rules}
 use Rattle.std.specs.List.{list_any}
 use Rattle.std.specs.Str.{bytes_eq}
-use Rattle.session_book.specs.Names as naming
+use Rattle.job_text.specs.Names as naming
 use Rattle.job_text.specs.Meaning.{SessionDraft, DraftView}
 use Rattle.job_text.specs.DraftInside.{names_in, draft_view}
 use Rattle.job_text.proofs.DraftNames.{with_session_named}
