@@ -1,9 +1,8 @@
-"""Builds the program where it isn't built of the sources as they stand, as many crates at once as the machine holds.
+"""Builds the program where it isn't built of the sources as they stand.
 
 The program is taken from the toolchain to out/coverage_program, and out/built, which is written last, holds the
 checksums of the sources and of the program, and the toolchain's line. Whatever a build that was cut off leaves has no
-such file, and is built again. One build runs at a time: a second waits for it. What the toolchain says of a crate stands
-in out/logs.
+such file, and is built again. One build runs at a time: a second waits for it. What the toolchain says stands in out/log.
 
 out/seen lists the sizes, times and numbers of the files as they stood when the checksums were last known to match.
 Where they still are so, `coverage` starts the program without this script.
@@ -18,8 +17,10 @@ import subprocess
 import sys
 from typing import IO
 
+from command import complain
 from crate_sources import TOP, sum_of, sum_of_sources
-from proving import LINKED, CrateFailed, make_table, prove_all
+from proving import LINKED, ProofFailed, Proving, in_minutes, make_table
+from rooms import room
 
 OUT = f"{TOP}/out"
 PROGRAM, STAMP, SEEN, LOCK = (f"{OUT}/{it}" for it in ("coverage_program", "built", "seen", "lock"))
@@ -33,11 +34,8 @@ class BuildFailed(Exception):
 
 
 def say(text: str) -> None:
-    """Tells the user on standard error, which may be closed."""
-    try:
-        print(f"coverage: {text}", file=sys.stderr, flush=True)
-    except (OSError, ValueError, AttributeError):
-        pass
+    """Tells the user on standard error."""
+    complain(f"coverage: {text}")
 
 
 def toolchain() -> str:
@@ -85,9 +83,9 @@ def note_seen(listed: bytes) -> None:
         pass
 
 
-def keep(of_sources: str) -> None:
+def keep(linked: str, of_sources: str) -> None:
     """Takes the program that the toolchain has linked, and notes, last, that it is built."""
-    shutil.copyfile(LINKED, f"{PROGRAM}.new")
+    shutil.copyfile(linked, f"{PROGRAM}.new")
     os.chmod(f"{PROGRAM}.new", 0o755)
     os.replace(f"{PROGRAM}.new", PROGRAM)
     with open(f"{STAMP}.new", "w", encoding="utf-8") as file:
@@ -100,16 +98,19 @@ def build() -> None:
     if os.path.lexists(STAMP):
         os.remove(STAMP)
     say(f"building: proving the program and the crates below it, which takes {HOW_LONG} the first time; {MEANWHILE}")
-    try:
-        of_sources, said = prove_all(say)
-    except FileNotFoundError as error:
-        if error.filename != "rt":
-            raise
-        raise BuildFailed("there is no toolchain: the command rt isn't found") from None
-    if sum_of_sources() != of_sources:
-        raise BuildFailed("the sources changed while they were built: build again")
-    keep(of_sources)
-    say(f"built: {said}")
+    with room("coverage-build") as at:
+        proving = Proving(at, say)
+        try:
+            proving.prove()
+        except FileNotFoundError as error:
+            if error.filename != "rt":
+                raise
+            raise BuildFailed("there is no toolchain: the command rt isn't found") from None
+        if sum_of_sources() != proving.of_sources:
+            raise BuildFailed("the sources changed while they were built: build again")
+        keep(f"{at}/{LINKED}", proving.of_sources)
+    progress = proving.progress
+    say(f"built: {len(progress.below)} crates proved in {in_minutes(progress.spent())}")
 
 
 def holder(lock: IO[str]) -> str:
@@ -133,12 +134,6 @@ def take_lock() -> IO[str]:
     return lock
 
 
-def tail(path: str, count: int) -> str:
-    """The last lines of a file."""
-    with open(path, encoding="utf-8", errors="replace") as file:
-        return "".join(file.readlines()[-count:]).rstrip("\n")
-
-
 def make_built() -> None:
     """Builds the program where that is due."""
     if is_built():
@@ -156,9 +151,9 @@ def keep_proved(of_sources: str) -> None:
     with take_lock():
         if sum_of_sources() != of_sources:
             raise BuildFailed("the sources changed while they were proved")
-        if not os.path.isfile(LINKED):
+        if not os.path.isfile(f"{TOP}/{LINKED}"):
             raise BuildFailed("the toolchain has left no program")
-        keep(of_sources)
+        keep(f"{TOP}/{LINKED}", of_sources)
 
 
 def end_by_signal(number: int, _frame: object) -> None:
@@ -186,10 +181,7 @@ def main(words: list[str]) -> int:
         else:
             make_built()
         return 0
-    except CrateFailed as failure:
-        say(f"{failure}; the last lines of {failure.log}:\n{tail(failure.log, 20)}")
-        return FAILED
-    except BuildFailed as failure:
+    except (BuildFailed, ProofFailed) as failure:
         say(str(failure))
         return FAILED
     except OSError as error:

@@ -1,6 +1,7 @@
 """What the scripts share: how they refuse input, read it, and write their output whole or not at all."""
 from __future__ import annotations
 
+import contextlib
 import os
 import re
 import sys
@@ -162,7 +163,7 @@ def call_meant(usage: str, words: list[str]) -> list[str]:
 
 def complain(text: str) -> None:
     """Writes to standard error, where there is one."""
-    try:
-        print(text, file=sys.stderr, flush=True)
-    except (OSError, ValueError, AttributeError):
-        pass
+    # Python prints to standard output where there is none.
+    if sys.stderr is not None:
+        with contextlib.suppress(OSError, ValueError):
+            print(text, file=sys.stderr, flush=True)

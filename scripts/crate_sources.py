@@ -9,10 +9,10 @@ TOP = os.path.dirname(os.path.dirname(os.path.realpath(__file__)))
 TOP_CRATE = "coverage_program"
 
 
-def rows() -> dict[str, str]:
+def rows(top: str = TOP) -> dict[str, str]:
     """The line of crates.txt of each crate."""
     found: dict[str, str] = {}
-    with open(f"{TOP}/crates.txt", encoding="utf-8") as file:
+    with open(f"{top}/crates.txt", encoding="utf-8") as file:
         for line in file:
             said, colon, _ = line.split("#")[0].partition(":")
             if colon and said.split():
@@ -20,9 +20,9 @@ def rows() -> dict[str, str]:
     return found
 
 
-def crates(*tops: str) -> dict[str, list[str]]:
+def crates(*names: str, top: str = TOP) -> dict[str, list[str]]:
     """These crates, or the program's, and those below them, each behind those that it stands on, with all of these."""
-    lines = rows()
+    lines = rows(top)
     below: dict[str, list[str]] = {}
 
     def visit(name: str) -> None:
@@ -34,8 +34,8 @@ def crates(*tops: str) -> dict[str, list[str]]:
                 own += [other for other in (*below[it], it) if other not in own]
         below[name] = own
 
-    for top in tops or (TOP_CRATE,):
-        visit(top)
+    for name in names or (TOP_CRATE,):
+        visit(name)
     return below
 
 

@@ -4,22 +4,21 @@ from __future__ import annotations
 import os
 import shutil
 import signal
-import subprocess
 import sys
-import tempfile
 from typing import Optional, Sequence
 
 from build import FAILED, end_by_signal
 from command import BAD_INPUT, Fault, UsageError, complain, read_file, run, write_output
-from crate_sources import TOP, crates, rows, sources
-from rooms import KEPT, LIBRARY, bring, copy_files
+from crate_sources import TOP, rows
+from rooms import bring, list_crates, room
+from toolchain import Call
 
 USAGE = """\
 usage: python3 scripts/more_edits.py [--look] [CRATE ..]
 
 Tries the edits that the gate doesn't try, those of crates/CRATE/more-edits, of these crates or of all. Each is a wrong
-body, which the prover must refuse; `rt must-fail` tries them, in a copy of the crates, and says of each what came of
-it. It begins with what the toolchain has left in crates/*/out, and first proves what is missing there.
+body, which the prover must refuse; `rt ci` tries them, in a copy of the crates without their tests, and says of each
+what came of it. It first proves the crates and those below them, where no gate or build on this machine has.
 
 The status is 0 where the prover refuses each; 1 where it lets one through, can't read one or gives no verdict; 2
 where one can't be applied to the sources as they stand, or a name is no crate that has such edits, and then nothing is
@@ -87,53 +86,37 @@ def look(names: Sequence[str], kinds: Sequence[str]) -> tuple[int, int]:
     return count, faults
 
 
-def place() -> str:
-    """A new folder for a copy of the crates: mostly in .git, which links of files reach and where the toolchain looks for no crates."""
-    git = f"{TOP}/.git"
-    return tempfile.mkdtemp(prefix="coverage-edits-", dir=git if os.path.isdir(git) and not os.path.islink(git) else None)
-
-
-def make_copy(at: str, names: Sequence[str]) -> None:
-    """Copies these crates and those below them, with the edits that are to be tried as those that must fail."""
-    lines, below = rows(), crates(*names)
-    copy_files([it for it in sources(*names) if it != f"{TOP}/crates.txt"], TOP, at, shutil.copyfile)
-    with open(f"{at}/crates.txt", "w", encoding="utf-8") as file:
-        file.writelines(lines[it] for it in below)
-    for it in below:
-        bring(TOP, it, at, [LIBRARY, KEPT] if it in names else [LIBRARY], complain)
-    for it in names:
-        shutil.copytree(folder(it, MORE), f"{at}/crates/{it}/{TRIED}")
-
-
-def attempt(at: str, crate: str) -> int:
-    """Has the toolchain try the crate's edits in the copy. It ends where this is ended."""
-    with subprocess.Popen(["rt", "must-fail", crate], cwd=at, stdin=subprocess.DEVNULL) as ran:
-        try:
-            return ran.wait()
-        except BaseException:
-            ran.terminate()
-            ran.wait()
-            raise
+def attempt(at: str) -> tuple[int, str]:
+    """Has the toolchain try the edits of the copy, and passes on what it says. It ends where this is ended."""
+    call, said = Call(["rt", "ci"], at), ""
+    try:
+        for lines in call.lines():
+            text = "".join(f"{it}\n" for it in lines)
+            write_output(text.encode())
+            said += text
+    finally:
+        call.end()
+    return call.process.returncode, said
 
 
 def attempt_all(names: Sequence[str]) -> int:
-    """Tries the edits of these crates, one crate after another, and says whether all were refused."""
-    at, open_ones = place(), []
-    try:
-        make_copy(at, names)
+    """Tries the edits of these crates, and says whether all were refused."""
+    with room("coverage-edits") as at:
+        bring(at, *names)
+        list_crates(at, *names)
         for it in names:
-            if attempt(at, it):
-                open_ones.append(it)
-    except FileNotFoundError as error:
-        if error.filename != "rt":
-            raise
-        raise Fault("there is no toolchain", "the command rt isn't found", FAILED) from None
-    finally:
-        shutil.rmtree(at, ignore_errors=True)
+            shutil.copytree(folder(it, MORE), f"{at}/crates/{it}/{TRIED}")
+        try:
+            status, said = attempt(at)
+        except FileNotFoundError as error:
+            if error.filename != "rt":
+                raise
+            raise Fault("there is no toolchain", "the command rt isn't found", FAILED) from None
     count = sum(len(edits_of(it, MORE)) for it in names)
-    came = f"not each was refused in {', '.join(open_ones)}" if open_ones else "each was refused"
-    write_output(f"edits tried: {count}; {came}\n".encode())
-    return 1 if open_ones else 0
+    # An edit that it can't read fails the gate as little as one that it refuses.
+    well = status == 0 and said.count(": refused, as it must be") == count
+    write_output(f"edits tried: {count}; {'each was' if well else 'not each was'} refused\n".encode())
+    return 0 if well else 1
 
 
 def main(words: list[str]) -> int:

@@ -1,36 +1,43 @@
-"""Proves the program and the crates below it in lanes, and tells how far that is."""
+"""Proves the program and the crates below it as the gate does, and tells how far that is.
+
+`rt ci` does it, in a room that holds their sources and nothing else: no tests and no wrong bodies. It proves as many
+crates at once as the machine holds, each from nothing over the statements of those below it, builds the program and runs
+it. What it has proved it keeps beside itself for every checkout on the machine, by all that the proof has read.
+"""
 from __future__ import annotations
 
-import hashlib
+import contextlib
 import os
-import shutil
-import subprocess
+import re
 import sys
 import time
-from typing import Callable, Mapping, Optional, Sequence
+from typing import Callable, Mapping, Sequence
 
-import machine
 import weights
-from crate_sources import TOP, TOP_CRATE, crates, rows, sources, sum_of_files
-from lanes import Lane, Lanes, start
-from rooms import KEPT, LIBRARY, Rooms
-from weights import Weight
+from crate_sources import TOP, TOP_CRATE, crates, sum_of_files
+from rooms import bring, list_crates
+from toolchain import Call
 
-# The logs of the crates, the checksums at which they were proved, and what those took that were proved from nothing.
-LOGS, PROVED, TOOK = (f"{TOP}/out/{it}" for it in ("logs", "proved", "weights"))
-LINKED = f"{TOP}/crates/{TOP_CRATE}/out/{TOP_CRATE}"
+# What the toolchain said in this build, and what the crates took that were proved in it.
+LOG, TOOK = (f"{TOP}/out/{it}" for it in ("log", "weights"))
+# The program where the toolchain links it, below the folder whose crates it has proved.
+LINKED = f"crates/{TOP_CRATE}/out/{TOP_CRATE}"
+# What it says once a crate is done, or that it isn't proved; and what is worth to be passed on.
+PROVED = re.compile(r"rt: (\w+) proved$")
+KEPT = re.compile(r"rt: (\w+) is kept: ")
+OPEN = re.compile(r"rt: (\w+)(?:: its tests are)? NOT PROVED")
+PASSED_ON = re.compile(r"rt: (.*(?:; waiting for it|so nothing is kept: the next run).*)$")
+# How many of its lines are shown where a build fails.
+LAST = 20
+# Until so much of the weights was proved, in seconds, a second here is taken for one of the table.
+PACED = 100.0
 
 
-class CrateFailed(Exception):
-    """A crate that the toolchain didn't prove, and the file of what it said."""
+class ProofFailed(Exception):
+    """What failed, and the last lines of what the toolchain said of that."""
 
-    def __init__(self, crate: str) -> None:
-        super().__init__(f"the build of {crate} failed")
-        self.log = log_of(crate)
-
-
-def log_of(crate: str) -> str:
-    return f"{LOGS}/{crate}.log"
+    def __init__(self, what: str, lines: Sequence[str]) -> None:
+        super().__init__(f"{what}; the last lines in {LOG}:\n" + "\n".join(lines[-LAST:]))
 
 
 def in_minutes(seconds: float) -> str:
@@ -40,146 +47,113 @@ def in_minutes(seconds: float) -> str:
 class Progress:
     """One line on a terminal that is written anew, and elsewhere one line a crate."""
 
-    def __init__(self, count: int, say: Callable[[str], None]) -> None:
-        self.count, self.say, self.began, self.told = count, say, time.monotonic(), -1
+    def __init__(self, below: Mapping[str, Sequence[str]], seconds: Mapping[str, float], say: Callable[[str], None]) -> None:
+        self.below, self.seconds, self.say = below, seconds, say
+        self.done: list[str] = []
+        self.began = self.changed = time.monotonic()
+        self.rest = self.left = self.by_table()
+        # How much of the table was proved in this build.
+        self.proved = 0.0
+        self.told = -1
         self.is_terminal = sys.stderr is not None and sys.stderr.isatty()
 
-    def spent(self) -> str:
-        return in_minutes(time.monotonic() - self.began)
+    def by_table(self) -> float:
+        return weights.left(self.below, self.seconds, self.done, len(os.sched_getaffinity(0)))
 
-    def tell(self, done: Sequence[str], working: Sequence[str], left: float) -> None:
-        """Says which crates are proved, which are at work, and how many seconds are probably left."""
-        times, at_work = f"{self.spent()} so far, some {in_minutes(left)} left", ", ".join(working) or "none"
+    def spent(self) -> float:
+        return time.monotonic() - self.began
+
+    def add(self, crate: str, is_new: bool) -> None:
+        """Notes that a crate is done; what is left then goes by how fast that was which was proved in this build."""
+        if crate in self.below and crate not in self.done:
+            self.done.append(crate)
+            was, self.changed, self.rest = self.rest, time.monotonic(), self.by_table()
+            self.proved += (was - self.rest) * is_new
+            self.left = self.rest * (self.spent() / self.proved if self.proved >= PACED else 1.0)
+
+    def tell(self, working: Sequence[str]) -> None:
+        """Says which crates are proved, which are at work, and how much time is probably left."""
+        left = max(0.0, self.left - (time.monotonic() - self.changed))
+        times = f"{in_minutes(self.spent())} so far, some {in_minutes(left)} left"
+        at_work, count = ", ".join(working) or "none", len(self.below)
         if self.is_terminal:
-            text = f"coverage: {len(done)} of {self.count} proved, {times}; at work: {at_work}"
-            sys.stderr.write(f"\r\x1b[K{text[: shutil.get_terminal_size().columns - 1]}")
-            sys.stderr.flush()
+            self.show(f"coverage: {len(self.done)} of {count} proved, {times}; at work: {at_work}")
             return
-        for number in range(self.told + 1, len(done) + 1):
-            proved = f"proved {done[number - 1]}, " if number else ""
-            self.say(f"{proved}{number} of {self.count}, {times}; at work: {at_work}")
-        self.told = len(done)
+        for number in range(self.told + 1, len(self.done) + 1):
+            proved = f"proved {self.done[number - 1]}, " if number else ""
+            self.say(f"{proved}{number} of {count}, {times}; at work: {at_work}")
+        self.told = len(self.done)
 
-    def end(self) -> None:
+    def show(self, text: str) -> None:
+        """Writes the line anew on the terminal, which cuts it at its edge, and may be gone."""
+        with contextlib.suppress(OSError, ValueError):
+            print(f"\r\x1b[K\x1b[?7l{text}\x1b[?7h", end="", file=sys.stderr, flush=True)
+
+    def clear(self) -> None:
+        """Takes the line away."""
         if self.is_terminal:
-            sys.stderr.write("\r\x1b[K")
-            sys.stderr.flush()
+            self.show("")
 
 
 class Proving:
-    """One build's crates: their rooms, their weights, and what is known of them from earlier builds."""
+    """One build: what the toolchain has said so far."""
 
-    def __init__(self, rooms: Rooms, say: Callable[[str], None]) -> None:
-        self.rooms, self.rows, self.below = rooms, rows(), crates()
-        self.sums = {it: self.sum_of_crate(it) for it in self.below}
-        self.proved = read_sums()
-        sizes = {it: sum(map(os.path.getsize, rooms.files_of(it))) for it in self.below}
-        self.weights = weights.weigh(sizes, weights.read())
-        for crate in filter(self.is_proved, self.below):
-            self.weights[crate] = Weight(weights.LOOK_SECONDS, self.weights[crate].memory)
-        self.chains = weights.chains(self.below, self.weights)
-        self.plan = weights.Plan(machine.processors(), machine.free_memory())
-        self.progress = Progress(len(self.below), say)
+    def __init__(self, at: str, say: Callable[[str], None]) -> None:
+        self.at, self.say = at, say
+        files = bring(at)
+        self.of_sources = sum_of_files(files, at)
+        below = list_crates(at)
+        sizes = {it: sum(os.path.getsize(file) for file in files if file.startswith(f"{at}/crates/{it}/")) for it in below}
+        self.progress = Progress(below, weights.weigh(sizes, weights.read()), say)
         self.new: set[str] = set()
-        # Of the crates that were proved now: the seconds that they took, and those by their weights.
-        self.took, self.weighed = 0.0, 0.0
-
-    def sum_of_crate(self, crate: str) -> str:
-        """One checksum over all sources that a crate's proof reads."""
-        files = [path for it in (*self.below[crate], crate) for path in self.rooms.files_of(it)]
-        lines = [self.rows[it] for it in (*self.below[crate], crate)]
-        return hashlib.sha256(f"{sum_of_files(files, self.rooms.sources)} {lines}".encode()).hexdigest()
-
-    def is_proved(self, crate: str) -> bool:
-        """Whether it was proved as it stands, so that the toolchain will only look at it."""
-        has_library = os.path.isfile(f"{TOP}/crates/{crate}/out/{LIBRARY}/stamp")
-        return has_library and self.proved.get(crate) == self.sums[crate]
-
-    def choose(self, ready: Sequence[str], working: Mapping[str, int]) -> Optional[tuple[str, int]]:
-        return self.plan.choose(ready, working, self.weights, self.chains)
-
-    def begin(self, crate: str, jobs: int) -> subprocess.Popen[bytes]:
-        folder = self.rooms.make(crate, self.below[crate], "".join(self.rows[it] for it in (*self.below[crate], crate)))
-        if not os.path.isdir(f"{folder}/out"):
-            self.new.add(crate)
-        words = ["rt", "run" if crate == TOP_CRATE else "lib", "--jobs", str(jobs)]
-        return start(words, folder, log_of(crate))
-
-    def finish(self, lane: Lane) -> None:
-        crate, status = lane.crate, lane.process.returncode
-        is_well, made = status == 0, [LIBRARY]
-        if crate == TOP_CRATE:
-            # Without words the program answers 1, its usage line, once it is built.
-            is_well = status in (0, 1) and os.path.isfile(f"{self.rooms.folder(crate)}/out/{crate}")
-            made = [crate, f"{crate}.stamp"]
-        self.rooms.take(crate, [*(made if is_well else []), KEPT])
-        if not is_well:
-            raise CrateFailed(crate)
-        self.proved[crate] = self.sums[crate]
-        write_sums(self.proved)
-        self.weigh(lane)
-
-    def weigh(self, lane: Lane) -> None:
-        """Notes what a crate took, where it was proved now; for the table, where it was proved from nothing."""
-        with open(log_of(lane.crate), encoding="utf-8", errors="replace") as file:
-            said = file.read()
-        if "logic=proved" not in said:
-            return
-        self.took += lane.spent()
-        self.weighed += self.weights[lane.crate].lasts(lane.jobs)
-        if lane.crate in self.new and "begins with what a check kept" not in said:
-            took = {**weights.read(TOOK), lane.crate: Weight.taken(lane.processor, lane.memory, lane.jobs)}
-            weights.write(TOOK, took)
-
-    def pace(self) -> float:
-        """How many seconds here one of the table takes, by what was proved so far."""
-        return self.took / self.weighed if self.weighed else 1.0
-
-    def tell(self, done: Sequence[str], working: Sequence[Lane]) -> None:
-        at_work = {it.crate: (it.jobs, it.spent()) for it in working}
-        left = weights.left(self.plan, self.below, self.weights, set(done), at_work, self.pace())
-        self.progress.tell(done, [*at_work], left)
+        # What the toolchain said last: it says all of a crate at once, behind a line with its name.
+        self.said: list[str] = []
 
     def prove(self) -> None:
         """Proves and builds all crates, the program last."""
-        os.makedirs(LOGS, exist_ok=True)
+        call = Call(["rt", "ci"], self.at)
         try:
-            Lanes(self, self.below).run()
+            with open(LOG, "w", encoding="utf-8") as log:
+                for lines in call.lines():
+                    log.writelines(f"{it}\n" for it in lines)
+                    log.flush()
+                    for line in lines:
+                        self.take(line)
+                    working = call.look()
+                    # Behind a crate that is done others begin.
+                    if not lines:
+                        self.progress.tell(working)
+            self.progress.tell([])
         finally:
-            self.progress.end()
+            call.end()
+            self.progress.clear()
+        seconds = call.seconds()
+        weights.write(TOOK, {it: seconds[it] for it in self.progress.below if it in self.new and it in seconds})
+        if call.process.returncode or not os.path.isfile(f"{self.at}/{LINKED}"):
+            raise ProofFailed("the build failed", self.said)
 
-
-def read_sums() -> dict[str, str]:
-    """The checksum at which each crate was proved last."""
-    try:
-        with open(PROVED, encoding="utf-8") as file:
-            return dict(line.split() for line in file)
-    except (OSError, ValueError):
-        return {}
-
-
-def write_sums(sums: Mapping[str, str]) -> None:
-    with open(f"{PROVED}.new", "w", encoding="utf-8") as file:
-        file.writelines(f"{crate} {found}\n" for crate, found in sums.items())
-    os.replace(f"{PROVED}.new", PROVED)
-
-
-def prove_all(say: Callable[[str], None]) -> tuple[str, str]:
-    """Proves the sources as they stand now, and links the program; returns their checksum, and how long that took."""
-    rooms = Rooms(TOP, sources(), say)
-    try:
-        proving = Proving(rooms, say)
-        proving.prove()
-        said = f"{len(proving.below)} crates proved in {proving.progress.spent()}"
-        return sum_of_files(rooms.files, rooms.sources), said
-    finally:
-        rooms.end()
+    def take(self, line: str) -> None:
+        """Takes a line of the toolchain's."""
+        if line.startswith("== "):
+            self.said.clear()
+        self.said.append(line)
+        proved, kept, is_open, said = (it.match(line) for it in (PROVED, KEPT, OPEN, PASSED_ON))
+        if is_open:
+            raise ProofFailed(f"the build of {is_open[1]} failed", self.said)
+        if kept:
+            self.progress.add(kept[1], False)
+        if proved:
+            self.progress.add(proved[1], True)
+            self.new.add(proved[1])
+        if said:
+            self.progress.clear()
+            self.say(said[1])
 
 
 def make_table() -> str:
-    """Makes the table of what builds in this checkout took, and tells for which crates the row is older or missing."""
-    took, was = weights.read(TOOK), weights.read()
-    table = {it: took.get(it) or was.get(it) for it in crates()}
+    """Makes the table of what the last build in this checkout took, and tells for which crates the row is older or missing."""
+    took, was, below = weights.read(TOOK), weights.read(), list(crates())
+    table = {it: took.get(it) or was.get(it) for it in below}
     weights.write(weights.TABLE, {it: has for it, has in table.items() if has})
     old = [it for it in table if it not in took]
     new = len(table) - len(old)

@@ -7,31 +7,39 @@ import pty
 import shutil
 import signal
 import subprocess
+import sys
 import time
 from concurrent import futures
 from typing import Callable, Iterator
 
 from harness import SECONDS, TOP, equal, folder, interruptible
 
-# It notes each call, waits for as long as a file `hold` lies at the top, and makes a program that tells its words.
-# A crate that stands as it was proved isn't proved again.
+# It notes each call, refuses a folder that is the top of no repository, proves the crates of its list in order, each once
+# a file `hold-CRATE` or `hold` at the top is gone, and makes a program that tells its words. What it has proved it keeps,
+# by the crate's text.
 RT = """#!/usr/bin/env bash
 [ "$1" = version ] && { echo 'pretended-kit logic 0123456789abcdef'; exit; }
-crate=${PWD##*/} text=$(cat src/*)
-echo "$1 $crate" >> "$TEST_TOP/calls"
+echo "$*" >> "$TEST_TOP/calls"
 echo $$ >> "$TEST_TOP/processes"
-mkdir -p out/rlib/half out/incremental
-while [ -e "$TEST_TOP/hold" ] || [ -e "$TEST_TOP/hold-$crate" ]; do sleep 0.05; done
-{ [ -e "$TEST_TOP/fail" ] || [ -e "$TEST_TOP/fail-$crate" ]; } && { echo "a goal of $crate is open"; exit 1; }
-if [ "$(cat out/rlib/stamp 2>/dev/null)" != "$text" ]; then
+[ -d .git ] || { echo 'rt: crates.txt stands below the top of its repository'; exit 2; }
+while IFS=: read -r crate _; do
+  text=$(cat crates/$crate/src/*) kept=$TEST_TOP/kept-$crate
+  [ "$(cat "$kept" 2>/dev/null)" = "$text" ] && { echo "rt: $crate is kept: an earlier run proved the same"; continue; }
+  echo $crate > "$TEST_TOP/begun-$crate"
+  while [ -e "$TEST_TOP/hold" ] || [ -e "$TEST_TOP/hold-$crate" ]; do bash -c 'sleep 0.1; :' rattle --crate-name $crate; done
+  echo "== $crate"
+  { [ -e "$TEST_TOP/fail" ] || [ -e "$TEST_TOP/fail-$crate" ]; } &&
+    { echo "a goal of $crate is open"; echo "rt: $crate NOT PROVED"; echo "== other"; sleep 300; }
   echo "$crate $text" >> "$TEST_TOP/proofs"
-  echo "logic=proved"
-  printf '%s' "$text" > out/rlib/stamp
-fi
-[ "$1" = run ] || exit 0
-printf '#!/bin/sh\\necho "%s: $*"\\ncat\\nexit 77\\n' "$(cat src/main.rt)" > out/coverage_program
-chmod +x out/coverage_program
-exit 1
+  printf '%s' "$text" > "$kept"
+  echo "rt: $crate proved"
+done < crates.txt
+[ -e "$TEST_TOP/fail-run" ] && { printf 'rt: FAILED: coverage_program (run), cut'; exit 1; }
+mkdir -p crates/coverage_program/out
+program=crates/coverage_program/out/coverage_program
+printf '#!/bin/sh\necho "%s: $*"\ncat\nexit 77\n' "$(cat crates/coverage_program/src/main.rt)" > $program
+chmod +x $program
+echo "rt: ok"
 """
 LIBRARY, PROGRAM = "proved low, 1 of 2", "proved coverage_program, 2 of 2"
 # How long the first build takes, wherever it is said.
@@ -53,12 +61,12 @@ class Copy:
             self.write(f"crates/{crate}/src/{'main' if crate == 'coverage_program' else 'lib'}.rt", "one")
         self.write("crates.txt", listed)
         self.write("HANDLES", "none\n")
-        # There the rooms lie, and so what a killed build leaves goes with the copy.
-        os.mkdir(f"{at}/.git")
-        os.mkdir(f"{at}/bin")
+        for name in (".git", "bin", "tmp"):
+            os.mkdir(f"{at}/{name}")
         self.write("bin/rt", RT)
         os.chmod(f"{at}/bin/rt", 0o755)
-        self.env = {**os.environ, "PATH": f"{at}/bin:{os.environ['PATH']}", "TEST_TOP": at}
+        # There the rooms lie, and so what a killed build leaves goes with the copy.
+        self.env = {**os.environ, "PATH": f"{at}/bin:{os.environ['PATH']}", "TEST_TOP": at, "TMPDIR": f"{at}/tmp"}
 
     def write(self, name: str, text: str) -> None:
         with open(f"{self.at}/{name}", "w", encoding="utf-8") as file:
@@ -84,7 +92,7 @@ class Copy:
         """A build that waits with its first call."""
         self.write("hold", "")
         started = self.start("run")
-        wait_for(self.calls)
+        wait_for(lambda: self.lines("begun-low"))
         return started
 
     def let_go(self) -> None:
@@ -103,6 +111,11 @@ class Copy:
     def is_built(self) -> bool:
         return os.path.exists(f"{self.at}/out/built")
 
+    def rooms(self) -> list[str]:
+        """The copies of crates that stand; none may be within a checkout."""
+        equal(os.listdir(f"{self.at}/.git"), [])
+        return os.listdir(f"{self.at}/tmp")
+
     def count_python(self) -> Callable[[], int]:
         """Has a python3 first on the path that notes each start; what it returns tells how many began since last asked."""
         real = shutil.which("python3")
@@ -117,6 +130,11 @@ class Copy:
             return found
 
         return since
+
+
+def all_ended(it: Copy) -> bool:
+    """Whether no process of the pretended toolchain runs any more."""
+    return not [number for number in it.lines("processes") if os.path.exists(f"/proc/{number}")]
 
 
 def ended(started: subprocess.Popen[str]) -> tuple[int, str, str]:
@@ -145,16 +163,18 @@ def builds_once() -> None:
         status, output, error = it.run("marks", "S")
         equal((status, output), (77, "one: marks S\ninput\n"))
         assert "./coverage try COMMAND .. answers within a minute or so, without proof" in error.splitlines()[0], error
-        assert error.index(LIBRARY) < error.index(PROGRAM) < error.index("built: 2 crates"), error
-        equal(it.calls(), ["lib low", "run coverage_program"])
+        assert error.index("0 of 2, 0:00 so far, some ") < error.index(LIBRARY) < error.index(PROGRAM), error
+        assert error.index(PROGRAM) < error.index("built: 2 crates"), error
+        equal((it.calls(), it.lines("proofs")), (["ci"], ["low one", "coverage_program one"]))
+        equal(it.lines("out/log"), ["== low", "rt: low proved", "== coverage_program", "rt: coverage_program proved", "rt: ok"])
         equal(it.run("table"), (77, "one: table\ninput\n", ""))
         equal(it.run("runs"), (77, "one: runs\ninput\n", ""))
         it.write("crates/coverage_program/src/main.rt", "two")
         equal(it.run("run")[:2], (77, "two: run\ninput\n"))
-        equal(len(it.calls()), 4)
+        equal((len(it.calls()), it.lines("proofs")[2:]), (2, ["coverage_program two"]))
         os.remove(f"{it.at}/crates/low/src/lib.rt")
         it.run("run")
-        equal(len(it.calls()), 6)
+        equal(len(it.calls()), 3)
 
 
 def how_long() -> None:
@@ -190,10 +210,18 @@ def fails() -> None:
         it.write("fail", "")
         status, output, error = it.run("run")
         equal((status, output), (70, ""))
-        assert "the build of low failed" in error and f"{it.at}/out/logs/low.log" in error, error
-        assert "a goal of low is open" in error, error
-        assert not it.is_built()
+        lines = error.splitlines()
+        equal(lines[lines.index(f"coverage: the build of low failed; the last lines in {it.at}/out/log:"):][1:],
+              ["== low", "a goal of low is open", "rt: low NOT PROVED"])
+        assert not it.is_built() and all_ended(it) and not it.rooms(), error
         os.remove(f"{it.at}/fail")
+        it.write("fail-run", "")
+        status, output, error = it.run("run")
+        equal((status, output), (70, ""))
+        shown = error[error.index("/out/log:\n"):].splitlines()
+        equal((shown[1:3], shown[-1]), (["== low", "rt: low proved"], "rt: FAILED: coverage_program (run), cut"))
+        assert not it.is_built()
+        os.remove(f"{it.at}/fail-run")
         equal(it.run("run")[0], 77)
 
 
@@ -231,7 +259,7 @@ def half_a_program() -> None:
         equal(it.run("run")[:2], (77, "one: run\ninput\n"))
         os.remove(f"{it.at}/out/built")
         equal(it.run("run")[:2], (77, "one: run\ninput\n"))
-        equal(len(it.calls()), 6)
+        equal((len(it.calls()), len(it.lines("proofs"))), (3, 2))
 
 
 def waits() -> None:
@@ -244,7 +272,7 @@ def waits() -> None:
         it.let_go()
         equal(ended(first)[:2], (77, "one: run\ninput\n"))
         equal(ended(second), (77, "one: table\ninput\n", ""))
-        equal(len(it.calls()), 2)
+        equal(len(it.calls()), 1)
 
 
 def changes_meanwhile() -> None:
@@ -258,13 +286,27 @@ def changes_meanwhile() -> None:
         assert "changed" in error, error
 
 
-def on_terminal() -> None:
-    """build: on a terminal the progress is one line that is written anew"""
+def no_standard_error() -> None:
+    """build: without a standard error it is silent, and says nothing on standard output"""
     with copy() as it:
+        os.symlink(sys.executable, f"{it.at}/bin/python3")
+        how = {"stdin": subprocess.DEVNULL, "stdout": subprocess.PIPE, "text": True, "check": False, "timeout": SECONDS}
+        ran = subprocess.run(["bash", "-c", 'exec "$0" run 2>&-', f"{it.at}/coverage"], env=it.env, **how)
+        equal((ran.returncode, ran.stdout), (77, "one: run\n"))
+
+
+def on_terminal() -> None:
+    """build: on a terminal the progress is one line that is written anew, cut at its edge; other lines take its place"""
+    with copy() as it:
+        it.write("bin/rt", RT.replace('echo "== $crate"', 'echo "rt: $crate: another run proves the same; waiting for it"\n'))
         master, slave = pty.openpty()
         pipe = subprocess.PIPE
+        it.write("hold", "")
         started = subprocess.Popen([f"{it.at}/coverage", "run"], stdin=subprocess.DEVNULL, stdout=pipe, stderr=slave, env=it.env)
         os.close(slave)
+        wait_for(lambda: it.lines("begun-low"))
+        time.sleep(2.5)
+        it.let_go()
         started.communicate(timeout=SECONDS)
         seen = b""
         with contextlib.suppress(OSError):
@@ -273,8 +315,10 @@ def on_terminal() -> None:
         os.close(master)
         lines = seen.decode().split("\n")
         progress = [part for line in lines for part in line.split("\r") if "at work: low" in part or "1 of 2 proved" in part]
-        assert len(progress) >= 2 and all(part.startswith("\x1b[K") for part in progress), seen
-        equal(sum("of 2 proved" in line for line in lines), 1)
+        assert len(progress) >= 2 and all(part.startswith("\x1b[K\x1b[?7lcoverage: ") and "\x1b[?7h" in part for part in progress), seen
+        others = [line.rpartition("\x1b[?7h")[::2] for line in lines if "another run" in line or "built: " in line]
+        equal([it[:14] for _, it in others], ["coverage: low:", "coverage: cove", "coverage: buil"])
+        assert all(before.endswith("\r\x1b[K\x1b[?7l") for before, _ in others), seen
 
 
 def is_kept() -> None:
@@ -337,7 +381,7 @@ def is_seen() -> None:
             equal((name, it.run("run"), starts()), (name, well, 2))
             equal((name, it.run("run"), it.run("runs"), starts()), (name, well, (77, "one: runs\ninput\n", ""), 0))
             change(it)
-            equal((name, it.run("run")[:2], len(it.calls())), (name, well[:2], 4 if is_anew else 2))
+            equal((name, it.run("run")[:2], len(it.calls())), (name, well[:2], 2 if is_anew else 1))
             equal((name, starts()), (name, 0 if name == "nothing" else 1))
 
     with futures.ThreadPoolExecutor(len(CHANGES)) as pool:
@@ -356,5 +400,5 @@ def is_seen_at_once() -> None:
 
 CHECKS = [
     is_seen, is_seen_at_once, builds_once, how_long, needs_no_build, fails, no_toolchain, is_interrupted, half_a_program,
-    waits, changes_meanwhile, on_terminal, is_kept,
+    waits, changes_meanwhile, no_standard_error, on_terminal, is_kept,
 ]

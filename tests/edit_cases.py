@@ -9,20 +9,27 @@ import sys
 from build_cases import Copy, copy, wait_for
 from harness import SECONDS, TOP, Ran, equal, interruptible, refused, run, well
 
-# It notes its words and what lies in its folder, and lets the edits of a crate through where a file says so.
+# It notes its words and what lies in its folder, and says what came of each edit: a file says which is let through.
 RT = """#!/usr/bin/env bash
 { echo "$*"; find . -type f | sort; cat crates.txt crates/*/must-fail/*; } >> "$TEST_TOP/asked"
 [ -e "$TEST_TOP/hold" ] && { echo $$ > "$TEST_TOP/held"; exec sleep 300; }
-echo "edits of $2"
-[ ! -e "$TEST_TOP/open-$2" ]
+status=0
+[ -d .git ] || exit 2
+for edit in crates/*/must-fail/*; do
+  crate=${edit#crates/} crate=${crate%%/*} name=${edit##*/} came=', as it must be: why'
+  [ -e "$TEST_TOP/open-$crate" ] && came='NOT REFUSED: the crate is still proved' status=1
+  [ -e "$TEST_TOP/bad-$crate" ] && came='BAD EDIT: the prover cannot read it'
+  echo "rt: must-fail $crate/$name: ${came/#, as/refused, as}"
+done
+exit $status
 """
 LISTED = "low:\ncoverage_program: low arrayvec\nother: low\n"
 LOW, TOP_EDIT = "file: src/lib.rt\nold: one\nnew: two\n", "file: src/main.rt\nold: n\nnew:\n"
-# What the toolchain finds for the edits of the crate low, whose library and kept work stand in its out/.
+# What the toolchain finds for the edits of the crate low.
 OF_LOW = [
-    "must-fail low", "./HANDLES", "./crates.txt", "./crates/low/must-fail/a.edit", "./crates/low/out/incremental/work",
-    "./crates/low/out/rlib/stamp", "./crates/low/src/lib.rt", "low:", *LOW.splitlines(),
+    "ci", "./HANDLES", "./crates.txt", "./crates/low/must-fail/a.edit", "./crates/low/src/lib.rt", "low:", *LOW.splitlines(),
 ]
+LOW_REFUSED, TOP_REFUSED = (f"rt: must-fail {it}: refused, as it must be: why\n" for it in ("low/a.edit", "coverage_program/c.edit"))
 
 
 def prepare(it: Copy) -> None:
@@ -30,7 +37,7 @@ def prepare(it: Copy) -> None:
     it.write("bin/rt", RT)
     for name, text in {
         "low/more-edits/a.edit": LOW, "low/must-fail/b.edit": LOW, "coverage_program/more-edits/c.edit": TOP_EDIT,
-        "low/out/rlib/stamp": "", "low/out/incremental/work": "", "low/out/other": "",
+        "low/out/rlib/stamp": "", "coverage_program/stdin": "given",
     }.items():
         os.makedirs(f"{it.at}/crates/{os.path.dirname(name)}", exist_ok=True)
         it.write(f"crates/{name}", text)
@@ -51,17 +58,19 @@ def are_tried() -> None:
     """more_edits: the toolchain tries the edits of each crate in a copy of it and of those below, and what it says counts"""
     with copy(LISTED) as it:
         prepare(it)
-        equal(well(call(it, "low")).output, b"edits of low\nedits tried: 1; each was refused\n")
+        equal(well(call(it, "low")).output.decode(), f"{LOW_REFUSED}edits tried: 1; each was refused\n")
         equal(it.lines("asked"), OF_LOW)
         os.remove(f"{it.at}/asked")
-        equal(well(call(it)).output, b"edits of low\nedits of coverage_program\nedits tried: 2; each was refused\n")
+        equal(well(call(it)).output.decode(), f"{TOP_REFUSED}{LOW_REFUSED}edits tried: 2; each was refused\n")
         asked = it.lines("asked")
-        equal([line for line in asked if line.startswith("must-fail ")], ["must-fail low", "must-fail coverage_program"])
-        equal((asked.count("coverage_program: low arrayvec"), asked.count("./crates/other/src/lib.rt")), (2, 0))
-        it.write("open-low", "")
-        ran = call(it)
-        equal((ran.status, ran.output.decode().splitlines()[-1]), (1, "edits tried: 2; not each was refused in low"))
-        equal((os.listdir(f"{it.at}/.git"), os.listdir(f"{it.at}/crates/low/must-fail")), ([], ["b.edit"]))
+        equal([asked.count(line) for line in ("ci", "coverage_program: low arrayvec", "./crates/coverage_program/stdin")], [1, 1, 1])
+        equal(asked.count("./crates/other/src/lib.rt"), 0)
+        for what in ("open", "bad"):
+            it.write(f"{what}-low", "")
+            ran = call(it)
+            equal((ran.status, ran.output.decode().splitlines()[-1]), (1, "edits tried: 2; not each was refused"))
+            os.remove(f"{it.at}/{what}-low")
+        equal((it.rooms(), os.listdir(f"{it.at}/crates/low/must-fail")), ([], ["b.edit"]))
 
 
 def are_refused() -> None:
@@ -88,21 +97,25 @@ def are_refused() -> None:
         os.symlink(os.path.realpath(sys.executable), f"{it.at}/bin/python3")
         it.env["PATH"] = f"{it.at}/bin"
         refused(call(it), 70, "coverage: there is no toolchain: the command rt isn't found\n")
-        equal(os.listdir(f"{it.at}/.git"), [])
+        equal(it.rooms(), [])
 
 
 def is_ended() -> None:
-    """more_edits: a signal ends the toolchain too, and the copy goes"""
-    with copy(LISTED) as it, interruptible():
-        prepare(it)
-        it.write("hold", "")
-        command, pipe = ["python3", "-B", f"{it.at}/scripts/more_edits.py"], subprocess.PIPE
-        with subprocess.Popen(command, env=it.env, stdout=pipe, stderr=pipe, start_new_session=True) as started:
-            wait_for(lambda: it.lines("held"))
-            started.send_signal(signal.SIGTERM)
-            output, error = started.communicate(timeout=SECONDS)
-        equal((started.returncode, output, error), (130, b"", b""))
-        equal((os.listdir(f"{it.at}/.git"), os.path.exists(f"/proc/{it.lines('held')[0]}")), ([], False))
+    """more_edits: a signal ends the toolchain too, and the copy goes; that of a killed call goes with the next"""
+    for number, status, left in ((signal.SIGTERM, 130, 0), (signal.SIGKILL, -signal.SIGKILL, 1)):
+        with copy(LISTED) as it, interruptible():
+            prepare(it)
+            it.write("hold", "")
+            command, pipe = ["python3", "-B", f"{it.at}/scripts/more_edits.py"], subprocess.PIPE
+            with subprocess.Popen(command, env=it.env, stdout=pipe, stderr=pipe, start_new_session=True) as started:
+                wait_for(lambda: it.lines("held"))
+                started.send_signal(number)
+                wait_for(lambda: not os.path.exists(f"/proc/{it.lines('held')[0]}"))
+                output, error = started.communicate(timeout=SECONDS)
+            equal((started.returncode, output, error, len(it.rooms())), (status, b"", b"", left))
+            os.remove(f"{it.at}/hold")
+            well(call(it))
+            equal(it.rooms(), [])
 
 
 CHECKS = [can_be_applied, are_tried, are_refused, is_ended]

@@ -383,7 +383,7 @@ class Front(Copy):
     def __init__(self, at: str, program: str = PRETENDED.replace("/usr/bin/env python3", sys.executable)) -> None:
         super().__init__(at)
         before = RT.partition("printf '#!/bin/sh")[0]
-        self.write("bin/rt", f'{before}cp "$TEST_TOP/program" out/coverage_program\nexit 1\n')
+        self.write("bin/rt", f'{before}cp "$TEST_TOP/program" $program\n')
         self.write("program", program)
         os.chmod(f"{at}/program", 0o755)
         self.env["STARTED"] = f"{at}/started"
