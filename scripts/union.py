@@ -384,9 +384,9 @@ def unite(names: Sequence[str], threads: int) -> bytes:
     uniting.begin()
     try:
         with ThreadPoolExecutor(threads) as pool:
-            found = [uniting.begun, *(files.read() for _ in range(threads - 1))]
-            works = [pool.submit(uniting.work, it) for it in found]
             try:
+                found = [uniting.begun, *(files.read() for _ in range(threads - 1))]
+                works = [pool.submit(uniting.work, it) for it in found]
                 while wait(works, STEP).not_done:
                     progress.tell()
             except KeyboardInterrupt:

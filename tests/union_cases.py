@@ -8,10 +8,10 @@ import signal
 import subprocess
 import time
 
-from build_cases import Copy
+from build_cases import Copy, wait_for
 from checkout import checkout
 from front_cases import Front, on_terminal
-from harness import COVERAGE, PROGRAM, Ran, coverage, equal, folder, interruptible, misused, refused, run, well
+from harness import COVERAGE, PROGRAM, SECONDS, Ran, coverage, equal, folder, interruptible, misused, refused, run, well
 from jobs import COUNTED, Program
 from marks_cases import BOTH, FELL, OTHER_COUNT, WENT
 
@@ -287,6 +287,16 @@ def progress() -> None:
         assert (status, output) == (0, BOTH) and re.fullmatch(line, seen), (status, seen, output)
 
 
+def waits(process: int, script: str) -> bool:
+    """Whether a process has come to a script, and was found asleep for a second: what is begun or goes on isn't."""
+    for _ in range(20):
+        with open(f"/proc/{process}/cmdline", "rb") as words, open(f"/proc/{process}/stat", encoding="ascii") as state:
+            if script.encode() not in words.read() or state.read().rpartition(")")[2].split()[0] != "S":
+                return False
+        time.sleep(0.05)
+    return True
+
+
 def interrupted() -> None:
     """union: an interrupt ends it with 130 and no output, also while it waits for a file"""
     with folder() as at, interruptible():
@@ -295,9 +305,9 @@ def interrupted() -> None:
         for names in (["pipe", "fell"], ["fell", "pipe"]):
             words = [COVERAGE, "union", *(f"{it}.marks" for it in names)]
             started = subprocess.Popen(words, cwd=at, stdin=subprocess.DEVNULL, stdout=subprocess.PIPE, stderr=subprocess.PIPE)
-            time.sleep(1.5)
+            wait_for(lambda: waits(started.pid, "union.py"))
             started.send_signal(signal.SIGINT)
-            output, error = started.communicate(timeout=20)
+            output, error = started.communicate(timeout=SECONDS)
             equal((started.returncode, output, error), (130, b"", b""))
 
 
