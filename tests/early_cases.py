@@ -14,8 +14,8 @@ from harness import PROGRAM, coverage, run, well
 from jobs import FIRST, FIRST_RESULT, Result
 from race_cases import FIRST_JOB, JOBS, job_of
 
-# How often the first module's job is run, and each drawn one.
-RUNS, FEW = 500, 10
+# How often the first module's job is run, by early and by run, and each drawn one.
+RUNS, PLAIN_RUNS, FEW = 500, 50, 10
 # A task that opens and closes two sessions, one after the other: their closing instructions are its second and fourth of five.
 CALLS = "TASK A 100000 16 100 0\nTASK C 000000 16 100 0\nDATA 0 0A040A050A040A0507FE\n"
 LOCATIONS = (0, 4, 6, 8)
@@ -43,7 +43,7 @@ def texts() -> set[bytes]:
 
 
 def two_sessions() -> None:
-    """early: a task's two sessions, one after the other, while another task goes through their module, 500 times"""
+    """early and run: a task's two sessions, one after the other, while another task goes through their module, 500 and 50 times"""
     job = FIRST.job(CALLS).replace(b"SESSION S M\n", b"SESSION S1 BY C M\nSESSION S2 BY C M\n")
     allowed, seen = texts(), set()
     for _ in range(RUNS):
@@ -51,6 +51,10 @@ def two_sessions() -> None:
         assert output in allowed, f"no report of the job: {output!r}"
         seen.add(output)
     print(f"tests/command_line: {RUNS} runs of early on one job: {len(seen)} different reports", flush=True)
+    reports = {re.sub(rb"(?m)^(?:NOT DRAINED|DRAINED COUNT [0-9]+)\n", b"", it) for it in allowed}
+    for _ in range(PLAIN_RUNS):
+        output = well(run([PROGRAM, "run"], job)).output
+        assert output in reports, f"no report of the job: {output!r}"
 
 
 def drawn() -> None:

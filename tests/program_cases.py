@@ -371,10 +371,18 @@ def modules(count: int) -> bytes:
     return f"COVERJOB 1\n{''.join(cards)}ENDJOB\n".encode()
 
 
+# Words of each command that reads.
+READING = (
+    "run", "services run", "early", "exits", "count", "marks S", "table", "ends", "replay", "combine", "show S", "prove S", "verify S",
+)
+
+
 def streams() -> list[Case]:
     """Faults of standard input and output."""
     job = FIRST.job()
     return [
+        *(Case(f"a folder as input and a full output, of {it}", it.split(), b"", b"", 6, redirect="</ >/dev/full") for it in READING),
+        Case("a folder as input and a full output, of no command", [], b"", b"", 6, redirect="</ >/dev/full"),
         Case("a folder as input", ["run"], b"", b"READ FAULT\n", 5, redirect="</"),
         Case("a folder as input, of exits", ["exits"], b"", b"READ FAULT\n", 5, redirect="</"),
         Case("a folder as input, of early", ["early"], b"", b"READ FAULT\n", 5, redirect="</"),

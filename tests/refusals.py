@@ -42,7 +42,8 @@ class Trial:
             subprocess.run(["cc", "-O1", "-shared", "-fPIC", "-o", self.library, f"{TOP}/tests/refuse.c", "-ldl", "-lpthread"], check=True)
 
     def run(self, words: list[str], data: bytes, growth: int = 0, every: bool = False, read: str = "", write: str = "") -> Seen:
-        """Runs a command while this growth is refused, 0 for none, and this read and write, each as its number and a size."""
+        """Runs a command while this growth is refused, 0 for none, and this read and write, each as its number and a size, and
+        maybe the size of each other one; with `every` all later ones are refused too."""
         with tempfile.NamedTemporaryFile(dir=self.place) as file, tempfile.TemporaryFile(dir=self.place) as given:
             given.write(data)
             given.seek(0)

@@ -3,8 +3,9 @@
 
    Only calls from the program's own code count, and not those of the C library. COVERAGE_REFUSE has the number of the growth,
    from 1, or 0 for none; COVERAGE_REFUSE_ALL, where it is there, refuses the later ones too. COVERAGE_READ and COVERAGE_WRITE have
-   the number of the read or the write, from 1, and how many bytes it takes at most, or 0 where it fails. COVERAGE_SEEN names the
-   file that the numbers are written to. */
+   the number of the read or the write, from 1, or 0 for none, and how many bytes it takes at most, or 0 where it fails; and behind
+   these, where it is there, how many bytes each other one takes at most. COVERAGE_SEEN names the file that the numbers are written
+   to. */
 #define _GNU_SOURCE
 #include <dirent.h>
 #include <dlfcn.h>
@@ -24,8 +25,8 @@ static char *low, *high;
 static long refused, every, growths, kept, elsewhere, threads, threads_at[64];
 static pthread_t first;
 
-/* The reads or the writes: how many there were, which is refused, and how many bytes that takes. */
-struct Calls { long number, refused, most; };
+/* The reads or the writes: how many there were, which is refused, how many bytes that takes, and how many any other, 0 for all. */
+struct Calls { long number, refused, most, other; };
 static struct Calls reads, writes;
 static int descriptors;
 
@@ -42,7 +43,7 @@ static int note_program(struct dl_phdr_info *info, size_t size, void *data) {
 }
 
 static void set_calls(struct Calls *calls, const char *words) {
-  if (words) sscanf(words, "%ld %ld", &calls->refused, &calls->most);
+  if (words) sscanf(words, "%ld %ld %ld", &calls->refused, &calls->most, &calls->other);
 }
 
 /* How many entries a folder of the kernel's has. */
@@ -99,9 +100,11 @@ void free(void *it) {
 /* How many bytes this call may take, none where it fails. */
 static size_t allowed(struct Calls *calls, size_t size) {
   long number = __atomic_add_fetch(&calls->number, 1, __ATOMIC_SEQ_CST);
-  if (number != calls->refused) return size;
-  if (!calls->most) errno = EIO;
-  return size < (size_t)calls->most ? size : (size_t)calls->most;
+  int is = calls->refused && (every ? number >= calls->refused : number == calls->refused);
+  if (!is && !calls->other) return size;
+  size_t most = is ? calls->most : calls->other;
+  if (!most) errno = EIO;
+  return size < most ? size : most;
 }
 
 ssize_t read(int descriptor, void *to, size_t size) {

@@ -11,9 +11,10 @@ that aren't named are as those of a task that begins at X'100000'. One as `sessi
 mark for each instruction, is the session's line, the module's and the annotated listing. Every other line stands for itself.
 
 The other files have rows of words, an input and an output, behind `@row`, `@words`, `@input` and `@output`. There a line that begins
-with `%phase` and instructions stands for the job's lines up to its phase, with `%code` for those up to session S, with `%task` for the
-lines of a task, with `%marked` for module M's part of a listing (its instructions, and behind ` | ` the marks and how the module's line
-ends), with `%bytes` for these bytes, and with `%use` for the lines of the sample of that name.
+with `%module` and instructions stands for the job's lines up to module M's last, with `%phase` for those up to its phase, with `%code`
+for those up to session S, with `%task` for the lines of a task, with `%marked` for module M's part of a listing (its instructions, and
+behind ` | ` the marks and how the module's line ends), with `%bytes` for these bytes, with `%bare` for a line without its LF, and with
+`%use` for the lines of the sample of that name, which stands before the rows or in samples.txt.
 """
 from __future__ import annotations
 
@@ -27,7 +28,7 @@ from jobs import COUNTED, HEADING, USAGE
 
 FOLDER = f"{TOP}/tests/rows"
 WORDS = ("run", "exits", "early", "count", "table", "replay")
-FILES = ("called", "versions")
+FILES = ("called", "versions", "files", "evidence", "services", "commands")
 
 # A number, how many tasks, and the summary of the job that they make.
 TRIALS = [
@@ -70,11 +71,16 @@ def text_lines(lines: list[str]) -> bytes:
     return "".join(f"{it}\n" for it in lines).encode()
 
 
-def lines_of_phase(code: str) -> list[str]:
-    """The lines of a job up to its phase."""
+def lines_of_front(code: str) -> list[str]:
+    """The lines of a job up to module M's last."""
     digits, instructions = instructions_of(code)
     cards = ["COVERJOB 1", f"MODULE M 100000 {len(digits) // 2}", f"TEXT {digits}", f"LISTING {len(instructions) + 1}"]
-    return [*cards, HEADING, *listing_of(instructions), "PHASE P"]
+    return [*cards, HEADING, *listing_of(instructions)]
+
+
+def lines_of_phase(code: str) -> list[str]:
+    """The lines of a job up to its phase."""
+    return [*lines_of_front(code), "PHASE P"]
 
 
 def job_of(code: str, own: str) -> bytes:
@@ -142,6 +148,8 @@ def cases_of(word: str) -> Iterator[Case]:
 def part_of(line: str) -> bytes:
     """What a line of a row stands for, but for a sample."""
     kind, _, words = line.partition(" ")
+    if kind == "%module":
+        return text_lines(lines_of_front(words))
     if kind == "%phase":
         return text_lines(lines_of_phase(words))
     if kind == "%code":
@@ -152,6 +160,8 @@ def part_of(line: str) -> bytes:
         return text_lines(lines_of_module(*words.split(" | ")))
     if kind == "%bytes":
         return bytes.fromhex(words)
+    if kind == "%bare":
+        return words.encode()
     assert not kind.startswith("%"), line
     return text_lines([line])
 
@@ -160,7 +170,7 @@ def rows_of(name: str) -> Iterator[Case]:
     """The rows of a file."""
     front, *entries = read(name).split("@row ")
     samples = {}
-    for sample in front.split("@sample ")[1:]:
+    for sample in (it for text in (read("samples"), front) for it in text.split("@sample ")[1:]):
         title, lines = sample.split("\n", 1)
         samples[title.split(" - ")[0]] = b"".join(part_of(it) for it in lines.splitlines())
 
