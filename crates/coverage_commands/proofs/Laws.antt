@@ -1,3 +1,2 @@
 -- What crates above may cite of this crate's lemmas: the others are its own.
 pub use Rattle.coverage_commands.proofs.ReadyLemmas.{one_ready, one_rest, one_number}
-pub use Rattle.coverage_commands.proofs.TrialLemmas.{trial_few_lines}

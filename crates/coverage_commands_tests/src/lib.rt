@@ -1,4 +1,4 @@
-//! Tests of coverage_commands: jobs through `cover`, from the bytes in to the bytes out, under faults, gates and orders.
+//! Tests of coverage_commands: jobs through `cover` under faults, gates and orders.
 #![tactic(auto)]
 
 #[cfg(test)]

@@ -8,4 +8,3 @@ mod StandLemmas
 mod StepLemmas
 mod TieLemmas
 mod ToldLemmas
-pub mod Laws

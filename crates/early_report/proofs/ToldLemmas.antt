@@ -1,7 +1,7 @@
 -- What a run's drains tell at its end.
-use Rattle.std.proofs.Common.{◌≡◌, ℕ, suc, ◌<◌, ◌≤◌, Bool, true, false, ◌||◌, nat_eq, Option, Some, None, List, [], ◌∷◌, length, get_or, map, take, All, AllPairs, inl, inr, refl, sym, ◌∙◌, ap, subst, arith, eqb-true, eq-eqb, ⊎_elim}
+use Rattle.std.proofs.Common.{◌≡◌, ℕ, suc, ◌<◌, ◌≤◌, Bool, true, false, ◌||◌, nat_eq, Option, Some, None, List, [], ◌∷◌, length, get_or, map, All, AllPairs, inl, inr, refl, sym, ◌∙◌, ap, subst, arith, eqb-true, eq-eqb, ⊎_elim}
 use Rattle.std.proofs.lemmas.Bool.{both_ways}
-use Rattle.std.proofs.lemmas.List.{get_or-map, get_or-take, length-map, length-take, same_lists}
+use Rattle.std.proofs.lemmas.List.{get_or-map, length-map, same_lists}
 use Rattle.cov_base.specs.Meaning.{FactSet}
 use Rattle.cov_base.specs.declared.numbers.PlaceNo.{PlaceNo}
 use Rattle.cov_base.specs.declared.numbers.SessNo.{SessNo}
@@ -21,9 +21,8 @@ use Rattle.task_run.proofs.Laws.{Follows-aside, tied_aside, aside_calls}
 use Rattle.early_report.specs.DrainView.{DrainView}
 use Rattle.early_report.specs.Meaning.{others}
 use Rattle.early_report.specs.Drains.{unused, controller_of, AreKnown}
-use Rattle.early_report.specs.Followed.{IsOwn, StandsBy, Stands, WaitsSince, first_drains}
+use Rattle.early_report.specs.Followed.{StandsBy, Stands, WaitsSince, first_drains}
 use Rattle.early_report.specs.Told.{IsTold}
-use Rattle.early_report.proofs.EarlyLemmas.{IsOf, own_sessions}
 use Rattle.early_report.proofs.LookLemmas.{no_entry}
 use Rattle.early_report.proofs.ReadLemmas.{from_one, of_plan, places_of_plan}
 
@@ -147,13 +146,3 @@ first_numbers plan (s ∷ ss) = ap (λ (ks : List ℕ). s.0 ∷ ks) (first_numbe
 pub first_sessions : (plan : PlanView) (n : Notes) (c : ControlView) (ds : List DrainView) → IsPlan plan → IsTied plan n c → n.bears ≡ Some (bearer n) → ds ≡ first_drains plan (bearer n) →
     map (λ (d : DrainView). d.session) ds ≡ map (λ (s : SessNo). s.0) c.sessions
 first_sessions plan n c ds ok tie own is = ap (map (λ (d : DrainView). d.session)) is ∙ (first_numbers plan (sessions_of plan (bearer n)) ∙ ap (map (λ (s : SessNo). s.0)) (its_sessions plan n c (bearer n) ok tie own))
-
--- the open session is one of them
-pub its_open : (plan : PlanView) (n : Notes) (c : ControlView) (t : ℕ) (s : SessNo) → IsPlan plan → IsTied plan n c → n.bears ≡ Some t → c.opened ≡ Some s → IsOwn plan n s.0
-its_open plan n c t s ok tie own is =
-    let a = any_at (λ (u : SessNo). nat_eq u.0 s.0) (take c.next c.sessions) s (tie.opened s is) in
-    let size = length-take c.next c.sessions in
-    let below : a.0 < length c.sessions = let l = a.1 in omega (arith, size, l) in
-    let same : get_or c.sessions a.0 s ≡ s = ap session (ap (λ (u : SessNo). u.0) (sym (get_or-take c.next c.sessions a.0 s (let l = a.1 in omega (arith, size, l)))) ∙ eqb-true _ s.0 a.2) in
-    let of : IsOf plan t s.0 = subst (λ (u : SessNo). IsOf plan t u.0) same (subst (All (λ (u : SessNo). IsOf plan t u.0)) (its_sessions plan n c t ok tie own) (own_sessions plan t ok) a.0 s below) in
-    record { controlled = of.controlled; own = own ∙ ap Some (sym of.by) }

@@ -3,13 +3,14 @@ ghost use Rattle.std.specs.Prelude.{◌≡◌};
 ghost use Rattle.job_tables.specs.Tables.{IsReadyJob};
 ghost use Rattle.task_run.specs.Meaning.{solo};
 
-use super::FIRST_JOB;
-use super::jobs::PLAIN;
+use super::jobs::{ALONE, job_of};
 use brk_table::Tables;
 use cov_base::{NoMemory, TaskNo};
 use cov_outside::{MemSource, OpenGate};
 use job_answers::{Asked, make_ready};
+use job_input::Form;
 use job_run::run_job_with;
+use job_text::Grammar;
 use module_area::{Areas, Cells, Plan};
 use s370_state::Ending;
 use session_book::Job;
@@ -66,8 +67,12 @@ fn makes_no_area<T: Threads + Wait + Sync>(
 
 /// The same of the first job.
 fn makes_none_of_first<T: Threads + Wait + Sync>(rt: &T, alloc: Global) -> Result<bool, Fail> {
-    let mut source = MemSource::new(FIRST_JOB.as_bytes().to_vec(alloc)?, 64, Vec::new(alloc));
-    match make_ready(alloc, &mut source, PLAIN, &Asked::AnyJob) {
+    let mut source = MemSource::new(job_of(alloc, "LOAD", ALONE)?, 64, Vec::new(alloc));
+    let form = Form {
+        grammar: Grammar::Plain,
+        more: false,
+    };
+    match make_ready(alloc, &mut source, form, &Asked::AnyJob) {
         Ok(ready) => makes_no_area(rt, alloc, &ready.input.job, &ready.tables),
         Err(_) => Ok(false),
     }

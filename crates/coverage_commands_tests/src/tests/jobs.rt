@@ -1,88 +1,96 @@
-//! Jobs of several tasks, sessions and phases, with their text and tallies.
+//! Jobs, each of module M with its listing and of its own lines.
+use std::alloc::Global;
+use std::test::Fail;
 
-use super::notation::{Case, LOAD, Tallied};
-use job_input::Form;
-use job_text::Grammar;
-
-/// The form of an input that is a job without SERVICE cards.
-pub const PLAIN: Form = Form {
-    grammar: Grammar::Plain,
-    more: false,
-};
-
-/// And that of one with more behind its job.
-pub const WITH_MORE: Form = Form {
-    grammar: Grammar::Plain,
-    more: true,
-};
-
-pub const TALLIED_JOBS: [Tallied; 4] = [
-    Tallied {
-        case: Case {
-            name: "a phase without a task",
-            code: LOAD,
-            job: "ENDJOB\n",
-            status: 0,
-            text: "\
-COVERAGE REPORT\n\
-session S PHASE P marks ^^^ EXECUTED 0 FACTS 0 OF 3\n\
-NOT EXECUTED 000000-000007\n\
-END\n",
-        },
-        tallies: &[(3, 0, 0, 0)],
-    },
-    Tallied {
-        case: Case {
-            name: "two phases over one module",
-            code: LOAD,
-            job: "\
-TASK A 100000 16 100 0\n\
-PHASE Q\n\
-SESSION T M\n\
-TASK B 100000 16 2 0\n\
-ENDJOB\n",
-            status: 0,
-            text: "\
-COVERAGE REPORT\n\
-task A RETURNED COUNT 3 CC 2 regs 1=0000000A\n\
-task B SPENT COUNT 2 CC 2 regs 1=0000000A\n\
-session S PHASE P marks ::: EXECUTED 3 FACTS 3 OF 3\n\
-session T PHASE Q marks ::^ EXECUTED 2 FACTS 2 OF 3\n\
-NOT EXECUTED 000006-000007\n\
-END\n",
-        },
-        tallies: &[(3, 3, 3, 3), (3, 2, 2, 2)],
-    },
-    Tallied {
-        case: Case {
-            name: "a job of nothing",
-            code: "",
-            job: "COVERJOB 1\nENDJOB\n",
-            status: 0,
-            text: "COVERAGE REPORT\nEND\n",
-        },
-        tallies: &[],
-    },
-    Tallied {
-        case: Case {
-            name: "a module without a listing",
-            code: "",
-            job: "\
+/// Load address, add and branch; the lines up to the phase, as of those below.
+const LOAD: &str = "\
 COVERJOB 1\n\
 MODULE M 100000 8\n\
 TEXT 411000051A1107FE\n\
-PHASE P\n\
+LISTING 4\n\
+\x20 Loc  Object Code    Addr1 Addr2  Stmt   Source Statement\n\
+000000 4110 0005                      1          LA\n\
+000004 1A11                           2          AR\n\
+000006 07FE                           3          BR\n\
+PHASE P\n";
+
+/// A count down from register 1, and a return.
+const COUNT: &str = "\
+COVERJOB 1\n\
+MODULE M 100000 6\n\
+TEXT 4610F00007FE\n\
+LISTING 3\n\
+\x20 Loc  Object Code    Addr1 Addr2  Stmt   Source Statement\n\
+000000 4610 F000                      1          BCT\n\
+000004 07FE                           2          BR\n\
+PHASE P\n";
+
+/// A branch that depends on register 1.
+const BRANCH: &str = "\
+COVERJOB 1\n\
+MODULE M 100000 10\n\
+TEXT 12114780F008182207FE\n\
+LISTING 5\n\
+\x20 Loc  Object Code    Addr1 Addr2  Stmt   Source Statement\n\
+000000 1211                           1          LTR\n\
+000002 4780 F008                      2          BE\n\
+000006 1822                           3          LR\n\
+000008 07FE                           4          BR\n\
+PHASE P\n";
+
+/// EX of EX.
+const EXECUTE: &str = "\
+COVERJOB 1\n\
+MODULE M 100000 10\n\
+TEXT 4400F0044400F00007FE\n\
+LISTING 4\n\
+\x20 Loc  Object Code    Addr1 Addr2  Stmt   Source Statement\n\
+000000 4400 F004                      1          EX\n\
+000004 4400 F000                      2          EX\n\
+000008 07FE                           3          BR\n\
+PHASE P\n";
+
+/// A session, a task of it, and the end.
+pub const ALONE: &str = "\
 SESSION S M\n\
 TASK A 100000 16 100 0\n\
-ENDJOB\n",
-            status: 0,
-            text: "\
-COVERAGE REPORT\n\
-task A RETURNED COUNT 3 CC 2 regs 1=0000000A\n\
-SESSION S PHASE P\n\
-MODULE M PLACES 0 EXECUTED 0 FACTS 0 OF 0\n\
-END\n",
-        },
-        tallies: &[(0, 0, 0, 0)],
-    },
-];
+ENDJOB\n";
+
+/// These, where the task counts down from 3.
+pub const FROM_3: &str = "\
+SESSION S M\n\
+TASK A 100000 16 100 0\n\
+REG 1 00000003\n\
+ENDJOB\n";
+
+/// The lines of a job up to its phase, by the name of the module's program; none for any other name.
+fn front(name: &str) -> &'static str {
+    if name == "LOAD" {
+        LOAD
+    } else if name == "COUNT" {
+        COUNT
+    } else if name == "BRANCH" {
+        BRANCH
+    } else if name == "EXECUTE" {
+        EXECUTE
+    } else {
+        ""
+    }
+}
+
+/// The texts, one behind the other.
+pub fn joined(alloc: Global, texts: &[&str]) -> Result<Vec<u8>, Fail> {
+    let mut all = Vec::new(alloc);
+    for text in texts {
+        all.extend_from_slice(text.as_bytes())?;
+    }
+    Ok(all)
+}
+
+/// The job of the program of this name and of these lines.
+pub fn job_of(alloc: Global, name: &str, own: &str) -> Result<Vec<u8>, Fail> {
+    let mut all = Vec::new(alloc);
+    all.extend_from_slice(front(name).as_bytes())?;
+    all.extend_from_slice(own.as_bytes())?;
+    Ok(all)
+}

@@ -7,75 +7,57 @@ use arrayvec::ArrayVec;
 use cov_base::{Bits, Fact, NoMemory, PlaceNo, SessNo, TaskNo};
 use cov_outside::Gate;
 use module_area::{Areas, Cell, Cells, Drains, Finals, Forks, Plan, Tally};
-use std::alloc::{AllocError, Global};
+use std::alloc::Global;
 use std::sync::atomic::{AtomicU64, Ordering};
 
-/// A gate that counts how often each task has arrived, and may hold one.
+/// A gate that counts how often the first task has arrived, the second, and others, and holds one.
 #[derive(Drop)]
 pub struct Arrivals {
-    counts: Vec<AtomicU64>,
-    held: Option<Held>,
-}
-
-fn zeros(alloc: Global, tasks: usize) -> Result<Vec<AtomicU64>, AllocError> {
-    let mut counts = Vec::new(alloc);
-    for _ in 0..tasks {
-        counts.push(AtomicU64::new(0))?;
-    }
-    Ok(counts)
+    first: AtomicU64,
+    second: AtomicU64,
+    others: AtomicU64,
+    held: Held,
 }
 
 impl Arrivals {
-    /// For the tasks of a job, so many, none of which has arrived or is held.
-    pub fn new(alloc: Global, tasks: usize) -> Result<Arrivals, AllocError> {
-        let counts = zeros(alloc, tasks)?;
-        Ok(Arrivals { counts, held: None })
-    }
-
-    /// The same where one is held.
-    pub fn of_held(alloc: Global, tasks: usize, held: Held) -> Result<Arrivals, AllocError> {
-        let counts = zeros(alloc, tasks)?;
-        Ok(Arrivals {
-            counts,
-            held: Some(held),
-        })
-    }
-
-    fn go_on(&self, task: Option<u32>) {
-        if let Some(held) = &self.held {
-            held.go_on(task);
+    /// None has arrived.
+    pub fn new(held: Held) -> Arrivals {
+        Arrivals {
+            first: AtomicU64::new(0),
+            second: AtomicU64::new(0),
+            others: AtomicU64::new(0),
+            held,
         }
     }
 
-    fn look(&self) {
-        if let Some(held) = &self.held {
-            held.look();
+    fn count(&self, task: u32) -> &AtomicU64 {
+        match task {
+            0 => &self.first,
+            1 => &self.second,
+            _ => &self.others,
         }
     }
 
-    /// How often the task has arrived.
+    /// How often the task has arrived, 2 for others than the first two.
     pub fn of(&self, task: u32) -> u64 {
-        match self.counts.get(task as usize) {
-            Some(count) => count.load(Ordering::SeqCst),
-            None => 0,
-        }
+        self.count(task).load(Ordering::SeqCst)
+    }
+
+    /// How many boundaries the tasks have made that aren't held.
+    pub fn boundaries(&self) -> u64 {
+        self.held.boundaries()
     }
 }
 
 impl Gate for Arrivals {
     fn arrive(&self, task: TaskNo) {
-        if let Some(count) = self.counts.get(task.0 as usize) {
-            let before = count.load(Ordering::SeqCst);
-            count.store(before.saturating_add(1), Ordering::SeqCst);
-        }
-        if let Some(held) = &self.held {
-            held.arrive(task);
-        }
+        let _ = self.count(task.0).fetch_add(1, Ordering::SeqCst);
+        self.held.arrive(task);
     }
 }
 
 /// A call on a place, or that its task has arrived at the gate for so many times by the next call.
-#[derive(Clone, Copy, Debug, PartialEq, Eq)]
+#[derive(Clone, Copy)]
 pub enum Call {
     Arrive(u64),
     Plant(u32),
@@ -91,10 +73,15 @@ impl Default for Call {
     }
 }
 
+/// The number that the digits spell.
+pub fn number_in(digits: &str) -> u32 {
+    u32::from_str_radix(digits, 10).unwrap_or(u32::MAX)
+}
+
 /// Whether the words name the call.
 fn is_call(call: Call, words: &str) -> bool {
     let (kind, digits) = words.split_once(' ').unwrap_or((words, ""));
-    let number = u32::from_str_radix(digits, 10).unwrap_or(u32::MAX);
+    let number = number_in(digits);
     match call {
         Call::Arrive(times) => kind == "arrive" && times == u64::from(number),
         Call::Plant(place) => kind == "plant" && place == number,
@@ -229,12 +216,12 @@ impl<'a, C: Forks> Forks for NotedCells<'a, C> {
 impl<'a, C: Drains> Drains for NotedCells<'a, C> {
     fn boundary(&self, pass: &mut NotedPass<C::Pass>, ended: bool) {
         self.cells.boundary(&mut pass.pass, ended);
-        self.arrivals.go_on(pass.kept.task);
+        self.arrivals.held.go_on(pass.kept.task, ended);
     }
 
     fn note(&self, pass: &mut NotedPass<C::Pass>, task: TaskNo) -> u64 {
         let number = self.cells.note(&mut pass.pass, task);
-        self.arrivals.look();
+        self.arrivals.held.look();
         number
     }
 

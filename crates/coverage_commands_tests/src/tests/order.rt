@@ -1,64 +1,82 @@
 //! The calls on cells come in the order of the instructions: each place of a whole session is planted first, then the task
 //! arrives at the gate, once, and a trap marks and then lifts before the instruction is done; a task's own sessions it plants
-//! and closes where its calls stand.
-ghost use Rattle.std.specs.Prelude.{◌≡◌};
+//! and closes where its calls stand, each place in order of number, and no session twice. A task that comes to a place when another
+//! has ended meets what that has left there.
 
-use super::called::THROUGH;
-use super::notation::Part::{Code, Phase, Text};
-use super::notation::{ALONE, COUNT, LOAD, Part, bytes_of};
-use super::noted::{Arrivals, Call, NotedAreas, are_calls};
-use super::samples::FROM_3;
+use super::held::Held;
+use super::jobs::job_of;
+use super::noted::{Arrivals, NotedAreas, are_calls, number_in};
 use super::serving::serve_over;
-use coverage_commands::Status;
+use module_area::{Areas, Tally};
 use shared_area::SharedAreas;
 use std::alloc::Global;
 use std::sync::Wait;
 use std::test::Fail;
 use std::thread::Threads;
 
-pub const COUNT_DOWN: [Part; 2] = [Code(COUNT), FROM_3];
-
-static COUNT_DOWN_CALLS: &str = "\
-plant 0, plant 1, arrive 1, fetch 0, went 0, fetch 0, went 0, fetch 0, stayed 0, lift 0, fetch 1, \
-ran 1, lift 1";
-
-pub const EXECUTED: [Part; 2] = [
-    Code("000000 4400 F004 EX, 000004 4400 F000 EX, 000008 07FE BR"),
-    Text(ALONE),
-];
-
-static EXECUTED_CALLS: &str = "\
-plant 0, plant 1, plant 2, arrive 1, fetch 0, ran 0, lift 0, fetch 1";
-
-/// Tasks of two phases: one in code that is listed, one in code that isn't, which makes no call, and one that is spent
-/// at its second instruction.
-const THREE: &str = "\
-COVERJOB 1\n\
-MODULE M 100000 4\n\
-TEXT 182207FE\n\
-LISTING 3\n\
-\x20 Loc  Object Code    Addr1 Addr2  Stmt   Source Statement\n\
-000000 1822                           1          LR\n\
-000002 07FE                           2          BR\n\
-MODULE N 200000 2\n\
-TEXT 07FE\n\
-PHASE P\n\
-TASK A 100000 16 100 0\n\
-PHASE Q\n\
+/// Each behind `@row`: how many tasks the job has, its program and its name; the calls on its last area; plants, fetches, marks,
+/// lifts and closes there; and its own lines.
+static ORDERS: &str = "\
+@row 1 COUNT a count down\n\
+plant 0, plant 1, arrive 1, fetch 0, went 0, fetch 0, went 0, fetch 0, stayed 0, lift 0, fetch 1, ran 1, lift 1\n\
+2 4 4 2 0\n\
 SESSION S M\n\
-TASK B 200000 16 100 0\n\
-TASK C 100000 16 1 0\n\
-ENDJOB\n";
-
-static THREE_CALLS: &str = "\
-plant 0, plant 1, arrive 1, fetch 0, ran 0, lift 0";
-
-static THROUGH_CALLS: &str = "\
-arrive 1, plant 0, plant 1, plant 2, fetch 0, ran 0, lift 0, fetch 1, ran 1, lift 1, fetch 2, \
-ran 2, lift 2, close 0, close 1, close 2";
-
-/// SVC 4 and 5 in a module that a whole session observes, of a task that controls a session of another module.
-const OBSERVED: &str = "\
+TASK A 100000 16 100 0\n\
+REG 1 00000003\n\
+ENDJOB\n\
+@row 1 EXECUTE a subject that is itself EX\n\
+plant 0, plant 1, plant 2, arrive 1, fetch 0, ran 0, lift 0, fetch 1\n\
+3 2 1 1 0\n\
+SESSION S M\n\
+TASK A 100000 16 100 0\n\
+ENDJOB\n\
+@row 1 LOAD a session that its task opens and closes around the module\n\
+arrive 1, plant 0, plant 1, plant 2, fetch 0, ran 0, lift 0, fetch 1, ran 1, lift 1, fetch 2, ran 2, lift 2, \
+close 0, close 1, close 2\n\
+3 3 3 3 3\n\
+SESSION S BY C M\n\
+TASK C 000000 32 100 0\n\
+REG 1 00100000\n\
+REG 13 00FFFFFE\n\
+DATA 0 0A0445E010000A0507FD\n\
+ENDJOB\n\
+@row 1 LOAD a session that its task opens, and goes past the module\n\
+arrive 1, plant 0, plant 1, plant 2\n\
+3 0 0 0 0\n\
+SESSION S BY C M\n\
+TASK C 000000 32 100 0\n\
+REG 1 00100000\n\
+REG 13 00FFFFFE\n\
+DATA 0 0A0445E010080A0507FD\n\
+ENDJOB\n\
+@row 1 LOAD a session that its task leaves open\n\
+arrive 1, plant 0, plant 1, plant 2, fetch 0, ran 0, lift 0, fetch 1, ran 1, lift 1, fetch 2, ran 2, lift 2\n\
+3 3 3 3 0\n\
+SESSION S BY C M\n\
+TASK C 000000 32 100 0\n\
+REG 1 00100000\n\
+REG 13 00FFFFFE\n\
+DATA 0 0A0445E0100007FD\n\
+ENDJOB\n\
+@row 2 LOAD a session that is never opened\n\
+arrive 1, fetch 0, fetch 1, fetch 2\n\
+0 3 0 0 0\n\
+SESSION S BY C M\n\
+TASK A 100000 16 100 0\n\
+TASK C 000000 16 100 0\n\
+DATA 0 07FE\n\
+ENDJOB\n\
+@row 1 LOAD two sessions, with a close, an open, a close and an open that do nothing before, between and behind\n\
+arrive 1, plant 0, plant 1, plant 2, close 0, close 1, close 2, plant 0, plant 1, plant 2, close 0, close 1, close 2\n\
+6 0 0 0 6\n\
+SESSION S1 BY C M\n\
+SESSION S2 BY C M\n\
+TASK C 000000 16 100 0\n\
+DATA 0 0A050A040A040A050A040A050A0407FE\n\
+ENDJOB\n\
+@row 1 NONE calls in a module that a whole session observes, of a task that controls a session of another module\n\
+plant 0, plant 1, plant 2, arrive 1, fetch 0, ran 0, lift 0, plant 3, fetch 1, ran 1, lift 1, close 3, fetch 2, ran 2, lift 2\n\
+4 3 3 3 1\n\
 COVERJOB 1\n\
 MODULE M 100000 6\n\
 TEXT 0A040A0507FE\n\
@@ -76,68 +94,153 @@ PHASE P\n\
 SESSION S M\n\
 SESSION T BY A N\n\
 TASK A 100000 16 100 0\n\
+ENDJOB\n\
+@row 3 NONE tasks of two phases, one in code that isn't listed, which makes no call, and one spent at its second instruction\n\
+plant 0, plant 1, arrive 1, fetch 0, ran 0, lift 0\n\
+2 1 1 1 0\n\
+COVERJOB 1\n\
+MODULE M 100000 4\n\
+TEXT 182207FE\n\
+LISTING 3\n\
+\x20 Loc  Object Code    Addr1 Addr2  Stmt   Source Statement\n\
+000000 1822                           1          LR\n\
+000002 07FE                           2          BR\n\
+MODULE N 200000 2\n\
+TEXT 07FE\n\
+PHASE P\n\
+TASK A 100000 16 100 0\n\
+PHASE Q\n\
+SESSION S M\n\
+TASK B 200000 16 100 0\n\
+TASK C 100000 16 1 0\n\
 ENDJOB\n";
 
-static OBSERVED_CALLS: &str = "\
-plant 0, plant 1, plant 2, arrive 1, fetch 0, ran 0, lift 0, plant 3, fetch 1, ran 1, lift 1, \
-close 3, fetch 2, ran 2, lift 2";
+/// The same of jobs of two tasks, of which the second begins when the first has ended.
+static BEHIND: &str = "\
+@row 2 COUNT where a place's set is full the second task meets no breakpoint\n\
+plant 0, plant 1, arrive 1, fetch 0, went 0, fetch 0, went 0, fetch 0, stayed 0, lift 0, fetch 1, ran 1, lift 1, \
+arrive 1, fetch 0, fetch 0, fetch 1\n\
+2 7 4 2 0\n\
+SESSION S M\n\
+TASK A 100000 16 100 0\n\
+REG 1 00000003\n\
+TASK Z 100000 16 100 0\n\
+REG 1 00000002\n\
+ENDJOB\n\
+@row 2 EXECUTE nor at an EX that was executed\n\
+plant 0, plant 1, plant 2, arrive 1, fetch 0, ran 0, lift 0, fetch 1, arrive 1, fetch 0, fetch 1\n\
+3 4 1 1 0\n\
+SESSION S M\n\
+TASK A 100000 16 100 0\n\
+TASK Z 100000 16 100 0\n\
+ENDJOB\n\
+@row 2 EXECUTE but one at the EX that was its subject\n\
+plant 0, plant 1, plant 2, arrive 1, fetch 0, ran 0, lift 0, fetch 1, arrive 1, fetch 1, ran 1, lift 1, fetch 0\n\
+3 4 2 2 0\n\
+SESSION S M\n\
+TASK A 100000 16 100 0\n\
+TASK Z 100004 16 100 0\n\
+REG 15 00100000\n\
+ENDJOB\n";
 
-/// Runs a job of so many tasks over areas that keep their calls: its status, the calls on its last area, and how often
-/// each task has arrived at the gate.
-fn run_noted<T: Threads + Wait + Sync>(
-    rt: &T,
-    alloc: Global,
-    job: &[Part],
-    tasks: u32,
-) -> Result<(Status, Vec<Call>, Vec<u64>), Fail> {
-    let job = bytes_of(alloc, job)?;
-    let shared = SharedAreas::new(alloc, 2).map_err(|_| "memory")?;
-    let gate = Arrivals::new(alloc, tasks as usize)?;
-    let mut areas = NotedAreas::new(shared, &gate);
-    let (status, _) = serve_over(rt, alloc, &["run"], &job, 64, &mut areas, &gate)?;
-    let calls = areas.calls.as_slice().to_vec(alloc)?;
-    let mut arrivals = Vec::new(alloc);
-    for task in 0..tasks {
-        arrivals.push(gate.of(task))?;
+/// Whether these are the counts.
+fn are_counts(counts: &[u64], words: &str) -> bool {
+    let mut had = 0usize;
+    for word in words.split(' ') {
+        match counts.get(had) {
+            Some(count) if *count == u64::from(number_in(word)) => had = had.wrapping_add(1),
+            _ => return false,
+        }
     }
-    Ok((status, calls, arrivals))
+    had == counts.len()
 }
 
-/// Whether a job of so many tasks makes these calls on its last area, and each task arrives once.
+/// Whether the last tally has these counts.
+fn is_last(tallies: &[Tally], words: &str) -> bool {
+    match tallies.get(tallies.len().wrapping_sub(1)) {
+        Some(tally) => are_counts(
+            &[
+                tally.plants,
+                tally.fetches,
+                tally.marks,
+                tally.lifts,
+                tally.closes,
+            ],
+            words,
+        ),
+        None => false,
+    }
+}
+
+/// Whether each of so many tasks has arrived once.
+fn have_arrived(gate: &Arrivals, tasks: u32) -> bool {
+    for task in 0..tasks {
+        if gate.of(task) != 1 {
+            return false;
+        }
+    }
+    true
+}
+
+/// Whether the words make the calls of the row's job on its last area, behind this gate.
 fn makes<T: Threads + Wait + Sync>(
     rt: &T,
     alloc: Global,
-    job: &[Part],
-    tasks: u32,
-    expected: &str,
+    words: &str,
+    row: &str,
+    gate: &Arrivals,
 ) -> Result<bool, Fail> {
-    let (status, calls, arrivals) = run_noted(rt, alloc, job, tasks)?;
+    let (tasks, rest) = row.split_once(' ').unwrap_or(("", ""));
+    let (program, rest) = rest.split_once(' ').unwrap_or(("", ""));
+    let (_, rest) = rest.split_once('\n').unwrap_or(("", ""));
+    let (calls, rest) = rest.split_once('\n').unwrap_or(("", ""));
+    let (tally, own) = rest.split_once('\n').unwrap_or(("", ""));
+    let job = job_of(alloc, program, own)?;
+    let shared = SharedAreas::new(alloc, 2).map_err(|_| "memory")?;
+    let mut areas = NotedAreas::new(shared, gate);
+    let (status, _) = serve_over(rt, alloc, words, &job, &mut areas, gate)?;
     Ok(
         status.0 == 0
-            && are_calls(&calls, expected)
-            && arrivals.len() == tasks as usize
-            && arrivals.iter().all(|n| *n == 1),
+            && are_calls(&areas.calls, calls)
+            && is_last(areas.ledger(), tally)
+            && have_arrived(gate, number_in(tasks)),
     )
 }
 
+/// Whether `run` makes these calls.
+fn is_in_order<T: Threads + Wait + Sync>(rt: &T, alloc: Global, row: &str) -> Result<bool, Fail> {
+    let gate = Arrivals::new(Held::none());
+    makes(rt, alloc, "run", row, &gate)
+}
+
+/// Whether `early`, by which each task makes boundaries, makes them where the second task is held until the first has ended.
+fn is_met_behind<T: Threads + Wait + Sync>(rt: &T, alloc: Global, row: &str) -> Result<bool, Fail> {
+    let gate = Arrivals::new(Held::new(1, 0, 1));
+    makes(rt, alloc, "early", row, &gate)
+}
+
+/// A failure that names the row.
+fn fail_of(row: &'static str) -> Fail {
+    let (head, _) = row.split_once('\n').unwrap_or((row, ""));
+    Fail::new(head)
+}
+
 #[test]
-fn plants_first_and_marks_before_it_lifts(rt: HostRuntime) -> Result<(), Fail> {
-    let alloc = rt.alloc();
-    assert!(rt; makes(&rt, alloc, &COUNT_DOWN, 1, COUNT_DOWN_CALLS)?);
-    assert!(rt; makes(&rt, alloc, &EXECUTED, 1, EXECUTED_CALLS)?);
+fn makes_its_calls_in_the_order_of_the_instructions(rt: HostRuntime) -> Result<(), Fail> {
+    for row in ORDERS.split("@row ") {
+        if !row.is_empty() && !is_in_order(&rt, rt.alloc(), row)? {
+            return Err(fail_of(row));
+        }
+    }
     Ok(())
 }
 
 #[test]
-fn plants_and_closes_where_its_calls_stand(rt: HostRuntime) -> Result<(), Fail> {
-    let alloc = rt.alloc();
-    assert!(rt; makes(&rt, alloc, &[Phase(LOAD), Text(THROUGH)], 1, THROUGH_CALLS)?);
-    assert!(rt; makes(&rt, alloc, &[Text(OBSERVED)], 1, OBSERVED_CALLS)?);
-    Ok(())
-}
-
-#[test]
-fn each_task_arrives_once_before_its_first_call(rt: HostRuntime) -> Result<(), Fail> {
-    assert!(rt; makes(&rt, rt.alloc(), &[Text(THREE)], 3, THREE_CALLS)?);
+fn a_task_meets_what_an_ended_one_has_left(rt: HostRuntime) -> Result<(), Fail> {
+    for row in BEHIND.split("@row ") {
+        if !row.is_empty() && !is_met_behind(&rt, rt.alloc(), row)? {
+            return Err(fail_of(row));
+        }
+    }
     Ok(())
 }
