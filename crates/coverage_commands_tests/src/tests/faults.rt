@@ -155,6 +155,239 @@ SERVICE 10 000006\n\
 PHASE P\n\
 TASK A 000000 16 100 0\n\
 DATA 0 0A0A07FE00001BFF07FE\n\
+ENDJOB\n\
+@row 2 COUNT marks S\n\
+SESSION S M\n\
+TASK A 100000 16 100 0\n\
+@row 3 NONE marks S\n\
+COVERJOB 1\n\
+MODULE M 100000 2\n\
+TEXT 07FE\n\
+LISTING 2\n\
+\x20 Loc  Object Code    Addr1 Addr2  Stmt   Source Statement\n\
+000000 07FF                           1          BR\n\
+PHASE P\n\
+SESSION S M\n\
+ENDJOB\n\
+@row 4 COUNT marks S\n\
+SESSION S M\n\
+TASK A 100000 1048577 100 0\n\
+ENDJOB\n\
+@row 10 NONE combine\n\
+%53333730434F5632 5320202020202020 00000001 0001 4D20202020202020 00100000 00000006 00000002\n\
+%00000000 04 01 4610 04 00000004 02 00 07FE\n\
+@row 2 COUNT show S\n\
+SESSION S M\n\
+TASK A 100000 16 100 0\n\
+@row 3 NONE show S\n\
+COVERJOB 1\n\
+MODULE M 100000 2\n\
+TEXT 07FE\n\
+LISTING 2\n\
+\x20 Loc  Object Code    Addr1 Addr2  Stmt   Source Statement\n\
+000000 07FF                           1          BR\n\
+PHASE P\n\
+SESSION S M\n\
+ENDJOB\n\
+%53333730434F5632 5320202020202020 00000001 0001 4D20202020202020 00100000 00000002 00000001\n\
+%00000000 02 00 07FE 01\n\
+@row 4 COUNT show S\n\
+SESSION S M\n\
+TASK A 100000 1048577 100 0\n\
+ENDJOB\n\
+%53333730434F5632 5320202020202020 00000001 0001 4D20202020202020 00100000 00000006 00000002\n\
+%00000000 04 01 4610 04 00000004 02 00 07FE 01\n\
+@row 8 NONE show S\n\
+COVERJOB 1\n\
+MODULE M 100000 2\n\
+TEXT 0AFF\n\
+LISTING 2\n\
+\x20 Loc  Object Code    Addr1 Addr2  Stmt   Source Statement\n\
+000000 0AFF                           1          SVC\n\
+PHASE P\n\
+SESSION S M\n\
+ENDJOB\n\
+%53333730434F5632 5320202020202020 00000001 0001 4D20202020202020 00100000 00000002 00000001\n\
+%00000000 02 00 07FE 01\n\
+@row 11 COUNT show S\n\
+SESSION S M\n\
+TASK A 100000 16 100 0\n\
+ENDJOB\n\
+%53333730434F5632 5320202020202020 00000001 0001 4D20202020202020 00100000 00000006 00000002\n\
+%00000000 04 01 4620 04 00000004 02 00 07FE 01\n\
+@row 12 NONE show S\n\
+COVERJOB 1\n\
+MODULE M 100000 6\n\
+TEXT 4610F00007FE\n\
+LISTING 3\n\
+\x20 Loc  Object Code    Addr1 Addr2  Stmt   Source Statement\n\
+000000 4610                           1          BCT\n\
+000004 07FE                           2          BR\n\
+PHASE P\n\
+SESSION S M\n\
+ENDJOB\n\
+@row 13 COUNT show X\n\
+SESSION S M\n\
+TASK A 100000 16 100 0\n\
+ENDJOB\n\
+%53333730434F5632 5320202020202020 00000001 0001 4D20202020202020 00100000 00000006 00000002\n\
+%00000000 04 01 4610 04 00000004 02 00 07FE 01\n\
+@row 2 COUNT prove S\n\
+SESSION S M\n\
+TASK A 100000 16 100 0\n\
+@row 3 NONE prove S\n\
+COVERJOB 1\n\
+MODULE M 100000 2\n\
+TEXT 07FE\n\
+LISTING 2\n\
+\x20 Loc  Object Code    Addr1 Addr2  Stmt   Source Statement\n\
+000000 07FF                           1          BR\n\
+PHASE P\n\
+SESSION S M\n\
+ENDJOB\n\
+@row 13 COUNT prove X\n\
+SESSION S M\n\
+TASK A 100000 16 100 0\n\
+ENDJOB\n\
+@row 14 COUNT prove S\n\
+SESSION S BY A M\n\
+TASK A 100000 16 100 0\n\
+ENDJOB\n\
+@row 3 NONE verify S\n\
+COVERJOB 1\n\
+MODULE M 100000 2\n\
+TEXT 07FE\n\
+LISTING 2\n\
+\x20 Loc  Object Code    Addr1 Addr2  Stmt   Source Statement\n\
+000000 07FF                           1          BR\n\
+PHASE P\n\
+SESSION S M\n\
+ENDJOB\n\
+%53333730434F5632 5320202020202020 00000001 0001 4D20202020202020 00100000 00000002 00000001\n\
+%00000000 02 00 07FE 01\n\
+@row 10 COUNT verify S\n\
+SESSION S M\n\
+TASK A 100000 16 100 0\n\
+ENDJOB\n\
+@row 11 COUNT verify S\n\
+SESSION S M\n\
+TASK A 100000 16 100 0\n\
+ENDJOB\n\
+%53333730434F5632 5320202020202020 00000001 0001 4D20202020202020 00100000 00000006 00000002\n\
+%00000000 04 01 4620 04 00000004 02 00 07FE 01\n\
+@row 13 COUNT verify X\n\
+SESSION S M\n\
+TASK A 100000 16 100 0\n\
+ENDJOB\n\
+@row 14 COUNT verify S\n\
+SESSION S BY A M\n\
+TASK A 100000 16 100 0\n\
+ENDJOB\n\
+@row 0 NONE services count\n\
+COVERJOB 1\n\
+MODULE M 100000 2\n\
+TEXT 07FE\n\
+LISTING 2\n\
+\x20 Loc  Object Code    Addr1 Addr2  Stmt   Source Statement\n\
+000000 07FE                           1          BR\n\
+SERVICE 10 100000\n\
+PHASE P\n\
+SESSION S M\n\
+TASK A 000000 16 100 0\n\
+DATA 0 0A0A07FE\n\
+ENDJOB\n\
+@row 14 NONE services count\n\
+COVERJOB 1\n\
+MODULE M 100000 2\n\
+TEXT 07FE\n\
+LISTING 2\n\
+\x20 Loc  Object Code    Addr1 Addr2  Stmt   Source Statement\n\
+000000 07FE                           1          BR\n\
+SERVICE 10 100000\n\
+PHASE P\n\
+SESSION S BY A M\n\
+TASK A 000000 16 100 0\n\
+DATA 0 0A0A07FE\n\
+ENDJOB\n\
+@row 0 NONE services marks S\n\
+COVERJOB 1\n\
+MODULE M 100000 2\n\
+TEXT 07FE\n\
+LISTING 2\n\
+\x20 Loc  Object Code    Addr1 Addr2  Stmt   Source Statement\n\
+000000 07FE                           1          BR\n\
+SERVICE 10 100000\n\
+PHASE P\n\
+SESSION S M\n\
+TASK A 000000 16 100 0\n\
+DATA 0 0A0A07FE\n\
+ENDJOB\n\
+@row 13 NONE services marks X\n\
+COVERJOB 1\n\
+MODULE M 100000 2\n\
+TEXT 07FE\n\
+LISTING 2\n\
+\x20 Loc  Object Code    Addr1 Addr2  Stmt   Source Statement\n\
+000000 07FE                           1          BR\n\
+SERVICE 10 100000\n\
+PHASE P\n\
+SESSION S M\n\
+TASK A 000000 16 100 0\n\
+DATA 0 0A0A07FE\n\
+ENDJOB\n\
+@row 0 NONE services table\n\
+COVERJOB 1\n\
+MODULE M 100000 2\n\
+TEXT 07FE\n\
+LISTING 2\n\
+\x20 Loc  Object Code    Addr1 Addr2  Stmt   Source Statement\n\
+000000 07FE                           1          BR\n\
+SERVICE 10 100000\n\
+PHASE P\n\
+SESSION S M\n\
+TASK A 000000 16 100 0\n\
+DATA 0 0A0A07FE\n\
+ENDJOB\n\
+@row 0 NONE services ends\n\
+COVERJOB 1\n\
+MODULE M 100000 2\n\
+TEXT 07FE\n\
+LISTING 2\n\
+\x20 Loc  Object Code    Addr1 Addr2  Stmt   Source Statement\n\
+000000 07FE                           1          BR\n\
+SERVICE 10 100000\n\
+PHASE P\n\
+SESSION S M\n\
+TASK A 000000 16 100 0\n\
+DATA 0 0A0A07FE\n\
+ENDJOB\n\
+@row 0 NONE services show S\n\
+COVERJOB 1\n\
+MODULE M 100000 2\n\
+TEXT 07FE\n\
+LISTING 2\n\
+\x20 Loc  Object Code    Addr1 Addr2  Stmt   Source Statement\n\
+000000 07FE                           1          BR\n\
+SERVICE 10 100000\n\
+PHASE P\n\
+SESSION S M\n\
+TASK A 000000 16 100 0\n\
+DATA 0 0A0A07FE\n\
+ENDJOB\n\
+%53333730434F5632 5320202020202020 00000001 0001 4D20202020202020 00100000 00000002 00000001\n\
+%00000000 02 00 07FE 01\n\
+@row 10 NONE services show S\n\
+COVERJOB 1\n\
+MODULE M 100000 2\n\
+TEXT 07FE\n\
+LISTING 2\n\
+\x20 Loc  Object Code    Addr1 Addr2  Stmt   Source Statement\n\
+000000 07FE                           1          BR\n\
+SERVICE 10 100000\n\
+PHASE P\n\
+SESSION S M\n\
+TASK A 000000 16 100 0\n\
+DATA 0 0A0A07FE\n\
 ENDJOB\n";
 
 /// What a hexadecimal digit in upper case stands for.
