@@ -15,9 +15,9 @@ FAULT = b"READ FAULT\n"
 
 
 def faults_of(trial: refusals.Trial, case: Case) -> int:
-    """Lets each read of the row fail, each write with all behind it, and the first of both; answers how many these were."""
-    def runs(read: int = 0, write: int = 0) -> refusals.Seen:
-        seen = trial.run(case.words, case.input, every=write > 0, read=f"{read} 0 {READ}", write=f"{write} 0 {WRITE}")
+    """Lets each read of the row fail, each write with all behind it and alone, and the first of both; answers how many these were."""
+    def runs(read: int = 0, write: int = 0, every: bool = True) -> refusals.Seen:
+        seen = trial.run(case.words, case.input, every=every and write > 0, read=f"{read} 0 {READ}", write=f"{write} 0 {WRITE}")
         refusals.settled(seen)
         return seen
 
@@ -33,12 +33,14 @@ def faults_of(trial: refusals.Trial, case: Case) -> int:
         equal(came(runs(read=number)), (case.name, 5, FAULT, b""))
     for number in range(1, writes + 1):
         equal(came(runs(write=number)), (case.name, 6, case.output[: WRITE * (number - 1)], b""))
+        # Where the later ones are taken, the buffer hands on what it still holds, and the status tells all the same.
+        equal(came(runs(write=number, every=False)), (case.name, 6, case.output, b""))
     equal(came(runs(read=1, write=1)), (case.name, 6, b"", b""))
-    return reads + writes + 1
+    return reads + 2 * writes + 1
 
 
 def each_call() -> None:
-    """rows: each read that fails, and each write with all behind it"""
+    """rows: each read that fails, and each write, with all behind it and alone"""
     with folder() as place, ThreadPoolExecutor(os.cpu_count()) as pool:
         trial = refusals.Trial(PROGRAM, place)
         rows = [it for name in FILES for it in row_cases.rows_of(name)]
