@@ -5,6 +5,7 @@ use Rattle.std.proofs.lemmas.Fmt.{length-decimal-le}
 use Rattle.std.proofs.lemmas.List.{get_or-map, length-map, length-replicate}
 use Rattle.std.proofs.lemmas.List.Elements.{All-cons, All-nil}
 use Rattle.std.proofs.lemmas.List.FromFn.{get_or-map-range_with_len, length-map-range_with_len}
+use Rattle.cov_base.specs.Lists.{Differ}
 use Rattle.cov_base.specs.Meaning.{ImageView, padded}
 use Rattle.module_area.specs.Images.{IsImage, AreClear}
 use Rattle.session_book.specs.Meaning.{TaskView}
@@ -83,7 +84,7 @@ name_at n k d h =
     get_or-map (λ (t : TaskView). t.name) tasks k (trial_task 0) d (omega (arith, length-map-range_with_len trial_task 1 n))
     ∙ (ap (λ (t : TaskView). t.name) (get_or-map-range_with_len trial_task 1 n k (1 + k) (trial_task 0) h refl) ∙ name_is (1 + k))
 
-names_differ : (n : ℕ) → AllPairs (λ a b. a ≢ b) (map (λ (t : TaskView). t.name) (map trial_task (range_with_len 1 n)))
+names_differ : (n : ℕ) → Differ (map (λ (t : TaskView). t.name) (map trial_task (range_with_len 1 n)))
 names_differ n i j d before h =
     let tasks = map trial_task (range_with_len 1 n) in
     let size : length tasks ≡ n = length-map-range_with_len trial_task 1 n in

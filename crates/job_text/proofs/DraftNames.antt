@@ -3,8 +3,9 @@ use Rattle.std.proofs.Common.{◌≡◌, ℕ, Bool, false, nat_eq, if◌then◌e
 use Rattle.std.specs.List.{list_any}
 use Rattle.std.specs.Str.{bytes_eq}
 use Rattle.std.proofs.lemmas.List.{map_push}
+use Rattle.cov_base.specs.Lists.{Differ}
 use Rattle.cov_base.specs.Meaning.{ImageView}
-use Rattle.names.specs.Lists.{Differ, index_of, has, added}
+use Rattle.names.specs.Lists.{index_of, has, added}
 use Rattle.names.proofs.Laws.{index_of-map, has-map, none_named, one_named}
 use Rattle.session_book.specs.Meaning.{TaskView, no_task}
 use Rattle.job_text.specs.Names as naming

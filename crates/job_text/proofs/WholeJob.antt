@@ -11,13 +11,13 @@ use Rattle.std.proofs.lemmas.List.Quantifiers.{all_pairs_push, position-Some}
 use Rattle.std.proofs.lemmas.List.Sums.{AllPass-from_list_all}
 use Rattle.std.proofs.lemmas.Bool.{and_parts, leb-true, or_parts, not-true, or_cases}
 use Rattle.std.proofs.lemmas.Option.{cond_some}
+use Rattle.cov_base.specs.Lists.{Differ}
 use Rattle.cov_base.specs.Meaning.{ImageView}
 use Rattle.module_area.specs.Images.{IsImage, AreClear}
 use Rattle.module_area.specs.Meaning.{DataView}
 use Rattle.cov_base.specs.declared.limits.TheConstants.{MODULE_LIMIT, SIZE_LIMIT, LINE_LIMIT, PHASE_LIMIT, SESSION_LIMIT, TASK_LIMIT, PRIVATE_LIMIT, BUDGET_LIMIT, ROOM_LIMIT}
 use Rattle.session_book.specs.Meaning.{JobView, SessionView, TaskView, first_regs}
 use Rattle.session_book.specs.JobView.{IsJob, IsSession, IsListing, IsTaskOf, HasController, AreParted}
-use Rattle.names.specs.Lists.{Differ}
 use Rattle.session_book.specs.JobView as book
 use Rattle.job_text.specs.Meaning.{SessionDraft, DraftView, Controllers, Present, is_controller, controller_named, is_met_by, is_met, are_met, bound_session, bound, LineView, CardView, Module, Session, Task, may_stand, RegView, set_regs, no_job, has_module, is_clear, with_phase, this_phase, is_same_controller, bars, image_index, is_free, put_index, indices_on, with_new_session, IsModule, IsTaskBlock, IsPhase, Spells, are_short, IsWithin, Lead, IsServiceCard, IsSessionCard, with_service}
 use Rattle.session_book.specs.declared.services.Service.{Service}
@@ -62,7 +62,7 @@ record IsSessionSoFar (images phases : ℕ) (s : SessionDraft) : Type 0 where
   phase : s.phase < phases
   some : 1 ≤ length s.modules
   modules : All (λ m. m < images) s.modules
-  differ : AllPairs (λ m n. m ≢ n) s.modules
+  differ : Differ s.modules
 
 -- no module is in two sessions of one phase but in those of one controller
 abbrev ArePartedSoFar : SessionDraft → SessionDraft → Type 0
@@ -204,7 +204,7 @@ phase_is j after name e =
 
 record AreUsed (j : DraftView) (by : Option (List ℕ)) (used : List ℕ) : Type 0 where
   exist : All (λ m. m < length j.images) used
-  differ : AllPairs (λ m n. m ≢ n) used
+  differ : Differ used
   free : All (λ m. list_any (bars (this_phase j) by m) j.sessions ≡ false) used
 
 differ_of : (m n : ℕ) → nat_eq m n ≡ false → n ≢ m

@@ -10,7 +10,8 @@ use Rattle.std.proofs.lemmas.List.{length-map, get_or-map}
 use Rattle.std.proofs.lemmas.List.Quantifiers.{position-Some}
 use Rattle.std.proofs.lemmas.List.Sums.{position_or_len_is, fails_before_first}
 use Rattle.std.proofs.lemmas.Map.Made.{AllPairs-from_IsDistinct}
-use Rattle.names.specs.Lists.{Differ, index_of, has}
+use Rattle.cov_base.specs.Lists.{Differ}
+use Rattle.names.specs.Lists.{index_of, has}
 
 -- either order of the two names
 

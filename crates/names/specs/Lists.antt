@@ -1,10 +1,7 @@
 -- Names in a list, filled with blanks.
-use Rattle.std.specs.Prelude.{◌≢◌, ℕ, Bool, if◌then◌else◌, Option, List, [], ◌∷◌, ◌++◌, position, AllPairs}
+use Rattle.std.specs.Prelude.{ℕ, Bool, if◌then◌else◌, Option, List, [], ◌∷◌, ◌++◌, position}
 use Rattle.std.specs.List.{list_any}
 use Rattle.std.specs.Str.{bytes_eq}
-
-abbrev pub Differ : List (List ℕ) → Type 0
-Differ names = AllPairs (λ a b. a ≢ b) names
 
 -- the index of the first that is this name
 abbrev pub index_of : List (List ℕ) → List ℕ → Option ℕ

@@ -1,6 +1,7 @@
 //! Distinct names in order.
 ghost use Rattle.std.specs.Prelude.{◌≡◌, ◌<◌, [], Some, IfSome, IfOk, IfErr, length, slice_get};
-ghost use Rattle.names.specs.Lists.{Differ, index_of, has, added};
+ghost use Rattle.cov_base.specs.Lists.{Differ};
+ghost use Rattle.names.specs.Lists.{index_of, has, added};
 
 use cov_base::{Name, NoMemory};
 use indexmap::IndexSet;

@@ -1,15 +1,12 @@
 -- The rules that a job's values keep.
-use Rattle.std.specs.Prelude.{◌≡◌, ◌≢◌, ℕ, ◌+◌, ◌<◌, ◌≤◌, Bool, false, nat_eq, Option, Some, List, length, get_or, map, All, AllPairs, IfSome}
+use Rattle.std.specs.Prelude.{◌≡◌, ℕ, ◌+◌, ◌<◌, ◌≤◌, Bool, false, nat_eq, Option, Some, List, length, get_or, map, All, AllPairs, IfSome}
 use Rattle.std.specs.List.{list_any}
+use Rattle.cov_base.specs.Lists.{Differ}
 use Rattle.cov_base.specs.Meaning.{ImageView}
 use Rattle.cov_base.specs.declared.limits.TheConstants.{MODULE_LIMIT, SIZE_LIMIT, LINE_LIMIT, PHASE_LIMIT, SESSION_LIMIT, TASK_LIMIT, PRIVATE_LIMIT, BUDGET_LIMIT, ROOM_LIMIT}
 use Rattle.module_area.specs.Images.{AreImages}
 use Rattle.module_area.specs.Meaning.{DataView}
 use Rattle.session_book.specs.Meaning.{SessionView, TaskView, JobView}
-
--- names of which no two are alike
-abbrev pub Differ : List (List ℕ) → Type 0
-Differ names = AllPairs (λ a b. a ≢ b) names
 
 pub record IsTask (phases : ℕ) (t : TaskView) : Type 0 where
   pub phase : t.phase < phases
@@ -25,7 +22,7 @@ pub record IsSession (images phases : ℕ) (s : SessionView) : Type 0 where
   pub phase : s.phase < phases
   pub some : 1 ≤ length s.modules
   pub modules : All (λ m. m < images) s.modules
-  pub differ : AllPairs (λ m n. m ≢ n) s.modules
+  pub differ : Differ s.modules
 
 -- the sessions of a task, which it opens and closes one after the other
 abbrev pub is_same_controller : Option ℕ → Option ℕ → Bool

@@ -95,14 +95,14 @@ impl Model for Job {
     ghost invariant = { IsSound };
 }
 
-fn session_at(sessions: &[Session], name: &Name) -> Option<usize>
+fn session_index(sessions: &[Session], name: &Name) -> Option<usize>
     ensures value { result ≡ position (λ (s : SessionView). bytes_eq s.name name.now) sessions.now }
     ensures within { IfSome result (λ i. i < length sessions.now) }
 {
     sessions.iter().position(|session| session.name == *name)
 }
 
-fn task_at(tasks: &[TaskCard], name: &Name) -> Option<usize>
+fn task_index(tasks: &[TaskCard], name: &Name) -> Option<usize>
     ensures value { result ≡ position (λ (t : TaskView). bytes_eq t.name name.now) tasks.now }
     ensures within { IfSome result (λ i. i < length tasks.now) }
 {
@@ -146,7 +146,7 @@ impl Job {
         ensures from { IfSome result (λ s. 0 < s.0) }
         ensures to { IfSome result (λ s. s.0 ≤ length self.now.sessions) }
     {
-        let at = session_at(&self.sessions, name)?;
+        let at = session_index(&self.sessions, name)?;
         Some(SessNo(at as u32 + 1))
     }
 
@@ -154,7 +154,7 @@ impl Job {
     pub fn task_named(&self, name: &Name) -> Option<TaskNo>
         ensures { result ≡ task_named self.now name.now }
     {
-        let at = task_at(&self.tasks, name)?;
+        let at = task_index(&self.tasks, name)?;
         Some(TaskNo(at as u32))
     }
 

@@ -1,6 +1,7 @@
 -- Marks that were made with empty sets, and are filled.
 use Rattle.std.proofs.Common.{◌≡◌, ℕ, zero, suc, ◌+◌, ◌<◌, ◌≤◌, Bool, true, false, nat_eq, nat_lt, List, [], ◌∷◌, ◌++◌, length, take, drop, map, min, All, refl, sym, ap, ◌∙◌, arith, length-drop, length-append}
 use Rattle.std.proofs.lemmas.List.{take-append-drop}
+use Rattle.cov_base.specs.Lists.{Differ}
 use Rattle.cov_base.specs.Meaning.{FactSet, is_filled}
 use Rattle.brk_table.specs.Meaning.{TableView, TablesView, first_place, place_count, all_places}
 use Rattle.marks_file.specs.Meaning.{MarkedView, is_location, is_length, is_original, are_places, end_location, is_new_name, is_base, is_size, is_count, are_modules, is_module_count, are_marks}
@@ -11,7 +12,6 @@ use Rattle.cov_base.specs.declared.facts.Kind.{Kind}
 use Rattle.session_book.specs.Meaning.{module_of, JobView}
 use Rattle.phase_plan.specs.Sets.{AreWithin}
 use Rattle.session_marks.specs.Fields.{HasGoodFields, AreHalfwords}
-use Rattle.session_marks.proofs.TableLemmas.{Differ}
 use Rattle.session_marks.proofs.ModuleLemmas.{AreTabled, own_places_kept, marks_kept}
 use Rattle.marks_file.specs.declared.marks.MarkedPlace.{MarkedPlace}
 use Rattle.module_area.specs.declared.places.Place.{Place}

@@ -10,6 +10,7 @@ use Rattle.std.proofs.lemmas.List.Quantifiers.{all_pairs_push}
 use Rattle.std.proofs.lemmas.Map.Made.{IsDistinct-from_AllPairs}
 use Rattle.std.proofs.lemmas.Map.Steps.{length-le_from_distinct_below}
 use Rattle.std.proofs.lemmas.Slice.Eq.{bytes_eq-Decides}
+use Rattle.cov_base.specs.Lists.{Differ}
 use Rattle.cov_base.specs.Meaning.{FactSet, ImageView, is_filled}
 use Rattle.module_area.specs.Images.{IsImage, AreClear}
 use Rattle.module_area.specs.Meaning.{place_of, no_place}
@@ -25,7 +26,7 @@ use Rattle.session_book.specs.JobView.{IsJob}
 use Rattle.phase_plan.specs.Sets.{AreWithin}
 use Rattle.session_marks.specs.Fields.{HasGoodFields, AreHalfwords}
 use Rattle.session_marks.specs.Meaning.{marked_places, marked_module}
-use Rattle.session_marks.proofs.TableLemmas.{OwnTable, own_table, Differ, count_of, counts_fit, count_more, first_differs, rest_differs}
+use Rattle.session_marks.proofs.TableLemmas.{OwnTable, own_table, count_of, counts_fit, count_more, first_differs, rest_differs}
 use Rattle.session_marks.proofs.RuleLemmas.{AreMarkable, places_kept, some_bytes, length-marked_places}
 
 -- a job and the tables of its modules

@@ -1,9 +1,10 @@
 -- A file in which no row differs is the session's marks with some sets.
-use Rattle.std.proofs.Common.{◌≡◌, ◌≢◌, ◌⊎◌, inl, inr, ℕ, ◌+◌, ◌<◌, ◌≤◌, zero, suc, Bool, true, false, if◌then◌else◌, nat_eq, Option, Some, None, List, [], ◌∷◌, ◌++◌, length, get_or, drop, map, All, AllPairs, refl, ap, sym, ◌∙◌, subst, arith}
+use Rattle.std.proofs.Common.{◌≡◌, ◌≢◌, ◌⊎◌, inl, inr, ℕ, ◌+◌, ◌<◌, ◌≤◌, zero, suc, Bool, true, false, if◌then◌else◌, nat_eq, Option, Some, None, List, [], ◌∷◌, ◌++◌, length, get_or, drop, map, All, refl, ap, sym, ◌∙◌, subst, arith}
 use Rattle.std.specs.Str.{bytes_eq}
 use Rattle.std.proofs.lemmas.List.{length-map, get_or_default}
 use Rattle.std.proofs.lemmas.List.Elements.{All-tail}
 use Rattle.std.proofs.lemmas.Bool.{ne_eqb, eq-eqb}
+use Rattle.cov_base.specs.Lists.{Differ}
 use Rattle.cov_base.specs.Meaning.{FactSet}
 use Rattle.marks_file.specs.Meaning.{modules_bytes, MarkedView, are_marks, place_row, module_row, rows}
 use Rattle.marks_file.specs.Marks.{HasRow}
@@ -89,7 +90,7 @@ sets_upto tables modules file d zero = empty
 sets_upto tables modules file d (suc i) = put_sets (sets_upto tables modules file d i) (first_place tables (get_or modules i 0)) (get_or file i d).places
 
 have_upto : (tables : List TableView) (modules : List ℕ) (file : List MarkedView) (d : MarkedView) (i : ℕ)
-    → AllPairs (λ a b. a ≢ b) modules → i ≤ length modules → length file ≡ length modules
+    → Differ modules → i ≤ length modules → length file ≡ length modules
     → ((k n : ℕ) (d : MarkedView) → k < length modules → length (get_or file k d).places ≡ place_count tables (get_or modules k n))
     → HaveSetsAt tables (sets_upto tables modules file d i) i modules file
 unfolding sets_upto
@@ -114,7 +115,7 @@ united own file h g kept e =
 no_module : MarkedView
 no_module = record { name = []; base = 0; size = 0; places = [] }
 
-own_found : (j : JobView) (tables : TablesView) (s : ℕ) (file : List MarkedView) → AllPairs (λ m n. m ≢ n) (session_of j s).modules → are_marks (session_marks j tables empty s) ≡ true → are_marks file ≡ true
+own_found : (j : JobView) (tables : TablesView) (s : ℕ) (file : List MarkedView) → Differ (session_of j s).modules → are_marks (session_marks j tables empty s) ≡ true → are_marks file ≡ true
     → first_difference 0 (session_rows j tables s) (rows file) ≡ None → IsOwn j tables s file
 own_found j tables s file differ h g none =
     let ms = (session_of j s).modules in
@@ -131,7 +132,7 @@ own_found j tables s file differ h g none =
     }
 
 -- each file has one answer
-pub decided : (j : JobView) (tables : TablesView) (s : ℕ) (file : List MarkedView) → AllPairs (λ m n. m ≢ n) (session_of j s).modules → IsDecided j tables s file
+pub decided : (j : JobView) (tables : TablesView) (s : ℕ) (file : List MarkedView) → Differ (session_of j s).modules → IsDecided j tables s file
 decided j tables s file differ = record {
   own = own_same j tables s file;
   found = own_found j tables s file differ;

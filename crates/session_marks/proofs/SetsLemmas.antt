@@ -1,7 +1,8 @@
 -- A file of the session's table is the session's marks with the file's sets.
-use Rattle.std.proofs.Common.{◌≡◌, ◌≢◌, ◌⊎◌, inl, inr, ℕ, ◌+◌, ◌<◌, ◌≤◌, zero, suc, Bool, true, false, ◌||◌, List, [], ◌∷◌, length, get_or, map, AllPairs, refl, ap, sym, ◌∙◌, subst, arith}
+use Rattle.std.proofs.Common.{◌≡◌, ◌≢◌, ◌⊎◌, inl, inr, ℕ, ◌+◌, ◌<◌, ◌≤◌, zero, suc, Bool, true, false, ◌||◌, List, [], ◌∷◌, length, get_or, map, refl, ap, sym, ◌∙◌, subst, arith}
 use Rattle.std.proofs.lemmas.Bool.{cases_eq, cases_lt}
 use Rattle.std.proofs.lemmas.List.{get_or_default}
+use Rattle.cov_base.specs.Lists.{Differ}
 use Rattle.cov_base.specs.Meaning.{FactSet, no_facts, union}
 use Rattle.marks_file.specs.Meaning.{MarkedView}
 use Rattle.marks_file.specs.declared.marks.MarkedPlace.{MarkedPlace}
@@ -129,7 +130,7 @@ kept_sets tables before after m n ps differ count h others k d l =
     others number outside ∙ h k d l
 
 pub sets_step : (tables : List TableView) (before after : ℕ → FactSet) (i m : ℕ) (modules : List ℕ) (file : List MarkedView) (f : MarkedView)
-    → AllPairs (λ a b. a ≢ b) modules → i < length modules → length file ≡ length modules
+    → Differ modules → i < length modules → length file ≡ length modules
     → ((k n : ℕ) (d : MarkedView) → k < length modules → length (get_or file k d).places ≡ place_count tables (get_or modules k n))
     → m ≡ get_or modules i 0 → f ≡ get_or file i f → HaveSetsAt tables before i modules file → HasSetsAt after (first_place tables m) f.places
     → ((k : ℕ) → (k < first_place tables m) ⊎ (first_place tables m + length f.places ≤ k) → after k ≡ before k)

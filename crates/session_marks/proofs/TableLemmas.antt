@@ -1,8 +1,9 @@
 -- The table of a module among those of a job, and how many places modules have together.
-use Rattle.std.proofs.Common.{◌≡◌, ◌≢◌, ◌⊎◌, inl, inr, ℕ, ◌+◌, ◌-◌, ◌<◌, ◌≤◌, suc, Bool, true, false, nat_eq, List, [], ◌∷◌, ◌++◌, length, All, AllPairs, refl, sym, ap, ◌∙◌, arith, length-append}
+use Rattle.std.proofs.Common.{◌≡◌, ◌≢◌, ◌⊎◌, inl, inr, ℕ, ◌+◌, ◌-◌, ◌<◌, ◌≤◌, suc, Bool, true, false, nat_eq, List, [], ◌∷◌, ◌++◌, length, All, refl, sym, ap, ◌∙◌, arith, length-append}
 use Rattle.std.proofs.lemmas.Bool.Decides.{nat_tests}
 use Rattle.std.proofs.lemmas.List.{get_or_append_left, get_or-append_right}
 use Rattle.std.proofs.lemmas.List.Elements.{All-tail}
+use Rattle.cov_base.specs.Lists.{Differ}
 use Rattle.cov_base.specs.Meaning.{ImageView}
 use Rattle.module_area.specs.Meaning.{place_of, no_place}
 use Rattle.brk_table.specs.Meaning.{TableView, all_places, first_place, place_count}
@@ -61,9 +62,6 @@ own_table images (t ∷ ts) m are = elim (cases_same t.«module» m) [
 abbrev pub count_of : List TableView → List ℕ → ℕ
 count_of tables [] = 0
 count_of tables (m ∷ ms) = place_count tables m + count_of tables ms
-
-abbrev pub Differ : List ℕ → Type 0
-Differ ms = AllPairs (λ m n. m ≢ n) ms
 
 pub first_differs : (m : ℕ) (ms : List ℕ) → Differ (m ∷ ms) → All (λ n. m ≢ n) ms
 first_differs m ms h k d l = h 0 (suc k) d (omega arith) (omega arith)

@@ -1,5 +1,6 @@
 //! The sets of a session that a marks file has.
-ghost use Rattle.std.specs.Prelude.{◌≡◌, ◌≢◌, ◌⊎◌, ℕ, ◌+◌, ◌<◌, ◌≤◌, length, replicate, AllPairs, IfOk, IfErr};
+ghost use Rattle.std.specs.Prelude.{◌≡◌, ◌⊎◌, ℕ, ◌+◌, ◌<◌, ◌≤◌, length, replicate, IfOk, IfErr};
+ghost use Rattle.cov_base.specs.Lists.{Differ};
 ghost use Rattle.cov_base.specs.Meaning.{no_facts};
 ghost use Rattle.brk_table.specs.Together.{AreTables};
 ghost use Rattle.session_book.specs.Meaning.{session_of};
@@ -82,7 +83,7 @@ fn sets_of(
     modules: &[u32],
     file: &[MarkedModule],
 ) -> Result<Vec<Bits>, NoMemory>
-    requires differ { AllPairs (λ m n. m ≢ n) modules.now }
+    requires differ { Differ modules.now }
     requires modules { length file.now ≡ length modules.now }
     requires counts { HaveCounts tables.now.tables modules.now file.now }
     ensures size { IfOk result (λ v. length v.items ≡ length tables.now.places) }
@@ -111,7 +112,7 @@ fn session_sets(
     requires to { s.0 ≤ length job.now.sessions }
     requires tables { AreTables job.now.images tables.now.tables }
     requires modules { modules.now ≡ (session_of job.now s.0).modules }
-    requires differ { AllPairs (λ m n. m ≢ n) modules.now }
+    requires differ { Differ modules.now }
     ensures same { IfOk result (λ f. file.now.modules ≡ session_marks job.now tables.now (set_at f.sets) s.0) }
     ensures sets { IfOk result (λ f. HasSetsOf job.now tables.now f.session (length f.sets) (sets_of_one f) s.0) }
     ensures elsewhere { IfOk result (λ f. AreOfSession job.now tables.now s.0 f.sets) }
