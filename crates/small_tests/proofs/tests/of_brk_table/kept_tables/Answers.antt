@@ -1,7 +1,7 @@
 use Rattle.std.proofs.Common.{[], ◌∷◌, arith}
 use Rattle.cov_base.specs.Meaning.{ImageView}
 use Rattle.brk_table.proofs.Laws.{one_met, AllMet}
-use Rattle.brk_table_tests.proofs.tests.kept_tables.Goals as goal
+use Rattle.small_tests.proofs.tests.of_brk_table.kept_tables.Goals as goal
 
 abbrev image : goal.After-images-in-Ok-1 → ImageView
 image c = record { name = c.in-Some-Ok.name; base = c.of.result; bytes = c.in_ok-bytes.bytes.items }

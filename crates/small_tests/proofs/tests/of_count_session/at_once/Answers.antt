@@ -5,7 +5,7 @@ use Rattle.cov_base.specs.FactKind.{is_of_kind}
 use Rattle.module_area.specs.Meaning.{PlanView, kind_at}
 use Rattle.count_session.specs.Notes.{CountNotes}
 use Rattle.count_session.specs.Passes.{notes_of, plan_in}
-use Rattle.count_session_tests.proofs.tests.at_once.Goals as goal
+use Rattle.small_tests.proofs.tests.of_count_session.at_once.Goals as goal
 
 pub plant-requires-clause-unplanted : goal.plant-requires-clause-unplanted
 plant-requires-clause-unplanted g c = ap (λ (n : CountNotes). n.planted 0) c.in_ok-cells.ensures.root

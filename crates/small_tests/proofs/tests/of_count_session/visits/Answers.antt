@@ -1,5 +1,5 @@
 use Rattle.std.proofs.Common.{ℕ, ◌+◌, Bool, ap, ◌∙◌}
-use Rattle.count_session_tests.proofs.tests.visits.Goals as goal
+use Rattle.small_tests.proofs.tests.of_count_session.visits.Goals as goal
 
 pub loop-preserved : goal.loop-preserved
 loop-preserved c = let v = c.visit.ensures in let i = c.loop.invariant in record {

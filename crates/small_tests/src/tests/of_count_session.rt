@@ -6,7 +6,7 @@ ghost use Rattle.cov_base.specs.declared.facts.Kind.TheVariants.{Straight, Condi
 ghost use Rattle.cov_base.specs.FactKind.{is_of_kind};
 ghost use Rattle.module_area.specs.Meaning.{kind_at, window_at};
 ghost use Rattle.count_session.specs.Passes.{IsPassOf, notes_of, plan_in};
-ghost use Rattle.count_session_tests.specs.Visits.{CanVisit};
+ghost use Rattle.small_tests.specs.Visits.{CanVisit};
 
 use count_session::{CountCells, CountPass};
 use cov_base::{Addr, Fact, Kind, NoMemory, PlaceNo};

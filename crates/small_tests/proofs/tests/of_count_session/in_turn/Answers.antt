@@ -1,6 +1,6 @@
 use Rattle.std.proofs.Common.{◌≡◌, ℕ, ◌||◌, Bool, true, nat_eq, ap, ◌∙◌}
 use Rattle.count_session.specs.Notes.{CountNotes, root_notes, after_plant}
-use Rattle.count_session_tests.proofs.tests.in_turn.Goals as goal
+use Rattle.small_tests.proofs.tests.of_count_session.in_turn.Goals as goal
 
 -- places 0 and 1 are planted one after the other
 two_planted : (n m o : CountNotes) → n ≡ root_notes → m ≡ after_plant n 0 → o ≡ after_plant m 1 → (o.planted 0 ≡ true) × (o.planted 1 ≡ true)

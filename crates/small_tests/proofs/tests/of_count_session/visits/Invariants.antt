@@ -1,6 +1,6 @@
 use Rattle.std.proofs.Common.{◌≡◌, true, false}
 use Rattle.count_session.specs.Passes.{IsPassOf, notes_of}
-use Rattle.count_session_tests.proofs.tests.visits.Given as goal
+use Rattle.small_tests.proofs.tests.of_count_session.visits.Given as goal
 
 abbrev pub invariant-loop : goal.invariant-loop
 invariant-loop l = record {
