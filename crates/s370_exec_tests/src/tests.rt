@@ -6,15 +6,17 @@ mod editing;
 mod fixed;
 mod harness;
 mod logic;
+mod plain_space;
 mod storage;
 
 use branches::SELECTED;
 use cov_base::Addr;
 use harness::check;
+use plain_space::PlainSpace;
 use s370_branch::outcome;
 use s370_decode::{Code, Op, length, op_of};
 use s370_exec::{execute, fetch_rest, is_execute, merge, subject_address, supervisor_call};
-use s370_state::{Cpu, Ending, PlainSpace, TaskIo};
+use s370_state::{Cpu, Ending, TaskIo};
 use std::alloc::Global;
 use std::test::*;
 

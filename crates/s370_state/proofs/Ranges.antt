@@ -25,14 +25,6 @@ unfolding can_reach
 reach_fails m a zero i b e l h = absurd (omega arith)
 reach_fails m a (suc n) i b e l h = elim (last_or i n l) [ inl q ↦ rw (← q, ← e, h) (and_false _) | inr z ↦ and_left _ _ (reach_fails m a n i b e z h) ]
 
-pub store_none : (m : Memory) (a : ℕ) → can_store m a 0 ≡ true
-unfolding can_store
-store_none m a = refl
-
-pub store_more : (m : Memory) (a n b : ℕ) → b ≡ wrap (a + n) → can_store m a n ≡ true → is_private m b ≡ true → can_store m a (n + 1) ≡ true
-unfolding can_store
-store_more m a n b e h k = rw (add-one, h, ← e) k
-
 pub store_fails : (m : Memory) (a n i b : ℕ) → b ≡ wrap (a + i) → i < n → is_private m b ≡ false → can_store m a n ≡ false
 unfolding can_store
 store_fails m a zero i b e l h = absurd (omega arith)

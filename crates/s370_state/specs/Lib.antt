@@ -3,6 +3,5 @@ pub mod Fields
 pub mod Io
 pub mod Meaning
 pub mod Parts
-pub mod Plain
 pub mod Row
 pub mod Halves

@@ -6,7 +6,6 @@ mod endings;
 mod io;
 mod operands;
 mod packed;
-mod plain_space;
 mod space;
 mod words;
 
@@ -18,6 +17,5 @@ pub use operands::{
     stores_own, stores_reads_own, test_read, test_read_both, test_store, test_store_read, word_of,
 };
 pub use packed::{Field, field_at, is_digit, is_minus, is_sign, number, put_field};
-pub use plain_space::PlainSpace;
 pub use space::{Refused, Space};
 pub use words::{order_code, signed};

@@ -1,10 +1,11 @@
 //! The vectors' notation, and what runs them: a line's instruction is executed alone, and all that it could change is
 //! compared.
+use super::plain_space::PlainSpace;
 use cov_base::Addr;
 use s370_branch::{branch, outcome};
 use s370_decode::{Code, Group, group_of, length, op_of};
 use s370_exec::{execute, is_execute};
-use s370_state::{Cpu, Ending, Next, PlainSpace, TaskIo};
+use s370_state::{Cpu, Ending, Next, TaskIo};
 use std::alloc::{AllocError, Global};
 use std::process::Abort;
 use std::test::Fail;

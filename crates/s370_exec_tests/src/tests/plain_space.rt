@@ -1,12 +1,12 @@
 //! A task's storage over vectors.
 ghost use Rattle.std.specs.Prelude.{◌≡◌, ◌+◌, ◌*◌, ◌<◌, ◌^◌, vec_len, length, nat_lt, nat_le, ◌&&◌, ◌==◌};
 ghost use Rattle.cov_base.specs.Meaning.{is_accessible, is_private, can_reach, can_store, byte_at};
-ghost use Rattle.s370_state.specs.Plain.{memory_of};
+ghost use Rattle.s370_exec_tests.specs.Plain.{memory_of};
 
-use crate::space::{Refused, Space};
 use cov_base::Addr;
+use s370_state::{Refused, Space};
 
-/// Storage with at most one module, byte by byte: for a task that stands alone, as in the tests of the operations.
+/// Storage with at most one module, byte by byte.
 /// A call takes time by the number of touch bytes too.
 #[derive(Drop)]
 pub struct PlainSpace {
@@ -24,7 +24,7 @@ pub struct PlainSpace {
     ghost small: { base + vec_len image < 2 ^ 32 },
 }
 
-#[tactic(auto, unfolding(crate::specs::Plain::memory_of, cov_base::specs::Meaning::is_accessible, cov_base::specs::Meaning::is_private), using(crate::proofs::Ranges::reach_none, crate::proofs::Ranges::reach_more, crate::proofs::Ranges::reach_fails, crate::proofs::Ranges::store_none, crate::proofs::Ranges::store_more, crate::proofs::Ranges::store_fails, crate::proofs::Ranges::touch_none, crate::proofs::Ranges::touch_more, crate::proofs::Ranges::touch_found))]
+#[tactic(auto, unfolding(crate::specs::Plain::memory_of, cov_base::specs::Meaning::is_accessible, cov_base::specs::Meaning::is_private), using(s370_state::proofs::Laws::reach_none, s370_state::proofs::Laws::reach_more, s370_state::proofs::Laws::reach_fails, crate::proofs::Ranges::store_none, crate::proofs::Ranges::store_more, s370_state::proofs::Laws::store_fails, s370_state::proofs::Laws::touch_none, s370_state::proofs::Laws::touch_more, s370_state::proofs::Laws::touch_found))]
 impl PlainSpace {
     fn is_private(&self, at: Addr) -> bool
         ensures { result ≡ is_private (memory_of self.now.size self.now.base self.now.image.items self.now.touches.items) at }
@@ -52,7 +52,7 @@ impl PlainSpace {
     }
 }
 
-#[tactic(auto, using(crate::proofs::Ranges::reach_two, crate::proofs::Ranges::answer_ok, crate::proofs::Ranges::reach_none, crate::proofs::Ranges::reach_more, crate::proofs::Ranges::reach_fails, crate::proofs::Ranges::store_none, crate::proofs::Ranges::store_more, crate::proofs::Ranges::store_fails, crate::proofs::Ranges::touch_none, crate::proofs::Ranges::touch_more, crate::proofs::Ranges::touch_found))]
+#[tactic(auto, using(s370_state::proofs::Laws::reach_two, s370_state::proofs::Laws::answer_ok, s370_state::proofs::Laws::reach_none, s370_state::proofs::Laws::reach_more, s370_state::proofs::Laws::reach_fails, crate::proofs::Ranges::store_none, crate::proofs::Ranges::store_more, s370_state::proofs::Laws::store_fails, s370_state::proofs::Laws::touch_none, s370_state::proofs::Laws::touch_more, s370_state::proofs::Laws::touch_found))]
 impl Space for PlainSpace {
     ghost memory = { λ s. memory_of s.size s.base s.image.items s.touches.items };
 
@@ -125,7 +125,7 @@ impl Space for PlainSpace {
         }
     }
 
-    #[tactic(auto, using(crate::proofs::Tested::word_of_bytes, crate::proofs::Tested::reach_at))]
+    #[tactic(auto, using(s370_state::proofs::Laws::word_of_bytes, s370_state::proofs::Laws::reach_at))]
     fn word(&self, at: Addr) -> u32 {
         u32::from_be_bytes([
             self.byte(at.plus(0)),
@@ -140,7 +140,7 @@ impl Space for PlainSpace {
         self.bytes[at.get() as usize] = value;
     }
 
-    #[tactic(auto, using(crate::proofs::Tested::word_stored, crate::proofs::Tested::store_at))]
+    #[tactic(auto, using(s370_state::proofs::Laws::word_stored, s370_state::proofs::Laws::store_at))]
     fn put_word(&mut self, at: Addr, value: u32) {
         self.put(at.plus(3), (value % 256) as u8);
         self.put(at.plus(2), (value / 256 % 256) as u8);
@@ -148,7 +148,7 @@ impl Space for PlainSpace {
         self.put(at.plus(0), (value / 16_777_216) as u8);
     }
 
-    #[tactic(auto, using(crate::proofs::Stores::no_words, crate::proofs::Stores::more_words, crate::proofs::Tested::store_part, crate::proofs::Tested::store_wrapped))]
+    #[tactic(auto, using(s370_state::proofs::Laws::no_words, s370_state::proofs::Laws::more_words, s370_state::proofs::Laws::store_part, s370_state::proofs::Laws::store_wrapped))]
     fn put_words(&mut self, at: Addr, from: &[u32]) {
         for i in 0..from.len() {
             self.put_word(at.plus(4 * i as u32), from[i]);
@@ -164,14 +164,14 @@ impl Space for PlainSpace {
         }
     }
 
-    #[tactic(auto, using(crate::proofs::Stores::none_stored, crate::proofs::Stores::one_stored, crate::proofs::Stores::all_stored, crate::proofs::Tested::store_at))]
+    #[tactic(auto, using(s370_state::proofs::Laws::none_stored, s370_state::proofs::Laws::one_stored, s370_state::proofs::Laws::all_stored, s370_state::proofs::Laws::store_at))]
     fn put_slice(&mut self, at: Addr, from: &[u8]) {
         for i in 0..from.len() {
             self.put(at.plus(i as u32), from[i]);
         }
     }
 
-    #[tactic(auto, using(crate::proofs::Copies::copied_none, crate::proofs::Copies::copied_more, crate::proofs::Tested::reach_at, crate::proofs::Tested::store_at))]
+    #[tactic(auto, using(s370_state::proofs::Laws::copied_none, s370_state::proofs::Laws::copied_more, s370_state::proofs::Laws::reach_at, s370_state::proofs::Laws::store_at))]
     fn copy(&mut self, to: Addr, from: Addr, len: u32) {
         for i in 0..len {
             let byte = self.byte(from.plus(i));

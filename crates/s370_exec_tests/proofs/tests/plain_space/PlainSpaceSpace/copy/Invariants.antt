@@ -1,7 +1,7 @@
 use Rattle.std.proofs.Common.{◌≡◌}
 use Rattle.s370_state.specs.Fields.{copied}
-use Rattle.s370_state.specs.Plain.{memory_of}
-use Rattle.s370_state.proofs.plain_space.PlainSpaceSpace.copy.Given as goal
+use Rattle.s370_exec_tests.specs.Plain.{memory_of}
+use Rattle.s370_exec_tests.proofs.tests.plain_space.PlainSpaceSpace.copy.Given as goal
 
 abbrev pub invariant-loop-i : goal.invariant-loop-i
 invariant-loop-i l =

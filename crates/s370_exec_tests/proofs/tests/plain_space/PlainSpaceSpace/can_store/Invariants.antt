@@ -1,7 +1,7 @@
 use Rattle.std.proofs.Common.{◌≡◌, true}
 use Rattle.cov_base.specs.Meaning.{can_store}
-use Rattle.s370_state.specs.Plain.{memory_of}
-use Rattle.s370_state.proofs.plain_space.PlainSpaceSpace.can_store.Given as goal
+use Rattle.s370_exec_tests.specs.Plain.{memory_of}
+use Rattle.s370_exec_tests.proofs.tests.plain_space.PlainSpaceSpace.can_store.Given as goal
 
 abbrev pub invariant-loop-i : goal.invariant-loop-i
 invariant-loop-i l = can_store (memory_of l.self.size l.self.base l.self.image.items l.self.touches.items) l.at l.i ≡ true

@@ -1,7 +1,7 @@
 use Rattle.std.proofs.Common.{◌≡◌, ◌+◌, ◌-◌, arith}
-use Rattle.s370_state.specs.Plain.{memory_of}
-use Rattle.s370_state.proofs.Copies.{bytes_inside}
-use Rattle.s370_state.proofs.plain_space.PlainSpaceSpace.slice.Goals as goal
+use Rattle.s370_exec_tests.specs.Plain.{memory_of}
+use Rattle.s370_state.proofs.Laws.{bytes_inside}
+use Rattle.s370_exec_tests.proofs.tests.plain_space.PlainSpaceSpace.slice.Goals as goal
 
 pub returns-then-a-n-le16777216 : goal.returns-then-a-n-le16777216
 unfolding memory_of
