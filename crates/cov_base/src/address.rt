@@ -6,7 +6,6 @@ use std::alloc::AllocError;
 use std::marker::Model;
 
 /// An address from 0 to 2^24 - 1.
-#[derive(PartialEq, Eq, Hash)]
 pub struct Addr(u32);
 
 impl Model for Addr {

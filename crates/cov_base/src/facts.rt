@@ -5,7 +5,7 @@ ghost use Rattle.cov_base.specs.Meaning.{no_facts, with_fact, has_fact, union, i
 use std::marker::Model;
 
 /// What one execution of an instruction shows.
-#[derive(Clone, Copy, Debug, PartialEq, Eq)]
+#[derive(Clone, Copy)]
 pub enum Fact {
     /// It was begun; for an instruction that is no conditional branch.
     Ran,
@@ -16,7 +16,7 @@ pub enum Fact {
 }
 
 /// Whether the original instruction at a place may both branch and fall through.
-#[derive(Clone, Copy, Debug, PartialEq, Eq)]
+#[derive(Clone, Copy)]
 pub enum Kind {
     /// Every instruction that is no conditional branch, unconditional branches among them.
     Straight,

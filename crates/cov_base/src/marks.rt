@@ -6,7 +6,7 @@ ghost use Rattle.cov_base.specs.Meaning.{is_within, mark_of, branch_mark};
 use crate::facts::{Bits, Fact, Kind};
 
 /// The mark of a listing line.
-#[derive(Clone, Copy, Debug, PartialEq, Eq)]
+#[derive(Clone, Copy)]
 pub enum Mark {
     /// A text line: blank.
     Text,

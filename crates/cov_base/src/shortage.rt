@@ -2,7 +2,7 @@
 use std::alloc::{AllocError, AllocFailed};
 
 /// A growth of some vector or map was refused by the allocator.
-#[derive(Clone, Copy, Debug, PartialEq, Eq)]
+#[derive(Clone, Copy, Debug)]
 pub struct NoMemory;
 
 impl From<AllocError> for NoMemory {

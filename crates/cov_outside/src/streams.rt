@@ -6,7 +6,7 @@ ghost use Rattle.std.specs.Io.KnownBytes.{ReadConsumes, WriteAppends};
 ghost use Rattle.cov_outside.specs.Causes.{HasCause};
 
 /// A fault of the device, which its count has.
-#[derive(Clone, Copy, Debug, PartialEq, Eq)]
+#[derive(Clone, Copy)]
 pub struct Failed;
 
 /// A device that gives bytes. Its count of faults never falls; at its end, 2^64 - 1, it needn't rise.

@@ -63,7 +63,7 @@ impl Source for SureSource {
 }
 
 /// Takes each piece whole, keeps nothing, and never fails.
-#[derive(Clone, Copy, Debug)]
+#[derive(Clone, Copy)]
 pub struct SureSink;
 
 impl SureSink {

@@ -9,7 +9,7 @@ use crate::streams::{Failed, Sink, Source};
 use std::alloc::{AllocError, Global};
 
 /// Why an input was not read whole.
-#[derive(Clone, Copy, Debug, PartialEq, Eq)]
+#[derive(Clone, Copy)]
 pub enum ReadFault {
     /// The source failed.
     Failed,

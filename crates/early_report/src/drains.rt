@@ -15,7 +15,7 @@ use std::alloc::{AllocError, Global};
 use std::marker::Model;
 
 /// How far a drain has come.
-#[derive(Clone, Copy, Debug, PartialEq, Eq)]
+#[derive(Clone, Copy)]
 pub enum Stage {
     /// Its session isn't closed yet, or never will be.
     Unused,
@@ -28,7 +28,7 @@ pub enum Stage {
 }
 
 /// What a poll has found: a task that still has the number that was noted of it, or none.
-#[derive(Clone, Copy, Debug, PartialEq, Eq)]
+#[derive(Clone, Copy)]
 pub enum Poll {
     Pending { task: TaskNo, number: u64 },
     Drained,

@@ -15,7 +15,7 @@ use session_book::Job;
 use std::alloc::Global;
 
 /// Why no whole evidence was written.
-#[derive(Clone, Copy, Debug, PartialEq, Eq)]
+#[derive(Clone, Copy)]
 pub enum ProveFault {
     /// The sink failed, and its count of faults has it.
     Failed,

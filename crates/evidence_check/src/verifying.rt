@@ -17,7 +17,7 @@ use session_book::Job;
 use std::alloc::Global;
 
 /// Why marks and evidence were not verified.
-#[derive(Clone, Copy, Debug, PartialEq, Eq)]
+#[derive(Clone, Copy)]
 pub enum VerifyFault {
     /// The offset, from the evidence's first byte, of the first field that breaks its rule or is cut short by the end,
     /// or of what stands behind the last entry.

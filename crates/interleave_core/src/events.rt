@@ -36,5 +36,5 @@ pub enum Shown {
 }
 
 /// The event isn't possible in the core as it stands.
-#[derive(Clone, Copy, Debug, PartialEq, Eq)]
+#[derive(Clone, Copy)]
 pub struct NotPossible;

@@ -5,7 +5,7 @@ use module_area::Cell;
 use s370_state::Ending;
 
 /// What is to be done with a cell in hand before the instruction is executed.
-#[derive(Clone, Copy, Debug, PartialEq, Eq)]
+#[derive(Clone, Copy)]
 pub enum Due {
     Marking,
     Lifting,

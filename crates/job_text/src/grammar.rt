@@ -1,7 +1,7 @@
 //! The grammars of jobs.
 
 /// Which cards a job may have.
-#[derive(Clone, Copy, Debug, PartialEq, Eq)]
+#[derive(Clone, Copy)]
 pub enum Grammar {
     /// All but SERVICE.
     Plain,

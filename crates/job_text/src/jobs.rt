@@ -21,7 +21,7 @@ pub struct ReadJob {
 }
 
 /// What ends the reading of a job.
-#[derive(Clone, Copy, Debug, PartialEq, Eq)]
+#[derive(Clone, Copy)]
 pub enum JobFault {
     /// The first line, counted from 1, with which no job continues; one more than the number of lines where the
     /// input ends early.

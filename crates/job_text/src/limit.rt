@@ -1,7 +1,7 @@
 //! What is limited.
 
 /// A quantity with a limit, in the order in which limits are told. cov_base has the limits, as `MODULE_LIMIT`.
-#[derive(Clone, Copy, Debug, PartialEq, Eq)]
+#[derive(Clone, Copy)]
 pub enum Limit {
     /// Bytes of input.
     Input,

@@ -14,7 +14,7 @@ use crate::taken::Taken;
 use std::alloc::Global;
 
 /// What became of a piece.
-#[derive(Clone, Copy, Debug, PartialEq, Eq)]
+#[derive(Clone, Copy)]
 pub enum Fed {
     /// The job goes on behind the piece.
     More,

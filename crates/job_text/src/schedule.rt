@@ -7,7 +7,7 @@ use cov_base::{Name, TaskNo};
 use session_book::Job;
 
 /// What a line of a schedule asks for, of the task whose number in the job it holds.
-#[derive(Clone, Copy, Debug, PartialEq, Eq)]
+#[derive(Clone, Copy)]
 pub enum Item {
     /// `FETCH task`
     Fetch(TaskNo),

@@ -4,7 +4,7 @@ ghost use Rattle.listing_lines.specs.Meaning.{column, columns_of};
 ghost use Rattle.listing_lines.specs.Columns.{AreColumns};
 
 /// How wide a listing is.
-#[derive(Clone, Copy, Debug, PartialEq, Eq)]
+#[derive(Clone, Copy)]
 pub enum Width {
     /// 121 columns: locations of six digits.
     Narrow,

@@ -13,7 +13,7 @@ pub enum Line {
 }
 
 /// Why a listing is refused.
-#[derive(Clone, Copy, Debug, PartialEq, Eq)]
+#[derive(Clone, Copy)]
 pub enum ListFault {
     /// No line is a heading.
     NoHeading,

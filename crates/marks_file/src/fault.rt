@@ -4,7 +4,7 @@ use cov_base::NoMemory;
 use std::alloc::{AllocError, AllocFailed};
 
 /// Why no marks file was read.
-#[derive(Clone, Copy, Debug, PartialEq, Eq)]
+#[derive(Clone, Copy)]
 pub enum MarksFault {
     /// The offset, from the input's first byte, of the first field that breaks its rule or is cut short by the end.
     BadMarks { offset: usize },

@@ -5,7 +5,7 @@ ghost use Rattle.refusals.specs.Meaning.{IsWritten, sink_change};
 use cov_outside::{Failed, Sink, write_all};
 
 /// How the program ends: 0 where the command was served, else the number of the refusal, 1 to 16.
-#[derive(Clone, Copy, Debug, PartialEq, Eq)]
+#[derive(Clone, Copy)]
 pub struct Status(pub u8);
 
 /// The status of a text: 0 where it was written whole, and 6 where the sink failed.

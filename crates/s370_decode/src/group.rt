@@ -5,7 +5,7 @@ ghost use Rattle.s370_decode.specs.Groups.{group_of};
 use crate::op::Op;
 
 /// A group of operations, or how a code without an operation of its own is refused.
-#[derive(Clone, Copy, Debug, PartialEq, Eq)]
+#[derive(Clone, Copy)]
 pub enum Group {
     Fixed,
     Logic,

@@ -1,7 +1,7 @@
 //! Operations, named as their mnemonics (Principles of Operation, Appendix "Lists of Instructions").
 
 /// An operation of the machine, or how a code without one is refused.
-#[derive(Clone, Copy, Debug, PartialEq, Eq)]
+#[derive(Clone, Copy)]
 pub enum Op {
     // Fixed point and loads.
     LR,

@@ -133,7 +133,7 @@ fn a_later_halfword_that_is_nowhere(rt: HostRuntime) {
     let at = Addr::of(0x10_0000);
     assert!(rt; fetch_rest(&space, at, 0x07FE).is_ok());
     for first in [0x4720, 0xD203] {
-        assert!(rt; fetch_rest(&space, at, first).is_err_and(|e| e == Ending::Abend(5)));
+        assert!(rt; matches!(fetch_rest(&space, at, first), Err(Ending::Abend(5))));
     }
 }
 

@@ -5,7 +5,7 @@ ghost use Rattle.s370_state.specs.Meaning.{next_after};
 use cov_base::Addr;
 
 /// How a task ends.
-#[derive(Clone, Copy, PartialEq, Eq)]
+#[derive(Clone, Copy)]
 pub enum Ending {
     /// Before an instruction the instruction address was X'FFFFFE', `RETURN_ADDRESS`.
     Returned,
@@ -24,7 +24,7 @@ pub enum Ending {
 }
 
 /// How a task goes on after an instruction.
-#[derive(Clone, Copy, PartialEq, Eq)]
+#[derive(Clone, Copy)]
 pub enum Next {
     /// At its instruction address.
     On,

@@ -34,7 +34,7 @@ pub struct Replayed<'a> {
 }
 
 /// Why a schedule isn't played.
-#[derive(Clone, Copy, Debug, PartialEq, Eq)]
+#[derive(Clone, Copy)]
 pub enum ScheduleFault {
     /// The first line of the input, counted from 1, that is no item, is not possible there or stands behind ENDSCHED; one
     /// more than the number of lines where ENDSCHED is missing; 0 where the job hasn't one phase.
@@ -191,7 +191,7 @@ fn play_line<'a>(core: &mut Core<'a>, job: &Job, line: &[u8]) -> Result<Option<P
     ensures stays { Stays core.old core.new }
 {
     let item = item_of(job, line).ok_or(NotPossible)?;
-    if item == Item::End {
+    if let Item::End = item {
         return Ok(None);
     }
     let event = item_event(core, item);

@@ -266,6 +266,20 @@ fn branch_and_return(alloc: Global) -> Result<Plan, Fail>
     Ok(plan)
 }
 
+/// Whether there is one tally, of so many plants, fetches, marks, lifts and closes.
+fn is_only_tally(tallies: &[Tally], counts: [u64; 5]) -> bool {
+    match tallies {
+        [tally] => {
+            tally.plants == counts[0]
+                && tally.fetches == counts[1]
+                && tally.marks == counts[2]
+                && tally.lifts == counts[3]
+                && tally.closes == counts[4]
+        }
+        _ => false,
+    }
+}
+
 #[test]
 fn two_passes_share_the_sets(rt: HostRuntime) -> Result<(), Fail> {
     let alloc = rt.alloc();
@@ -277,14 +291,7 @@ fn two_passes_share_the_sets(rt: HostRuntime) -> Result<(), Fail> {
         [(true, false), (true, true), (false, false), (true, true)]
     );
     assert!(rt; branch && back);
-    let tally = Tally {
-        plants: 2,
-        fetches: 4,
-        marks: 3,
-        lifts: 2,
-        closes: 0,
-    };
-    assert_eq!(rt; areas.ledger(), [tally].as_slice());
+    assert!(rt; is_only_tally(areas.ledger(), [2, 4, 3, 2, 0]));
     assert_eq!(rt; areas.finals().len(), 1);
     assert_eq!(rt; areas.made(), 1);
     Ok(())
@@ -297,14 +304,7 @@ fn two_threads_at_one_place(rt: HostRuntime) -> Result<(), Fail> {
     let mut areas = SharedAreas::new(alloc, 1)?;
     let full = at_once(&rt, alloc, &mut areas, &plan)?;
     assert!(rt; full);
-    let tally = Tally {
-        plants: 1,
-        fetches: 2,
-        marks: 2,
-        lifts: 1,
-        closes: 0,
-    };
-    assert_eq!(rt; areas.ledger(), [tally].as_slice());
+    assert!(rt; is_only_tally(areas.ledger(), [1, 2, 2, 1, 0]));
     Ok(())
 }
 
@@ -315,7 +315,8 @@ fn an_area_without_places(rt: HostRuntime) -> Result<(), Fail> {
         "no plan",
     )?;
     let mut areas = SharedAreas::new(alloc, 1)?;
-    assert_eq!(rt; nothing_done(alloc, &mut areas, &plan)?, 0);
+    let sets = nothing_done(alloc, &mut areas, &plan)?;
+    assert_eq!(rt; sets, 0);
     assert_eq!(rt; areas.made(), 1);
     Ok(())
 }

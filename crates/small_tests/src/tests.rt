@@ -1,4 +1,8 @@
 //! What no clause says of some crates: each file is of the one that its name tells.
+use cov_base::LINE_LIMIT;
+use listing_lines::ListingLines;
+use std::test::Fail;
+
 mod of_annotator;
 mod of_brk_table;
 mod of_count_session;
@@ -13,3 +17,13 @@ mod of_report_text;
 mod of_s370_decode;
 mod of_space_map;
 mod of_table_combine;
+
+const HEADING: &[u8] = b"  Loc  Object Code    Addr1 Addr2  Stmt   Source Statement";
+
+/// Adds a line; one that is too long is left out.
+fn add_line(lines: &mut ListingLines, text: &[u8]) -> Result<(), Fail> {
+    if text.len() <= LINE_LIMIT && lines.push(text).is_err() {
+        return Err(Fail::from("no memory"));
+    }
+    Ok(())
+}

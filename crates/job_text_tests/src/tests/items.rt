@@ -70,11 +70,26 @@ static ITEMS: [(&[u8], Option<Item>); 47] = [
     (b"FETCH A\0", None),
 ];
 
+/// Whether the item is the one that is wanted, or there is none and none is wanted.
+fn is_item(item: Option<Item>, wanted: Option<Item>) -> bool {
+    match (item, wanted) {
+        (None, None) | (Some(Item::End), Some(Item::End)) => true,
+        (Some(Item::Fetch(task)), Some(Item::Fetch(wanted)))
+        | (Some(Item::Mark(task)), Some(Item::Mark(wanted)))
+        | (Some(Item::Lift(task)), Some(Item::Lift(wanted)))
+        | (Some(Item::Do(task)), Some(Item::Do(wanted)))
+        | (Some(Item::Go(task)), Some(Item::Go(wanted)))
+        | (Some(Item::Plant(task)), Some(Item::Plant(wanted)))
+        | (Some(Item::Close(task)), Some(Item::Close(wanted))) => task.0 == wanted.0,
+        _ => false,
+    }
+}
+
 /// The first line that is read as another item.
 fn wrong_item(job: &Job) -> Option<usize> {
     for n in 0..47 {
         let (line, item) = ITEMS[n];
-        if item_of(job, line) != item {
+        if !is_item(item_of(job, line), item) {
             return Some(n);
         }
     }

@@ -12,14 +12,14 @@ const SAMPLE: &[u8] =
 const PROFILE: &[u8] =
     b"COVERJOB 1\nMODULE MAIN 100000 18\nTEXT 4110F00C5010001007FE0700C1C2000007FE\nLISTING 13\n1                                 A SAMPLE\n-  Loc  Object Code    Addr1 Addr2  Stmt   Source Statement\r\n 000000                00000 0000E     1 MAIN     CSECT\n 000000 4110 F00C            0000C     2          LA    1,12(,15)\n                                       3          KEEP  1\n 000004 5010 0010            00010     4+         ST    1,16\r\n 000008 07FE                           5          BR    14\n 00000A 0700                           6          CNOP  0,4\n 00000C C1C2                           7 BUF      DC    C'AB'\n 000000                00000 00004     8 AREA     DSECT\n 000000                                9 F1       DS    F\n 000010                00010 00002    10 TAIL     CSECT\n 000010 07FE                          11          BR    14\nPHASE P\nSESSION S MAIN\nTASK A 100000 32 100 0\nREG 1 00000001\nDATA 4 C1C2\nINPUT D1\nENDJOB\n";
 
-/// Whether it is a job; the number of its lines and its end, or the line of its fault and the limit that it passes.
-type Told = (bool, u32, usize, Option<Limit>);
+/// Whether it is a job; the number of its lines and its end, or the line of its fault and the limit that it passes, as a number.
+type Told = (bool, u32, usize, Option<u8>);
 
 fn told(answer: &Result<ReadJob, JobFault>) -> Told {
     match answer {
         Ok(read) => (true, read.lines, read.end, None),
         Err(JobFault::BadJob { line }) => (false, *line, 0, None),
-        Err(JobFault::TooLarge { what, line }) => (false, *line, 0, Some(*what)),
+        Err(JobFault::TooLarge { what, line }) => (false, *line, 0, Some(*what as u8)),
         Err(JobFault::NoMemory) => (false, 0, 0, None),
     }
 }
@@ -127,8 +127,7 @@ fn takes_a_job_in_pieces(rt: HostRuntime) -> Result<(), Fail> {
     Ok(())
 }
 
-/// An input, how many of its bytes were fed when it told, and what it told: a job's lines and its end, or the line of a
-/// fault and the limit that it passes.
+/// An input, how many of its bytes were fed when it told, and what it told.
 static ENDS: [(&[u8], usize, Told); 12] = [
     (b"", 0, (false, 1, 0, None)),
     (b"\n", 1, (false, 1, 0, None)),
@@ -147,7 +146,7 @@ static ENDS: [(&[u8], usize, Told); 12] = [
     (
         b"COVERJOB 1\nMODULE M 100000 262146\nTEXT 00\n",
         34,
-        (false, 2, 0, Some(Limit::Size)),
+        (false, 2, 0, Some(Limit::Size as u8)),
     ),
     (
         b"COVERJOB 1\nPHASE P\nENDJOB\r\nENDJOB\n",

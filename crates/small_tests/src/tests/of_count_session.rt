@@ -154,15 +154,10 @@ fn two_passes_in_turn(rt: HostRuntime) -> Result<(), Fail> {
     let alloc = rt.alloc();
     let plan = three_places(alloc)?;
     let (shown, counts) = in_turn(alloc, &plan)?;
-    let planted = Cell {
-        tag: 1,
-        half: 0x0AFF,
-    };
-    let original = Cell {
-        tag: 0,
-        half: 0x1A12,
-    };
-    assert_eq!(rt; shown, [planted, planted, planted, planted, original]);
+    for n in 0..4 {
+        assert!(rt; shown[n].tag == 1 && shown[n].half == 0x0AFF);
+    }
+    assert!(rt; shown[4].tag == 0 && shown[4].half == 0x1A12);
     assert_eq!(rt; counts, [2, 1, 0, 1, 0, 0]);
     Ok(())
 }
@@ -171,6 +166,7 @@ fn two_passes_in_turn(rt: HostRuntime) -> Result<(), Fail> {
 fn two_threads_lose_no_count(rt: HostRuntime) -> Result<(), Fail> {
     let alloc = rt.alloc();
     let plan = three_places(alloc)?;
-    assert_eq!(rt; at_once(&rt, alloc, &plan, 100_000)?, 200_000);
+    let count = at_once(&rt, alloc, &plan, 100_000)?;
+    assert_eq!(rt; count, 200_000);
     Ok(())
 }

@@ -61,8 +61,8 @@ impl Read for Halting {
 fn come_whole(alloc: Global) -> Result<bool, Fail> {
     let text = Vec::from_slice(alloc, &[b'T'; 200])?;
     let mut source = MemSource::new(text, 64, Vec::new(alloc));
-    let read = read_all(alloc, &mut source, 200)?;
-    Ok(read.as_slice() == [b'T'; 200].as_slice() && source.faults() == 0)
+    let read = read_all(alloc, &mut source, 200);
+    Ok(matches!(&read, Ok(all) if all.as_slice() == [b'T'; 200].as_slice()) && source.faults() == 0)
 }
 
 /// Reads three bytes in pieces of two, of which it takes so many at most.
@@ -77,8 +77,8 @@ fn read_sure(alloc: Global, limit: usize) -> Result<Result<Vec<u8>, ReadFault>, 
 fn reads_pieces_to_the_end(rt: HostRuntime) -> Result<(), Fail> {
     let alloc = rt.alloc();
     assert!(rt; come_whole(alloc)?);
-    assert!(rt; read_sure(alloc, 3)??.as_slice() == b"ABC".as_slice());
-    assert!(rt; read_sure(alloc, 2)?.err() == Some(ReadFault::TooLarge));
+    assert!(rt; matches!(&read_sure(alloc, 3)?, Ok(all) if all.as_slice() == b"ABC".as_slice()));
+    assert!(rt; matches!(read_sure(alloc, 2)?.err(), Some(ReadFault::TooLarge)));
     Ok(())
 }
 
@@ -88,8 +88,12 @@ fn third_read_fails(alloc: Global) -> Result<bool, Fail> {
     let mut source = MemSource::new(text, 64, Vec::from_slice(alloc, &[3])?);
     let first = read_all(alloc, &mut source, 200).err();
     let faults = source.faults();
-    let rest = read_all(alloc, &mut source, 200)?;
-    Ok(first == Some(ReadFault::Failed) && faults == 1 && rest.len() == 72)
+    let rest = read_all(alloc, &mut source, 200);
+    Ok(
+        matches!(first, Some(ReadFault::Failed))
+            && faults == 1
+            && matches!(&rest, Ok(left) if left.len() == 72),
+    )
 }
 
 #[test]
@@ -100,11 +104,11 @@ fn fails_at_the_third_read(rt: HostRuntime) -> Result<(), Fail> {
 
 /// Whether a sink of ten bytes, which takes four at a time, fails at its second write and where it is full.
 fn second_write_fails(sink: &mut MemSink) -> bool {
-    write_all(sink, b"ABCDEF") == Err(Failed)
+    matches!(write_all(sink, b"ABCDEF"), Err(Failed))
         && sink.bytes() == b"ABCD".as_slice()
         && sink.faults() == 1
-        && write_all(sink, b"EF") == Ok(())
-        && write_all(sink, b"GHIJKL") == Err(Failed)
+        && matches!(write_all(sink, b"EF"), Ok(()))
+        && matches!(write_all(sink, b"GHIJKL"), Err(Failed))
         && sink.bytes() == b"ABCDEFGHIJ".as_slice()
         && sink.faults() == 2
 }
@@ -123,7 +127,7 @@ fn mem_sink(alloc: Global, room: usize, piece: usize, fail: &[u64]) -> Result<Me
 fn fails_at_the_second_write_and_where_it_is_full(rt: HostRuntime) -> Result<(), Fail> {
     let mut sink = mem_sink(rt.alloc(), 10, 4, &[2])?;
     assert!(rt; second_write_fails(&mut sink));
-    assert!(rt; write_all(&mut SureSink::new(), b"ABC") == Ok(()));
+    assert!(rt; matches!(write_all(&mut SureSink::new(), b"ABC"), Ok(())));
     Ok(())
 }
 
@@ -131,26 +135,26 @@ fn fails_at_the_second_write_and_where_it_is_full(rt: HostRuntime) -> Result<(),
 fn counts_a_read() -> bool {
     let mut source = StdSource::new(Halting { calls: 0 });
     let mut buf = [0; 8];
-    source.read(&mut buf) == Ok(1)
+    matches!(source.read(&mut buf), Ok(1))
         && source.faults() == 0
-        && source.read(&mut buf) == Err(Failed)
+        && matches!(source.read(&mut buf), Err(Failed))
         && source.faults() == 1
-        && source.read(&mut buf) == Ok(1)
+        && matches!(source.read(&mut buf), Ok(1))
         && source.faults() == 1
 }
 
 /// Whether a sink that takes nothing fails at a write, and counts that.
 fn counts_a_write() -> bool {
     let mut sink = StdSink::new(Stuck);
-    sink.write(b"A") == Err(Failed) && sink.faults() == 1
+    matches!(sink.write(b"A"), Err(Failed)) && sink.faults() == 1
 }
 
 /// Whether a sink over a writer that holds a byte fails as that can't be handed on, and counts that.
 fn counts_a_flush<W: Write + Drop>(writer: BufWriter<W>) -> bool {
     let mut sink = StdSink::new(writer);
-    sink.write(b"A") == Ok(1)
+    matches!(sink.write(b"A"), Ok(1))
         && sink.faults() == 0
-        && sink.flush() == Err(Failed)
+        && matches!(sink.flush(), Err(Failed))
         && sink.faults() == 1
 }
 
@@ -166,7 +170,7 @@ fn counts_the_faults_of_std(rt: HostRuntime) -> Result<(), Fail> {
 /// Whether a buffer takes 455 pieces of nine bytes, and the sink has then no call.
 fn takes_pieces(buffer: &mut WriteBuffer, sink: &mut MemSink) -> bool {
     for _i in 0..455 {
-        if buffer.put(sink, b"ABCDEFGHI") != Ok(()) {
+        if !matches!(buffer.put(sink, b"ABCDEFGHI"), Ok(())) {
             return false;
         }
     }
@@ -175,19 +179,21 @@ fn takes_pieces(buffer: &mut WriteBuffer, sink: &mut MemSink) -> bool {
 
 /// Whether the buffer gives its bytes with the next piece, and the rest at a flush.
 fn gives_pieces(buffer: &mut WriteBuffer, sink: &mut MemSink) -> bool {
-    buffer.put(sink, b"JKLMNOPQR") == Ok(())
+    matches!(buffer.put(sink, b"JKLMNOPQR"), Ok(()))
         && sink.calls() == 1
         && sink.bytes().len() == 4096
-        && buffer.flush(sink) == Ok(())
+        && matches!(buffer.flush(sink), Ok(()))
         && sink.calls() == 2
         && sink.bytes().len() == 4104
         && &sink.bytes()[4094..] == b"IJKLMNOPQR".as_slice()
-        && buffer.flush(sink) == Ok(())
+        && matches!(buffer.flush(sink), Ok(()))
 }
 
 /// Whether it gives a long piece at once.
 fn gives_a_long_piece(buffer: &mut WriteBuffer, sink: &mut MemSink) -> bool {
-    buffer.put(sink, &[b'T'; 9000]) == Ok(()) && sink.calls() == 4 && sink.bytes().len() == 13_104
+    matches!(buffer.put(sink, &[b'T'; 9000]), Ok(()))
+        && sink.calls() == 4
+        && sink.bytes().len() == 13_104
 }
 
 #[test]
@@ -202,10 +208,10 @@ fn a_buffer_gives_when_it_is_full(rt: HostRuntime) -> Result<(), Fail> {
 
 /// Whether a buffer whose bytes a sink has refused gives those that come later alone.
 fn gives_later_bytes(buffer: &mut WriteBuffer, sink: &mut MemSink) -> bool {
-    buffer.put(sink, b"ABC") == Ok(())
-        && buffer.flush(sink) == Err(Failed)
-        && buffer.put(sink, b"DE") == Ok(())
-        && buffer.flush(sink) == Ok(())
+    matches!(buffer.put(sink, b"ABC"), Ok(()))
+        && matches!(buffer.flush(sink), Err(Failed))
+        && matches!(buffer.put(sink, b"DE"), Ok(()))
+        && matches!(buffer.flush(sink), Ok(()))
         && sink.bytes() == b"DE".as_slice()
 }
 

@@ -1,12 +1,10 @@
 //! Listings as the assembler lays them out, and lines with one thing changed.
-use cov_base::{LINE_LIMIT, NoMemory};
+use super::{HEADING, add_line};
 use listing_lines::ListingLines;
 use listing_reader::{Line, ListFault, Listing, read_listing};
 use std::alloc::Global;
 use std::process::Abort;
 use std::test::Fail;
-
-const HEADING: &[u8] = b"  Loc  Object Code    Addr1 Addr2  Stmt   Source Statement";
 
 /// A page with print control characters.
 static PAGE: [&[u8]; 13] = [
@@ -58,16 +56,14 @@ fn none_wrong<T: Abort>(rt: &T, wrong: Option<usize>) {
 }
 
 /// What the line of that index says.
-fn read(alloc: Global, texts: &[&[u8]], at: usize, lower: bool) -> Result<Says, NoMemory> {
+fn read(alloc: Global, texts: &[&[u8]], at: usize, lower: bool) -> Result<Says, Fail> {
     let mut lines = ListingLines::new(alloc);
     for text in texts {
         let mut bytes = text.to_vec(alloc)?;
         if lower {
             bytes.make_ascii_lowercase();
         }
-        if bytes.len() <= LINE_LIMIT {
-            lines.push(&bytes)?;
-        }
+        add_line(&mut lines, &bytes)?;
     }
     if lines.len() > 100 {
         return Ok(Says::Nothing);
@@ -78,7 +74,7 @@ fn read(alloc: Global, texts: &[&[u8]], at: usize, lower: bool) -> Result<Says, 
     }
 }
 
-fn plain(alloc: Global, text: &[u8]) -> Result<Says, NoMemory> {
+fn plain(alloc: Global, text: &[u8]) -> Result<Says, Fail> {
     let page: [&[u8]; 2] = [HEADING, text];
     read(alloc, &page, 1, false)
 }
@@ -102,7 +98,7 @@ static SAID: [Says; 14] = [
 ];
 
 /// The first line of the page that says something else.
-fn wrong_on_page(alloc: Global, lower: bool) -> Result<Option<usize>, NoMemory> {
+fn wrong_on_page(alloc: Global, lower: bool) -> Result<Option<usize>, Fail> {
     for at in 0..14 {
         if read(alloc, &PAGE, at, lower)? != SAID[at] {
             return Ok(Some(at));
@@ -167,7 +163,7 @@ static LINES: [(&[u8], Says); 13] = [
 ];
 
 /// The first of the lines that says something else.
-fn wrong_line(alloc: Global) -> Result<Option<usize>, NoMemory> {
+fn wrong_line(alloc: Global) -> Result<Option<usize>, Fail> {
     for n in 0..13 {
         let (line, expected) = LINES[n];
         if plain(alloc, line)? != expected {
@@ -196,7 +192,7 @@ static REFUSED: [&[u8]; 8] = [
 ];
 
 /// The first of the lines that is not refused.
-fn read_line(alloc: Global) -> Result<Option<usize>, NoMemory> {
+fn read_line(alloc: Global) -> Result<Option<usize>, Fail> {
     for n in 0..8 {
         if plain(alloc, REFUSED[n])? != Says::Bad(2) {
             return Ok(Some(n));
@@ -272,7 +268,7 @@ fn with_byte(
     line: &[u8],
     column: usize,
     byte: u8,
-) -> Result<Says, NoMemory> {
+) -> Result<Says, Fail> {
     let mut changed = line.to_vec(alloc)?;
     let at = column.wrapping_sub(1);
     if at < changed.len() {
@@ -289,7 +285,7 @@ fn says_so(
     to: usize,
     byte: u8,
     expected: Says,
-) -> Result<bool, NoMemory> {
+) -> Result<bool, Fail> {
     for column in from..to {
         let says = if wide {
             with_byte(alloc, WIDE_HEADING, WIDE_LINE, column, byte)?
@@ -312,7 +308,7 @@ fn says_of(changed: Changed) -> Says {
 }
 
 /// The first change after which the line says something else.
-fn wrong_change(alloc: Global) -> Result<Option<usize>, NoMemory> {
+fn wrong_change(alloc: Global) -> Result<Option<usize>, Fail> {
     for n in 0..22 {
         let (wide, from, to, byte, changed) = CHANGED[n];
         if !says_so(alloc, wide, from, to, byte, says_of(changed))? {
@@ -387,7 +383,7 @@ static WIDE: [(&[u8], &[u8], &[u8], Says); 9] = [
 ];
 
 /// The first of the lines that says something else.
-fn wrong_wide(alloc: Global) -> Result<Option<usize>, NoMemory> {
+fn wrong_wide(alloc: Global) -> Result<Option<usize>, Fail> {
     for n in 0..9 {
         let (first, second, line, expected) = WIDE[n];
         if read(alloc, &[first, second, line], 2, false)? != expected {

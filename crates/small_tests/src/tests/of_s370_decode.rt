@@ -138,8 +138,8 @@ fn each_code_has_its_operation(rt: HostRuntime) {
         let want = CODES.iter().find(|row| row.0 == code).map(|row| row.1);
         for second in [0, 0xFF] {
             assert_eq!(rt;
-                op_of(code * 256 + second),
-                want.unwrap_or(Op::Unknown),
+                op_of(code * 256 + second) as u8,
+                want.unwrap_or(Op::Unknown) as u8,
                 "at {code}"
             );
         }
@@ -169,14 +169,14 @@ fn kinds_follow_mask_and_second_register(rt: HostRuntime) {
         0x4710, 0x47E0, 0x47EF, 0x071E, 0x07E1, 0x4600, 0x4630, 0x0601, 0x063F, 0x8600, 0x87FF,
     ];
     for half in conditional {
-        assert_eq!(rt; kind(half), Kind::Conditional, "at {half}");
+        assert!(rt; kind(half) == Kind::Conditional, "at {half}");
     }
     let straight = [
         0x4700, 0x47F0, 0x470F, 0x07FE, 0x070E, 0x07E0, 0x0600, 0x06F0, 0x45E0, 0x05EF, 0x4400,
         0x0A03, 0x1812, 0x8800,
     ];
     for half in straight {
-        assert_eq!(rt; kind(half), Kind::Straight, "at {half}");
+        assert!(rt; kind(half) == Kind::Straight, "at {half}");
     }
 }
 
