@@ -7,7 +7,9 @@ from harness import TOP, equal
 # A name and its equality, and what searches names.
 OWN = ("cov_base", "names")
 # Two names of which neither is searched, and what finds a name in a job that was read.
-COMPARED = {"job_text/src/drafts.rt: is_same_controller", "session_book/src/job.rt: session_index", "session_book/src/job.rt: task_index"}
+COMPARED = {
+    "job_text/src/drafts.rt: is_same_controller", "session_book/src/job.rt: session_index", "session_book/src/job.rt: task_index",
+}
 FUNCTION = re.compile(r"^ *(?:pub(?:\([^)]*\))? )?fn (\w+)", re.M)
 CLAUSE = re.compile(r"^ *(?:ensures|requires|ghost)\b.*$", re.M)
 # A name, or its bytes, by field or variable; a phase, which is its name; a call that compares a name.
