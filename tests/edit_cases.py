@@ -1,98 +1,303 @@
-"""scripts/more_edits.py: whether each edit can be applied here, and what it has tried by a toolchain that only pretends."""
+"""scripts/edits.py: whether each edit can be applied here, and what comes of edits by a toolchain that only pretends."""
 from __future__ import annotations
 
 import os
 import signal
 import subprocess
 import sys
+from typing import Iterator
 
 from build_cases import Copy, copy, wait_for
 from harness import SECONDS, TOP, Ran, equal, interruptible, refused, run, well
 
-# It notes its words and what lies in its folder, and says what came of each edit: a file says which is let through.
+sys.path.insert(0, f"{TOP}/scripts")
+
+from edit_files import name_of_impl
+
+# It tells its line, and proves the crates of a room: of each it leaves a library there.
 RT = """#!/usr/bin/env bash
-{ echo "$*"; find . -type f | sort; cat crates.txt crates/*/must-fail/*; } >> "$TEST_TOP/asked"
-[ -e "$TEST_TOP/hold" ] && { echo $$ > "$TEST_TOP/held"; exec sleep 300; }
-status=0
+[ "$1" = version ] && { cat "$TEST_TOP/version"; exit; }
+echo "$*" >> "$TEST_TOP/asked"
 [ -d .git ] || exit 2
-for edit in crates/*/must-fail/*; do
-  crate=${edit#crates/} crate=${crate%%/*} name=${edit##*/} came=', as it must be: why'
-  [ -e "$TEST_TOP/open-$crate" ] && came='NOT REFUSED: the crate is still proved' status=1
-  [ -e "$TEST_TOP/bad-$crate" ] && came='BAD EDIT: the prover cannot read it'
-  echo "rt: must-fail $crate/$name: ${came/#, as/refused, as}"
-done
-exit $status
+[ -e "$TEST_TOP/hold-ci" ] && { echo $$ > "$TEST_TOP/held"; exec sleep 300; }
+[ -e "$TEST_TOP/open" ] && { echo 'rt: low NOT PROVED'; exit 1; }
+while IFS=: read -r crate _; do mkdir -p crates/$crate/out/rlib/$crate.rlib; done < crates.txt
+"""
+# The words of a check, by the toolchain's module.
+MODULE = """import os
+RATTLE = os.path.dirname(os.path.realpath(__file__)) + "/rattle"
+
+
+class Crate:
+    def __init__(self, folder, root, known):
+        self.folder, self.root = folder, root
+
+    def words(self, flags, keeps):
+        return [self.folder, *flags]
+"""
+# A check: what a function says stands in its body, `let NAME = WORD;`, and the word tells what comes of it.
+RATTLE = """#!/usr/bin/env python3
+import glob, os, re, signal, sys, time
+top, (verb, crate, *words) = os.environ["TEST_TOP"], sys.argv[1:]
+only = [words[at + 1] for at, it in enumerate(words) if it == "--only"]
+name = os.path.basename(crate)
+where = "here" if crate.startswith(top + "/crates/") else "a room"
+assert verb == "check" and words[:2] == ["--jobs", "1"] and (where == "here" or os.path.isdir(f"{crate}/out/rlib/{name}.rlib"))
+with open(f"{top}/asked", "a") as file:
+    file.write(f"check {name} over {where}: {' '.join(only)}\\n")
+lines = [(path, number, line) for path in sorted(glob.glob("src/**/*.rt", recursive=True))
+         for number, line in enumerate(open(path), 1)]
+says = {found[1]: found[2] for *_, line in lines for found in [re.match(r" *let (\\w+) = (\\w+);", line)] if found}
+for path, number, line in lines:
+    if "nonsense" in line:
+        sys.exit(f"{path}:{number}:5: error: nonsense isn't in scope")
+if "held" in says.values():
+    with open(f"{top}/held", "w") as file:
+        file.write(str(os.getpid()))
+    time.sleep(300)
+if "killed" in says.values():
+    os.kill(os.getpid(), signal.SIGKILL)
+for it in only:
+    if it.split("::")[-1] not in says:
+        sys.exit(f"error: `{it}` fits no function")
+for it in only:
+    last = it.split("::")[-1]
+    word, files = says[last], "./proofs/" + it.replace("::", "/")
+    if word == "gone":
+        print(f"{files}/Answers.antt:1:1: error: `x` is not in scope")
+    if word == "spent":
+        print(f"{files}/Answers.antt:1:1: error: antt ran out of the steps")
+    if word == "differs":
+        print(f"{files}/Answers.antt:2:1: error: `y`: expected 1, found 2")
+    called = word.removeprefix("calls_")
+    print(f"fn {name}::{it}: " + (
+        "proved" if word in ("good", "same") else
+        f"not proved; it calls `{name}::{called}`, which is not proved" if word != called and says[called] != "good" else
+        "not proved" if word in ("gone", "spent", "differs") else
+        "could not tell" if word == "unclear" else
+        f"no proof: expected answers in {files}/Answers.antt; `search` did not prove `x`"))
+print(f"only={len(only)} proved=0")
 """
 LISTED = "low:\ncoverage_program: low arrayvec\nother: low\n"
-LOW, TOP_EDIT = "file: src/lib.rt\nold: one\nnew: two\n", "file: src/main.rt\nold: n\nnew:\n"
-# What the toolchain finds for the edits of the crate low.
-OF_LOW = [
-    "ci", "./HANDLES", "./crates.txt", "./crates/low/must-fail/a.edit", "./crates/low/src/lib.rt", "low:", *LOW.splitlines(),
-]
-LOW_REFUSED, TOP_REFUSED = (f"rt: must-fail {it}: refused, as it must be: why\n" for it in ("low/a.edit", "coverage_program/c.edit"))
+SOURCE = """const MOST: u8 = 1;
+
+pub fn first(
+    a: u8,
+) -> u8
+    ensures { result ≡ 1 }
+{
+    let first = good;
+    if a {
+        let other = 2;
+    }
+}
+
+mod inner {
+    pub struct Pair;
+
+    impl<'a, T: Drop> From<Fault<T>> for Pair<'a> {
+        fn second() {
+            let second = good;
+        }
+    }
+}
+"""
+OPEN = "fn low::{0}: no proof: expected answers in ./proofs/{1}/Answers.antt; `search` did not prove `x`"
 
 
-def prepare(it: Copy) -> None:
-    """Gives crates their edits: what lies in must-fail can be applied too."""
-    it.write("bin/rt", RT)
-    for name, text in {
-        "low/more-edits/a.edit": LOW, "low/must-fail/b.edit": LOW, "coverage_program/more-edits/c.edit": TOP_EDIT,
-        "low/out/rlib/stamp": "", "coverage_program/stdin": "given",
-    }.items():
-        os.makedirs(f"{it.at}/crates/{os.path.dirname(name)}", exist_ok=True)
-        it.write(f"crates/{name}", text)
+def body(function: str, word: str, file: str = "lib") -> str:
+    """An edit by which a function says that word."""
+    return f"file: src/{file}.rt\nold: let {function} = good;\nnew: let {function} = {word};\n"
+
+
+def goal(path: str) -> str:
+    """What is told of a function with an open goal."""
+    return f"low::{path}: no proof: expected answers in ./proofs/{path.replace('::', '/')}/Answers.antt; `search` did not prove `x`"
+
+
+def prepare(it: Copy, **edits: str) -> None:
+    """Gives the crate low its source, and these edits, which the gate tries."""
+    for name, text in {"rt": RT, "rtlib.py": MODULE, "rattle": RATTLE}.items():
+        it.write(f"bin/{name}", text)
+        os.chmod(f"{it.at}/bin/{name}", 0o755)
+    it.write("version", "pretended-kit\n")
+    it.write("crates/low/src/lib.rt", SOURCE)
+    for kind in ("edits", "more-edits"):
+        os.makedirs(f"{it.at}/crates/low/{kind}", exist_ok=True)
+    for name, text in edits.items():
+        it.write(f"crates/low/edits/{name}.edit", text)
 
 
 def call(it: Copy, *words: str) -> Ran:
-    return run(["python3", "-B", f"{it.at}/scripts/more_edits.py", *words], env=it.env)
+    return run(["python3", "-B", f"{it.at}/scripts/edits.py", *words], env=it.env)
+
+
+def said(ran: Ran) -> list[str]:
+    return sorted(ran.output.decode().splitlines()[:-1])
+
+
+def last(ran: Ran) -> tuple[int, str]:
+    return ran.status, ran.output.decode().splitlines()[-1]
 
 
 def can_be_applied() -> None:
-    """more_edits: each edit of must-fail and of more-edits can be applied to the sources as they stand"""
-    ran = run(["python3", "-B", f"{TOP}/scripts/more_edits.py", "--look"])
+    """edits: each edit can be applied to the sources as they stand, and the function that it changes is known"""
+    ran = run(["python3", "-B", f"{TOP}/scripts/edits.py", "--look"])
     words = well(ran).output.decode().split()
     assert words[:3] == ["edits", "looked", "at:"] and 250 < int(words[3].rstrip(";")) < 500 and words[4] == "0", ran
 
 
+def are_named() -> None:
+    """edits: what a check calls an impl, by its head"""
+    equal([name_of_impl(it) for it in (
+        "impl Addr", "impl<'a> Core<'a>", "impl<C: Cells<Pass: Send>, const N: usize> Planted<C, N>",
+        "impl<W: Write> StdSink<BufWriter<W>>",
+        "impl Copy for Addr", "impl<'a, C: Cells> Observer for Planted<'a, C>", "impl<T: Drop> From<AllocFailed<T>> for NoMemory",
+        "impl Rank for &u8", "impl<O: Observer> Hook<O> for NoHook", "impl<K: Marking> Play<NoSlot, View> for Read<K>",
+        "impl<T> module::Tr for Of<T> where T: Drop",
+    )], [
+        "Addr", "Core", "Planted", "StdSink+BufWriter+W", "AddrCopy", "PlantedObserver", "NoMemoryFromAllocFailed", "RefU8Rank",
+        "NoHookHook", "ReadPlayNoSlotView", "OfTr",
+    ])
+
+
 def are_tried() -> None:
-    """more_edits: the toolchain tries the edits of each crate in a copy of it and of those below, and what it says counts"""
+    """edits: a crate's edits stand in one check, each is judged by its own function, and those that pass are told"""
+    with copy(LISTED) as it:
+        prepare(it, a=body("first", "wrong"), b=body("second", "differs"))
+        ran = well(call(it))
+        second = "proofs/inner/PairFromFault/second/Answers.antt:2:1: error: `y`: expected 1, found 2"
+        equal(said(ran), [f"low/a: refused: {goal('first')}", f"low/b: refused: ./{second}"])
+        equal(last(ran), (0, "edits tried: 2; each was refused"))
+        equal(it.lines("asked"), ["ci", "check low over a room: first inner::PairFromFault::second"])
+        # The others are tried where they are asked for.
+        it.write("crates/low/more-edits/c.edit", body("first", "same"))
+        equal(well(call(it, "low")).output, b"edits tried: 2, 2 of them before; each was refused\n")
+        ran = call(it, "--all", "low")
+        equal(said(ran), ["low/c: LET THROUGH: low::first is still proved"])
+        equal(last(ran), (1, "edits tried: 3, 2 of them before; not each was refused"))
+        equal((it.rooms(), os.listdir(f"{it.at}/crates/low")), ([], ["src", "edits", "more-edits"]))
+
+
+def are_told_apart() -> None:
+    """edits: a refusal for a name alone, a limit, and what doesn't compile show nothing, and are no refusals"""
+    for word, came in (
+        ("gone", "REFUSED FOR A NAME ALONE: ./proofs/first/Answers.antt:1:1: error: `x` is not in scope"),
+        ("spent", "NO VERDICT: ./proofs/first/Answers.antt:1:1: error: antt ran out of the steps"),
+        ("unclear", "NO VERDICT: low::first: could not tell"),
+        ("nonsense", "REFUSED FOR A NAME ALONE: src/lib.rt:8:5: error: nonsense isn't in scope"),
+        ("killed", "NO VERDICT: the check ended with status -9: "),
+    ):
+        with copy(LISTED) as it:
+            prepare(it, a=body("first", word), b=body("second", "wrong"))
+            ran = call(it)
+            path = "inner::PairFromFault::second"
+            equal((word, said(ran)), (word, [f"low/a: {came}", f"low/b: refused: {goal(path)}"]))
+            equal(last(ran), (1, "edits tried: 2; not each was refused"))
+            # What had no verdict is tried again.
+            well_then = call(it, "low")
+            equal(said(well_then), [f"low/a: {came}"])
+
+
+def stand_apart() -> None:
+    """edits: two of one function stand in two checks, and one that calls another function with an edit is tried again alone"""
+    with copy(LISTED) as it:
+        prepare(it, a=body("first", "wrong"), b=body("first", "differs"), c=body("second", "calls_first"))
+        ran = well(call(it))
+        equal(last(ran), (0, "edits tried: 3; each was refused"))
+        asked = [line.partition(": ")[2] for line in it.lines("asked")[1:]]
+        equal(sorted(asked), ["first", "first inner::PairFromFault::second", "inner::PairFromFault::second"])
+    # It is refused for what it does, or not at all.
+    with copy(LISTED) as it:
+        prepare(it, a=body("first", "wrong"), c=body("second", "calls_first_well").replace("first_well", "first"))
+        it.write("crates/low/edits/d.edit", "function: first\nfile: src/lib.rt\nold: MOST: u8 = 1\nnew: MOST: u8 = 2\n")
+        ran = call(it)
+        equal(said(ran)[2], "low/d: LET THROUGH: low::first is still proved")
+
+
+def are_named_by_themselves() -> None:
+    """edits: where a place is in no function a line must name one, and there must be one of that name"""
+    constant = "file: src/lib.rt\nold: MOST: u8 = 1\nnew: MOST: u8 = 2\n"
+    with copy(LISTED) as it:
+        prepare(it, a=constant)
+        why = "src/lib.rt: its place is in no function, or in one within another: a line function: must say whose proof breaks"
+        refused(call(it), 2, f"crates/low/edits/a.edit: {why}\n")
+        it.write("crates/low/edits/a.edit", f"function: third\n{constant}")
+        ran = call(it)
+        equal(said(ran), ["low/a: NO VERDICT: the check ended with status 1: error: `third` fits no function"])
+
+
+def are_kept() -> None:
+    """edits: a refusal is kept until the edit, its crate, one below, or the toolchain changes; tests change nothing"""
     with copy(LISTED) as it:
         prepare(it)
-        equal(well(call(it, "low")).output.decode(), f"{LOW_REFUSED}edits tried: 1; each was refused\n")
-        equal(it.lines("asked"), OF_LOW)
-        os.remove(f"{it.at}/asked")
-        equal(well(call(it)).output.decode(), f"{TOP_REFUSED}{LOW_REFUSED}edits tried: 2; each was refused\n")
-        asked = it.lines("asked")
-        equal([asked.count(line) for line in ("ci", "coverage_program: low arrayvec", "./crates/coverage_program/stdin")], [1, 1, 1])
-        equal(asked.count("./crates/other/src/lib.rt"), 0)
-        for what in ("open", "bad"):
-            it.write(f"{what}-low", "")
-            ran = call(it)
-            equal((ran.status, ran.output.decode().splitlines()[-1]), (1, "edits tried: 2; not each was refused"))
-            os.remove(f"{it.at}/{what}-low")
-        equal((it.rooms(), os.listdir(f"{it.at}/crates/low/must-fail")), ([], ["b.edit"]))
+        it.write("crates/coverage_program/src/main.rt", "fn main() {\n    let main = good;\n}\n")
+        os.mkdir(f"{it.at}/crates/coverage_program/edits")
+        edit = "crates/coverage_program/edits/a.edit"
+        it.write(edit, body("main", "wrong", "main"))
+
+        def checks() -> int:
+            before = len(it.lines("asked"))
+            well(call(it))
+            return len(it.lines("asked")) - before
+
+        equal([checks(), checks()], [2, 0])
+        for name, text, count in (
+            (edit, body("main", "worse", "main"), 2), ("crates/low/src/lib.rt", "fn other() {}\n", 2),
+            ("crates/low/src/tests.rt", "", 0), ("crates/coverage_program/src/other.rt", "", 2), ("version", "a newer kit\n", 2),
+            ("crates/other/src/lib.rt", "", 0),
+        ):
+            it.write(name, text)
+            equal((name, checks(), checks()), (name, count, 0))
+
+
+def are_here() -> None:
+    """edits: --here takes the libraries that the gate has left, where they are newer than the sources and of no other command"""
+    with copy(LISTED) as it:
+        prepare(it, a=body("first", "wrong"))
+        library = f"{it.at}/crates/low/out/rlib/low.rlib"
+
+        def over() -> str:
+            it.write("crates/low/edits/a.edit", f"{body('first', 'wrong')}# {os.urandom(4).hex()}\n")
+            well(call(it, "--here"))
+            return it.lines("asked")[-1].partition(" over ")[2].partition(":")[0]
+
+        equal(over(), "a room")
+        os.makedirs(library)
+        equal(over(), "here")
+        it.write("crates/low/out/rlib/stamp", "")
+        equal(over(), "a room")
+        os.remove(f"{it.at}/crates/low/out/rlib/stamp")
+        os.utime(library, (1, 1))
+        equal(over(), "a room")
 
 
 def are_refused() -> None:
-    """more_edits: words that it doesn't have, an edit that can't be applied, and a missing toolchain"""
+    """edits: words that it doesn't have, an edit that can't be applied, crates that aren't proved, and a missing toolchain"""
+    first = body("first", "wrong")
     with copy(LISTED) as it:
-        prepare(it)
-        for words in (["--x"], ["low", "--look"]):
-            refused(call(it, *words), 1, "usage: python3 scripts/more_edits.py [--look] [CRATE ..]\n")
-        refused(call(it, "low", "other"), 2, "coverage: other: is no crate with edits in more-edits\n")
-        equal(well(call(it, "--look")).output, b"edits looked at: 3; 0 can't be applied\n")
-        for text, said in (
-            (LOW.replace("one", "two"), "the text of old: stands 0 times in src/lib.rt, and not once: two"),
-            (LOW.replace("one", "o").replace("two", "oo") + "old: o\nnew: e\n", "the text of old: stands 2 times in src/lib.rt, and not once: o"),
-            (LOW.replace("lib.rt", "main.rt"), "there is no file src/main.rt"),
+        prepare(it, a=first)
+        for words in (["--x"], ["low", "--look"], ["--look", "--all"], ["--here", "--all"]):
+            refused(call(it, *words), 1, "usage: python3 scripts/edits.py [--look | --all] [--here] [CRATE ..]\n")
+        refused(call(it, "low", "other"), 2, "coverage: other: is no crate with edits in edits\n")
+        refused(call(it, "--all", "other"), 2, "coverage: other: is no crate with edits in edits or more-edits\n")
+        it.write("crates/low/more-edits/b.edit", first)
+        equal(well(call(it, "--look")).output, b"edits looked at: 2; 0 can't be applied\n")
+        for text, why in (
+            (first.replace("good", "none"), "the text of old: stands 0 times in src/lib.rt, and not once: let first = none;"),
+            (first + "old: let\nnew: e\n", "the text of old: stands 3 times in src/lib.rt, and not once: let"),
+            (first.replace("lib.rt", "main.rt"), "there is no file src/main.rt"),
             ("old: one\nnew: two\n", "new: stands before file: or old:"), ("a word\n", "it changes nothing"),
-            (LOW.replace("two", "one"), "it changes nothing"),
+            (first.replace("wrong", "good"), "it changes nothing"),
         ):
-            it.write("crates/low/more-edits/a.edit", text)
-            refused(call(it), 2, f"crates/low/more-edits/a.edit: {said}\n")
+            it.write("crates/low/edits/a.edit", text)
+            refused(call(it), 2, f"crates/low/edits/a.edit: {why}\n")
             equal(call(it, "--look", "low").output, b"edits looked at: 2; 1 can't be applied\n")
         equal(it.lines("asked"), [])
-        it.write("crates/low/more-edits/a.edit", LOW)
+        it.write("crates/low/edits/a.edit", first)
+        it.write("open", "")
+        why = "the crates themselves: are not proved; the last lines of what the toolchain said:\nrt: low NOT PROVED\n"
+        refused(call(it), 1, why)
         os.remove(f"{it.at}/bin/rt")
         os.symlink(os.path.realpath(sys.executable), f"{it.at}/bin/python3")
         it.env["PATH"] = f"{it.at}/bin"
@@ -100,22 +305,35 @@ def are_refused() -> None:
         equal(it.rooms(), [])
 
 
+def ways_to_hold(it: Copy) -> Iterator[None]:
+    """Has the toolchain wait as it proves the crates, and then in a check."""
+    it.write("hold-ci", "")
+    yield
+    os.remove(f"{it.at}/hold-ci")
+    it.write("crates/low/edits/a.edit", body("first", "held"))
+    yield
+
+
 def is_ended() -> None:
-    """more_edits: a signal ends the toolchain too, and the copy goes; that of a killed call goes with the next"""
-    for number, status, left in ((signal.SIGTERM, 130, 0), (signal.SIGKILL, -signal.SIGKILL, 1)):
+    """edits: a signal ends the toolchain too, and the copy goes; that of a killed call goes with the next"""
+    for number, status, left in ((signal.SIGTERM, 130, 0), (signal.SIGINT, 130, 0), (signal.SIGKILL, -signal.SIGKILL, 1)):
         with copy(LISTED) as it, interruptible():
-            prepare(it)
-            it.write("hold", "")
-            command, pipe = ["python3", "-B", f"{it.at}/scripts/more_edits.py"], subprocess.PIPE
-            with subprocess.Popen(command, env=it.env, stdout=pipe, stderr=pipe, start_new_session=True) as started:
-                wait_for(lambda: it.lines("held"))
-                started.send_signal(number)
-                wait_for(lambda: not os.path.exists(f"/proc/{it.lines('held')[0]}"))
-                output, error = started.communicate(timeout=SECONDS)
-            equal((started.returncode, output, error, len(it.rooms())), (status, b"", b"", left))
-            os.remove(f"{it.at}/hold")
+            prepare(it, a=body("first", "wrong"))
+            for _ in ways_to_hold(it):
+                command, pipe = ["python3", "-B", f"{it.at}/scripts/edits.py"], subprocess.PIPE
+                with subprocess.Popen(command, env=it.env, stdout=pipe, stderr=pipe, start_new_session=True) as started:
+                    wait_for(lambda: it.lines("held"))
+                    started.send_signal(number)
+                    wait_for(lambda: not os.path.exists(f"/proc/{it.lines('held')[0]}"))
+                    output, error = started.communicate(timeout=SECONDS)
+                equal((started.returncode, output, error, len(it.rooms())), (status, b"", b"", left))
+                os.remove(f"{it.at}/held")
+            it.write("crates/low/edits/a.edit", body("first", "wrong"))
             well(call(it))
             equal(it.rooms(), [])
 
 
-CHECKS = [can_be_applied, are_tried, are_refused, is_ended]
+CHECKS = [
+    can_be_applied, are_named, are_tried, are_told_apart, stand_apart, are_named_by_themselves, are_kept, are_here, are_refused,
+    is_ended,
+]

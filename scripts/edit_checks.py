@@ -1,0 +1,231 @@
+"""Checks of crates with edits applied: which function of each edit the prover refuses, and why.
+
+A check reads the functions that the edits change and those that they call, over the statements of the crates below, and
+not the whole crate. Several edits stand in one check where they change different functions, and each is judged by what
+the check says of its own.
+"""
+from __future__ import annotations
+
+import importlib.machinery
+import os
+import re
+import select
+import shutil
+import sys
+from dataclasses import dataclass, field
+from types import ModuleType
+from typing import Callable, Iterator, NamedTuple, Optional, Sequence
+
+import weights
+from command import Fault
+from edit_files import Applied, Edit, Unfit, applied
+from toolchain import Call
+
+FAILED = 70
+# What came of an edit. Only the first is as it must be.
+REFUSED, PASSED, FOR_A_NAME, NO_VERDICT = "refused", "LET THROUGH", "REFUSED FOR A NAME ALONE", "NO VERDICT"
+PARTS = ("src", "specs", "proofs")
+# The most memory that such a check has been seen to take, about, in bytes.
+MEMORY = 2_000_000_000
+# How long a look at the checks waits, in seconds.
+LOOK = 1.0
+# A function's line, and what it says of one whose goals it didn't come to.
+FUNCTION = re.compile(r"fn (\S+): (.*)")
+BY_A_CALL = re.compile(r"; it calls (.*), which (?:is|are) not proved")
+# A line on a place: its file, its line, and what is said of it.
+PLACE = re.compile(r"(?:note: )?(?:\./)?(\S+?):(\d+):\d+: (.*)")
+# Of a place: that a name is gone, that something isn't of its language, or what only follows from another fault.
+OF_A_NAME = re.compile(
+    r"is not in scope|has no field|has no `|is no name|operand is missing|expected the end|cannot continue|was not admitted"
+)
+# The prover's own limits, which it meets before it has a verdict.
+LIMIT = re.compile(r"could not tell|antt ran out of|outgrew the memory limit|stopped at the step limit")
+# The last line of a check that came to its end.
+ENDED = re.compile(r"only=\d+ ")
+
+
+class Verdict(NamedTuple):
+    """What came of an edit, and by what it shows."""
+
+    kind: str
+    why: str
+
+
+def module() -> ModuleType:
+    """The toolchain's own module beside the command `rt`. It alone gives the words of a check over libraries that `rt ci` has made:
+    `rt check --only` builds those below anew, which takes minutes, as it trusts none of another command."""
+    command = shutil.which("rt")
+    if not command:
+        raise Fault("there is no toolchain", "the command rt isn't found", FAILED)
+    path = f"{os.path.dirname(os.path.realpath(command))}/rtlib.py"
+    if not os.path.isfile(path):
+        raise Fault("there is no toolchain", f"beside the command rt stands no {path}", FAILED)
+    if "rtlib" not in sys.modules:
+        loader = importlib.machinery.SourceFileLoader("rtlib", path)
+        sys.modules["rtlib"] = ModuleType("rtlib")
+        sys.modules["rtlib"].__file__ = path
+        was, sys.dont_write_bytecode = sys.dont_write_bytecode, True
+        loader.exec_module(sys.modules["rtlib"])
+        sys.dont_write_bytecode = was
+    return sys.modules["rtlib"]
+
+
+@dataclass
+class Check:
+    """One check: its edits, and what the toolchain has said so far."""
+
+    crate: str
+    # What each edit alone comes to, and the texts of the files with all of them.
+    edits: dict[Edit, Applied] = field(default_factory=dict)
+    texts: dict[str, str] = field(default_factory=dict)
+    said: bytes = b""
+    call: Optional[Call] = None
+
+    def functions(self) -> list[str]:
+        return [it for one in self.edits.values() for it in one.functions]
+
+    def takes(self, edit: Edit, at: str) -> bool:
+        """Adds an edit where it changes other functions than those that are here."""
+        alone = applied(edit, at)
+        if {*alone.functions} & {*self.functions()}:
+            return False
+        try:
+            self.texts = applied(edit, at, self.texts).texts
+        except Unfit:
+            # (its place stands no longer once, with the others)
+            return False
+        self.edits[edit] = alone
+        return True
+
+    def begin(self, at: str, libraries: str, place: str) -> None:
+        """Begins it in a copy of the crate, with the crates below it as they stand built in another folder."""
+        for part in PARTS:
+            if os.path.isdir(f"{at}/crates/{self.crate}/{part}"):
+                shutil.copytree(f"{at}/crates/{self.crate}/{part}", f"{place}/{part}")
+        for file, text in self.texts.items():
+            with open(f"{place}/{file}", "w", encoding="utf-8") as changed:
+                changed.write(text)
+        rtlib = module()
+        try:
+            words = rtlib.Crate(f"{libraries}/crates/{self.crate}", libraries, {}).words(["--jobs", "1"], keeps=False)
+        except SystemExit:
+            raise Fault(self.crate, "the toolchain doesn't take it", FAILED) from None
+        only = [word for it in self.functions() for word in ("--only", it)]
+        self.call = Call([rtlib.RATTLE, "check", *words, *only], place)
+
+    def has_ended(self) -> bool:
+        """Takes what there is of its lines; whether it has ended."""
+        assert self.call and self.call.process.stdout
+        found = os.read(self.call.process.stdout.fileno(), 65536)
+        self.said += found
+        if not found:
+            self.call.process.wait()
+        return not found
+
+    def lines(self) -> list[str]:
+        return self.said.decode(errors="replace").split("\n")
+
+    def verdicts(self) -> tuple[dict[Edit, Verdict], list[list[Edit]]]:
+        """What came of the edits, and which are to be tried again, in checks of their own."""
+        lines = self.lines()
+        assert self.call
+        status = self.call.process.returncode
+        if not any(ENDED.match(it) for it in lines):
+            return self.unfinished(status)
+        found: dict[Edit, Verdict] = {}
+        again: list[list[Edit]] = []
+        for edit, alone in self.edits.items():
+            came = [judge(lines, f"{self.crate}::{it}") for it in alone.functions]
+            best = next((it for kind in (REFUSED, NO_VERDICT, FOR_A_NAME, PASSED) for it in came if it.kind == kind), None)
+            assert best
+            # What calls another function that isn't proved isn't looked at.
+            if best.kind != REFUSED and len(self.edits) > 1 and any(BY_A_CALL.search(it.why) for it in came):
+                again.append([edit])
+            else:
+                found[edit] = best
+        return found, again
+
+    def unfinished(self, status: int) -> tuple[dict[Edit, Verdict], list[list[Edit]]]:
+        """The same for a check that judged nothing: an edit on whose line there is a fault is none, and the others go again."""
+        faults = [(it[1], int(it[2]), it[0]) for it in map(PLACE.match, self.lines()) if it and ": error" in it[0]]
+        found = {}
+        for edit, alone in self.edits.items():
+            said = next((text for file, line, text in faults if (file, line) in alone.lines), "")
+            if said:
+                found[edit] = Verdict(FOR_A_NAME, said)
+        rest = [it for it in self.edits if it not in found]
+        if len(self.edits) > 1:
+            return found, [rest] if found and rest else [[it] for it in rest]
+        first = next((text for _, _, text in faults), "") or next((it for it in reversed(self.lines()) if it.strip()), "")
+        kind = FOR_A_NAME if faults else NO_VERDICT
+        return {**found, **{it: Verdict(kind, f"the check ended with status {status}: {first}") for it in rest}}, []
+
+
+def judge(lines: Sequence[str], function: str) -> Verdict:
+    """What a check says of a function."""
+    said = next((it[2] for it in map(FUNCTION.match, lines) if it and it[1] == function), None)
+    if said is None:
+        return Verdict(NO_VERDICT, f"the check says nothing of {function}")
+    if said.startswith("proved"):
+        return Verdict(PASSED, f"{function} is still proved")
+    if not said.startswith(("not proved", "no proof")):
+        return Verdict(NO_VERDICT, f"{function}: {said}")
+    own = "proofs/" + "/".join(function.split("::")[1:]) + "/"
+    faults = [it for it in map(PLACE.match, lines) if it and it[1].startswith(own) and "error" in it[3]]
+    goal = next((it for it in faults if not OF_A_NAME.search(it[3]) and not LIMIT.search(it[3])), None)
+    if goal or "did not prove" in said:
+        return Verdict(REFUSED, goal[0] if goal else f"{function}: {said}")
+    if BY_A_CALL.search(said):
+        return Verdict(FOR_A_NAME, f"{function}: {said}")
+    if any(LIMIT.search(it[3]) for it in faults):
+        return Verdict(NO_VERDICT, faults[0][0])
+    return Verdict(FOR_A_NAME, faults[0][0]) if faults else Verdict(NO_VERDICT, f"{function}: {said}")
+
+
+def rounds(edits: Sequence[Edit], at: str) -> list[Check]:
+    """The checks of these edits, the longest first: as few of each crate as hold them."""
+    found: list[Check] = []
+    for edit in edits:
+        fits = (it for it in found if it.crate == edit.crate and it.takes(edit, at))
+        if next(fits, None) is None:
+            found.append(Check(edit.crate))
+            found[-1].takes(edit, at)
+    seconds = weights.read()
+    return sorted(found, key=lambda it: -seconds.get(it.crate, 0.0))
+
+
+def lanes() -> int:
+    """How many checks run at once: as many as processors, as far as the memory that is free now holds them."""
+    with open("/proc/meminfo", encoding="utf-8") as file:
+        free = re.search(r"MemAvailable: +(\d+) kB", file.read())
+    holds = int(free[1]) * 1024 // MEMORY if free else 1
+    return max(1, min(len(os.sched_getaffinity(0)), holds))
+
+
+def attempt(edits: Sequence[Edit], at: str, libraries: str, tell: Callable[[Edit, Verdict], None]) -> None:
+    """Tries edits of the crates in a room, and tells what came of each as it is known."""
+    waiting, running, count, most = rounds(edits, at), [], 0, lanes()
+    try:
+        while waiting or running:
+            while waiting and len(running) < most:
+                check, count = waiting.pop(0), count + 1
+                running.append(check)
+                check.begin(at, libraries, f"{at}/checks/{count}")
+            for check in list(ended(running)):
+                running.remove(check)
+                found, again = check.verdicts()
+                for edit, verdict in found.items():
+                    tell(edit, verdict)
+                waiting = [it for some in again for it in rounds(some, at)] + waiting
+    finally:
+        for check in running:
+            if check.call:
+                check.call.end()
+
+
+def ended(running: Sequence[Check]) -> Iterator[Check]:
+    """Those of the checks that have ended, once one has said something."""
+    pipes = {it.call.process.stdout.fileno(): it for it in running if it.call and it.call.process.stdout}
+    for it in select.select([*pipes], [], [], LOOK)[0]:
+        if pipes[it].has_ended():
+            yield pipes[it]

@@ -1,0 +1,191 @@
+"""Edits: wrong bodies of crates, which the prover must refuse, as their files say them, and the functions that they change."""
+from __future__ import annotations
+
+import os
+import re
+from dataclasses import dataclass
+from typing import Iterator, Mapping, Optional
+
+from command import read_file
+from crate_sources import TOP
+
+# The folders of a crate's edits: those that the gate tries, and the others.
+GATE, MORE = "edits", "more-edits"
+# A line that begins an item, by the layout of `rt fmt`: what it is, and its name.
+ITEM = re.compile(
+    r" *(?:(?:pub(?:\([^)]*\))?|const|final|unsafe) )*"
+    r"(fn|impl|mod|trait|struct|enum|union|type|use|const|static|ghost|macro_rules!)\b ?(\w*)"
+)
+# What goes on with an item's head that has more than one line, in the column of its first.
+GOES_ON = re.compile(r" *(?:[{)\]>]|where\b)")
+WORD = re.compile(r"'\w+|\w+|::|->|\S")
+# Words of a type that its name doesn't have.
+LEFT_OUT = ("mut", "dyn", "const", "for")
+
+
+class Unfit(Exception):
+    """Why an edit can't be applied to the crate as it stands, or whose proof it is to break isn't known."""
+
+
+@dataclass(frozen=True)
+class Edit:
+    """An edit by its place."""
+
+    crate: str
+    kind: str
+    name: str
+
+    @property
+    def path(self) -> str:
+        """Its file, below the top."""
+        return f"crates/{self.crate}/{self.kind}/{self.name}.edit"
+
+    def text(self) -> str:
+        return read_file(f"{TOP}/{self.path}").decode(errors="replace")
+
+    def changes(self) -> Iterator[tuple[str, str, str]]:
+        """Each file of the crate in which a text is replaced, that text, and what it is replaced by, in order."""
+        file = old = ""
+        for line in self.text().split("\n"):
+            if line.startswith("file: "):
+                file = line[len("file: "):].strip()
+            elif line.startswith("old: "):
+                old = line[len("old: "):]
+            elif line.startswith("new:"):
+                if not file or not old:
+                    raise Unfit("new: stands before file: or old:")
+                yield file, old, line[len("new:"):].removeprefix(" ")
+                old = ""
+
+    def named(self) -> list[str]:
+        """The functions that the edit itself names, as `rt check` prints them, below their crate."""
+        return [line[len("function: "):].strip() for line in self.text().split("\n") if line.startswith("function: ")]
+
+
+def edits_of(crate: str, kind: str) -> list[Edit]:
+    """The crate's edits of that folder, in order."""
+    at = f"{TOP}/crates/{crate}/{kind}"
+    names = sorted(os.listdir(at)) if os.path.isdir(at) else []
+    return [Edit(crate, kind, it.removesuffix(".edit")) for it in names if it.endswith(".edit")]
+
+
+@dataclass
+class Applied:
+    """What comes of edits of a crate: the texts of the files that they change, their functions, and the lines that are changed."""
+
+    texts: dict[str, str]
+    functions: list[str]
+    lines: set[tuple[str, int]]
+
+
+def applied(edit: Edit, top: str = TOP, to: Optional[Mapping[str, str]] = None) -> Applied:
+    """Applies an edit to its crate as it stands below a folder, or as other edits have changed it: each text that is to be replaced
+    is one line's, and stands once in its file."""
+    texts, found, lines = dict(to or {}), edit.named(), set()
+    is_derived, has_changed = not found, False
+    for file, old, new in edit.changes():
+        whole = f"{top}/crates/{edit.crate}"
+        if not os.path.isfile(f"{whole}/{file}"):
+            raise Unfit(f"there is no file {file}")
+        text = texts.get(file) or read_file(f"{whole}/{file}").decode(errors="replace")
+        if text.count(old) != 1:
+            raise Unfit(f"the text of old: stands {text.count(old)} times in {file}, and not once: {old.strip()}")
+        # (its first words tell better where it stands than the space before them)
+        at = text.index(old) + len(old) - len(old.lstrip())
+        if is_derived:
+            found.append(function_at(whole, file, text, at))
+        lines.add((file, text.count("\n", 0, at) + 1))
+        texts[file], has_changed = text.replace(old, new), has_changed or old != new
+    if not has_changed:
+        raise Unfit("it changes nothing")
+    return Applied(texts, list(dict.fromkeys(found)), lines)
+
+
+def function_at(whole: str, file: str, text: str, at: int) -> str:
+    """The function around a place of a file of a crate's folder, as `rt check` prints it, below the crate."""
+    items = list(items_around(text.split("\n"), text.count("\n", 0, at)))
+    kinds = [kind for kind, _, _ in items]
+    if not file.startswith("src/") or kinds[:1] != ["fn"] or {*kinds[1:]} - {"impl", "trait", "mod"}:
+        raise Unfit(f"{file}: its place is in no function, or in one within another: a line function: must say whose proof breaks")
+    module, names = module_of(file), [name for kind, name, _ in reversed(items) if kind != "impl"]
+    for head in [head for kind, _, head in items if kind == "impl"]:
+        names.insert(-1, name_of_impl(head))
+        # A type's own functions go by the place of the type, also where they stand elsewhere.
+        if " for " not in head and not declares(text, names[-2]):
+            module = next((it for it, other in sources_of(whole) if declares(other, names[-2])), module)
+    return "::".join([*module, *names])
+
+
+def module_of(file: str) -> list[str]:
+    return [it for it in file.removeprefix("src/").removesuffix(".rt").split("/") if it not in ("lib", "main", "mod")]
+
+
+def sources_of(whole: str) -> Iterator[tuple[list[str], str]]:
+    """The modules of a crate's folder, and the texts of their files."""
+    for folder, _, files in os.walk(f"{whole}/src"):
+        for it in sorted(files):
+            yield module_of(os.path.relpath(f"{folder}/{it}", whole)), read_file(f"{folder}/{it}").decode(errors="replace")
+
+
+def declares(text: str, name: str) -> bool:
+    """Whether a file declares the type that is the first word of a name."""
+    return re.search(rf"^ *(?:pub(?:\([^)]*\))? )?(?:struct|enum|union) {name.partition('+')[0]}\b", text, re.MULTILINE) is not None
+
+
+def items_around(lines: list[str], at: int) -> Iterator[tuple[str, str, str]]:
+    """The items around a line, the inmost first: what each is, its name, and its head."""
+    most = column_of(lines[at])
+    for number in range(at, -1, -1):
+        line = lines[number]
+        if line.strip() and column_of(line) <= most:
+            item = ITEM.match(line)
+            if item:
+                yield item[1], item[2], " ".join(it.strip() for it in lines[number:at + 1]).partition("{")[0]
+            most = column_of(line) - (0 if GOES_ON.match(line) else 1)
+
+
+def column_of(line: str) -> int:
+    return len(line) - len(line.lstrip())
+
+
+def words_of(text: str) -> list[str]:
+    """The words of a type, without lifetimes, paths and what its name leaves out; & is a word of it."""
+    found = [it for it in WORD.findall(text) if it not in LEFT_OUT and not it.startswith("'")]
+    return [it for it, then in zip(found, [*found[1:], ""]) if (it.isidentifier() or it == "&") and then != "::"]
+
+
+def split_generics(text: str) -> tuple[str, str]:
+    """The text between the angle brackets that a text begins with, and what follows these."""
+    depth = 0
+    for at, it in enumerate(text if text.startswith("<") else ""):
+        depth += (it == "<") - (it == ">" and text[at - 1] != "-")
+        if not depth:
+            return text[1:at], text[at + 1:]
+    return "", text
+
+
+def name_of_impl(head: str) -> str:
+    """What a check calls an impl: the words of its type, and of its trait with that's arguments, without its own parameters; of a
+    type's own impl the type, and its arguments where they are more than parameters."""
+    between, rest = split_generics(head.strip().removeprefix("impl"))
+    own = parameters(between)
+    rest = rest.partition(" where ")[0].strip()
+    # (a trait's name has no space before its arguments)
+    trait, is_of_trait, of = rest.partition(" for ")
+    if not is_of_trait:
+        words = words_of(rest)
+        return words[0] if {*words[1:]} <= own else "+".join(words)
+    words = [it for it in (*words_of(of), *words_of(trait)) if it not in own]
+    return "".join("Ref" if it == "&" else it[0].upper() + it[1:] for it in words)
+
+
+def parameters(between: str) -> set[str]:
+    """The parameters of types and constants that are declared in angle brackets."""
+    found, depth, begins = set(), 0, True
+    for it in WORD.findall(between):
+        if begins and it != "const":
+            found.add(it)
+            begins = False
+        depth += (it in "<([") - (it in ">)]")
+        begins = begins or it == "," and not depth
+    return found
