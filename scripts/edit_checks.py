@@ -113,6 +113,10 @@ class Check:
         only = [word for it in self.functions() for word in ("--only", it)]
         self.call = Call([rtlib.RATTLE, "check", *words, *only], place)
 
+    def end(self) -> None:
+        if self.call:
+            self.call.end()
+
     def has_ended(self) -> bool:
         """Takes what there is of its lines; whether it has ended."""
         assert self.call and self.call.process.stdout
@@ -213,14 +217,14 @@ def attempt(edits: Sequence[Edit], at: str, libraries: str, tell: Callable[[Edit
                 check.begin(at, libraries, f"{at}/checks/{count}")
             for check in list(ended(running)):
                 running.remove(check)
+                check.end()
                 found, again = check.verdicts()
                 for edit, verdict in found.items():
                     tell(edit, verdict)
                 waiting = [it for some in again for it in rounds(some, at)] + waiting
     finally:
         for check in running:
-            if check.call:
-                check.call.end()
+            check.end()
 
 
 def ended(running: Sequence[Check]) -> Iterator[Check]:

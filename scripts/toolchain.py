@@ -32,6 +32,9 @@ class Call:
     """A call in a session of its own, so that a signal reaches it by this script alone. It ends with this script, also
     where that is killed."""
 
+    # Those that haven't been ended.
+    alive: list[Call] = []
+
     def __init__(self, words: Sequence[str], folder: str) -> None:
         libc, parent = ctypes.CDLL(None), os.getpid()
 
@@ -47,6 +50,7 @@ class Call:
         self.process = subprocess.Popen(words, cwd=folder, env=env, preexec_fn=begin, **how)
         if signal.getsignal(signal.SIGTSTP) is signal.SIG_DFL:
             signal.signal(signal.SIGTSTP, self.pause)
+        self.alive.append(self)
         self.crates: dict[int, str] = {}
         # The seconds of processor time of each process that has worked on a crate.
         self.taken: dict[int, float] = {}
@@ -95,14 +99,19 @@ class Call:
 
     def pause(self, _number: int, _frame: object) -> None:
         """Stops with all that is at work, and goes on with it, as a terminal's Ctrl-Z asks."""
-        with contextlib.suppress(ProcessLookupError):
-            self.process.send_signal(signal.SIGTSTP)
+        self.tell_all(signal.SIGTSTP)
         os.kill(os.getpid(), signal.SIGSTOP)
-        with contextlib.suppress(ProcessLookupError):
-            self.process.send_signal(signal.SIGCONT)
+        self.tell_all(signal.SIGCONT)
+
+    def tell_all(self, number: int) -> None:
+        for it in self.alive:
+            with contextlib.suppress(ProcessLookupError):
+                it.process.send_signal(number)
 
     def end(self) -> None:
         """Ends it with all that it has started, and waits until these are gone."""
+        if self in self.alive:
+            self.alive.remove(self)
         for number in (signal.SIGTERM, signal.SIGKILL):
             with contextlib.suppress(ProcessLookupError):
                 self.process.send_signal(number)
