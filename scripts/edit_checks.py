@@ -1,8 +1,8 @@
 """Checks of crates with edits applied: which function of each edit the prover refuses, and why.
 
-A check reads the functions that the edits change and those that they call, over the statements of the crates below, and
-not the whole crate. Several edits stand in one check where they change different functions, and each is judged by what
-the check says of its own.
+A check reads the functions that the edits change, by the contracts of those that they call, over the statements of the
+crates below. Several edits of a crate stand in one check where they change different functions, and each is judged by
+what the check says of its own.
 """
 from __future__ import annotations
 
@@ -18,6 +18,7 @@ from typing import Callable, Iterator, NamedTuple, Optional, Sequence
 
 import weights
 from command import Fault
+from edit_bodies import take_away
 from edit_files import Applied, Edit, Unfit, applied
 from toolchain import Call
 
@@ -29,14 +30,19 @@ PARTS = ("src", "specs", "proofs")
 MEMORY = 2_000_000_000
 # How long a look at the checks waits, in seconds.
 LOOK = 1.0
-# A function's line, and what it says of one whose goals it didn't come to.
+# A function's line; of what it says: that it is proved but for holes, what of its proof is refused, and what it calls.
 FUNCTION = re.compile(r"fn (\S+): (.*)")
-BY_A_CALL = re.compile(r"; it calls (.*), which (?:is|are) not proved")
+PROVED = ("proved", "no holes", "depends on a hole")
+OPEN = re.compile(r"`search` did not prove")
+# A note before a function's line, on a goal of it that no file answers.
+GOAL = re.compile(r"note: \S+: it is not proved that ")
+STANDS_ON = re.compile(r"it stands on (.*?), which antt refuses")
+BY_A_CALL = re.compile(r"it calls|it passes|a call of")
 # A line on a place: its file, its line, and what is said of it.
 PLACE = re.compile(r"(?:note: )?(?:\./)?(\S+?):(\d+):\d+: (.*)")
 # Of a place: that a name is gone, that something isn't of its language, or what only follows from another fault.
 OF_A_NAME = re.compile(
-    r"is not in scope|has no field|has no `|is no name|operand is missing|expected the end|cannot continue|was not admitted"
+    r"is not in scope|has no field|has no `|\(nearest: |is no name|operand is missing|expected the end|cannot continue|was not admitted"
 )
 # The prover's own limits, which it meets before it has a verdict.
 LIMIT = re.compile(r"could not tell|antt ran out of|outgrew the memory limit|stopped at the step limit")
@@ -82,7 +88,7 @@ class Check:
     call: Optional[Call] = None
 
     def functions(self) -> list[str]:
-        return [it for one in self.edits.values() for it in one.functions]
+        return list(dict.fromkeys(it for one in self.edits.values() for it in one.functions))
 
     def takes(self, edit: Edit, at: str) -> bool:
         """Adds an edit where it changes other functions than those that are here."""
@@ -105,13 +111,14 @@ class Check:
         for file, text in self.texts.items():
             with open(f"{place}/{file}", "w", encoding="utf-8") as changed:
                 changed.write(text)
+        take_away(place, self.crate, self.functions())
         rtlib = module()
         try:
             words = rtlib.Crate(f"{libraries}/crates/{self.crate}", libraries, {}).words(["--jobs", "1"], keeps=False)
         except SystemExit:
             raise Fault(self.crate, "the toolchain doesn't take it", FAILED) from None
         only = [word for it in self.functions() for word in ("--only", it)]
-        self.call = Call([rtlib.RATTLE, "check", *words, *only], place)
+        self.call = Call([rtlib.RATTLE, "check", *words, "--allow-holes", *only], place)
 
     def end(self) -> None:
         if self.call:
@@ -139,10 +146,9 @@ class Check:
         found: dict[Edit, Verdict] = {}
         again: list[list[Edit]] = []
         for edit, alone in self.edits.items():
-            came = [judge(lines, f"{self.crate}::{it}") for it in alone.functions]
-            best = next((it for kind in (REFUSED, NO_VERDICT, FOR_A_NAME, PASSED) for it in came if it.kind == kind), None)
-            assert best
-            # What calls another function that isn't proved isn't looked at.
+            came = [judge(lines, self.crate, it) for it in alone.functions]
+            best = next(it for kind in (REFUSED, NO_VERDICT, FOR_A_NAME, PASSED) for it in came if it.kind == kind)
+            # Beside a function that isn't proved either it says little of one that calls it.
             if best.kind != REFUSED and len(self.edits) > 1 and any(BY_A_CALL.search(it.why) for it in came):
                 again.append([edit])
             else:
@@ -165,25 +171,56 @@ class Check:
         return {**found, **{it: Verdict(kind, f"the check ended with status {status}: {first}") for it in rest}}, []
 
 
-def judge(lines: Sequence[str], function: str) -> Verdict:
-    """What a check says of a function."""
-    said = next((it[2] for it in map(FUNCTION.match, lines) if it and it[1] == function), None)
-    if said is None:
-        return Verdict(NO_VERDICT, f"the check says nothing of {function}")
-    if said.startswith("proved"):
-        return Verdict(PASSED, f"{function} is still proved")
-    if not said.startswith(("not proved", "no proof")):
-        return Verdict(NO_VERDICT, f"{function}: {said}")
-    own = "proofs/" + "/".join(function.split("::")[1:]) + "/"
-    faults = [it for it in map(PLACE.match, lines) if it and it[1].startswith(own) and "error" in it[3]]
-    goal = next((it for it in faults if not OF_A_NAME.search(it[3]) and not LIMIT.search(it[3])), None)
-    if goal or "did not prove" in said:
-        return Verdict(REFUSED, goal[0] if goal else f"{function}: {said}")
-    if BY_A_CALL.search(said):
-        return Verdict(FOR_A_NAME, f"{function}: {said}")
-    if any(LIMIT.search(it[3]) for it in faults):
-        return Verdict(NO_VERDICT, faults[0][0])
-    return Verdict(FOR_A_NAME, faults[0][0]) if faults else Verdict(NO_VERDICT, f"{function}: {said}")
+def judge(lines: Sequence[str], crate: str, function: str) -> Verdict:
+    """What a check says of a function, and of the closures in it."""
+    whole = f"{crate}::{function}"
+    said, goals = by_function(lines)
+    own = [it for it in said if it == whole or f"{it.replace('::fn::', '::')}::".startswith(f"{whole}::")]
+    if whole not in own:
+        return Verdict(NO_VERDICT, f"the check says nothing of {whole}")
+    left = [it for it in own if not said[it].startswith(PROVED)]
+    if not left:
+        return Verdict(PASSED, f"{whole} is still proved")
+    told = "; ".join(f"{it}: {said[it]}" for it in left)
+    faults = [fault for it in left for fault in refused_parts(lines, crate, said[it])]
+    wrong = [it[0] for it in faults if not OF_A_NAME.search(it[3]) and not LIMIT.search(it[3])]
+    goal = next((it for it in [*wrong, *(note for it in left for note in goals[it])]), told if OPEN.search(told) else "")
+    if goal:
+        return Verdict(REFUSED, goal)
+    if LIMIT.search(told) or any(LIMIT.search(it[3]) for it in faults):
+        return Verdict(NO_VERDICT, next((it[0] for it in faults if LIMIT.search(it[3])), told))
+    return Verdict(FOR_A_NAME, faults[0][0] if faults else told)
+
+
+def by_function(lines: Sequence[str]) -> tuple[dict[str, str], dict[str, list[str]]]:
+    """What is said of each function of a check, and the notes on its goals before that."""
+    said: dict[str, str] = {}
+    goals: dict[str, list[str]] = {}
+    notes: list[str] = []
+    for line in lines:
+        found = FUNCTION.match(line)
+        if found:
+            said[found[1]], goals[found[1]], notes = found[2], notes, []
+        elif GOAL.match(line):
+            notes.append(line.removeprefix("note: "))
+    return said, goals
+
+
+def refused_parts(lines: Sequence[str], crate: str, said: str) -> list[re.Match[str]]:
+    """The faults of what a function stands on, by its line: of a declaration of a file of proofs/."""
+    found = STANDS_ON.search(said)
+    parts = [it.removeprefix(f"Rattle.{crate}.").rpartition(".") for it in re.findall(r"`([^`]*)`", found[1] if found else "")]
+    wanted = {(f"{file.replace('.', '/')}.antt", f"error: `{name}`: ") for file, _, name in parts}
+    places = [it for it in map(PLACE.match, lines) if it]
+    return [it for it in places if any(it[1] == file and it[3].startswith(name) for file, name in wanted)]
+
+
+def unedited(edits: Sequence[Edit], at: str) -> list[Check]:
+    """A check for each crate of these edits, of the functions that they change, as these stand."""
+    found: dict[str, Check] = {}
+    for edit in edits:
+        found.setdefault(edit.crate, Check(edit.crate)).edits[edit] = applied(edit, at)
+    return list(found.values())
 
 
 def rounds(edits: Sequence[Edit], at: str) -> list[Check]:
@@ -206,9 +243,9 @@ def lanes() -> int:
     return max(1, min(len(os.sched_getaffinity(0)), holds))
 
 
-def attempt(edits: Sequence[Edit], at: str, libraries: str, tell: Callable[[Edit, Verdict], None]) -> None:
-    """Tries edits of the crates in a room, and tells what came of each as it is known."""
-    waiting, running, count, most = rounds(edits, at), [], 0, lanes()
+def attempt(checks: Sequence[Check], at: str, libraries: str, tell: Callable[[Edit, Verdict], None]) -> None:
+    """Makes checks of the crates in a room, and tells what came of each edit as it is known."""
+    waiting, running, count, most = list(checks), list[Check](), 0, lanes()
     try:
         while waiting or running:
             while waiting and len(running) < most:

@@ -11,6 +11,8 @@ from crate_sources import TOP
 
 # The folders of a crate's edits: those that the gate tries, and the others.
 GATE, MORE = "edits", "more-edits"
+# Where a crate's tests stand.
+TESTS = ("src/tests.rt", "src/tests/")
 # A line that begins an item, by the layout of `rt fmt`: what it is, and its name.
 ITEM = re.compile(
     r" *(?:(?:pub(?:\([^)]*\))?|const|final|unsafe) )*"
@@ -112,7 +114,7 @@ def function_at(whole: str, file: str, text: str, at: int) -> str:
         names.insert(-1, name_of_impl(head))
         # A type's own functions go by the place of the type, also where they stand elsewhere.
         if " for " not in head and not declares(text, names[-2]):
-            module = next((it for it, other in sources_of(whole) if declares(other, names[-2])), module)
+            module = next((module_of(it) for it, other in sources_of(whole) if declares(other, names[-2])), module)
     return "::".join([*module, *names])
 
 
@@ -120,11 +122,12 @@ def module_of(file: str) -> list[str]:
     return [it for it in file.removeprefix("src/").removesuffix(".rt").split("/") if it not in ("lib", "main", "mod")]
 
 
-def sources_of(whole: str) -> Iterator[tuple[list[str], str]]:
-    """The modules of a crate's folder, and the texts of their files."""
+def sources_of(whole: str) -> Iterator[tuple[str, str]]:
+    """The files of a crate's folder, by their places in it, and their texts; its tests aren't among them."""
     for folder, _, files in os.walk(f"{whole}/src"):
-        for it in sorted(files):
-            yield module_of(os.path.relpath(f"{folder}/{it}", whole)), read_file(f"{folder}/{it}").decode(errors="replace")
+        for path in (os.path.relpath(f"{folder}/{it}", whole) for it in sorted(files)):
+            if not path.startswith(TESTS):
+                yield path, read_file(f"{whole}/{path}").decode(errors="replace")
 
 
 def declares(text: str, name: str) -> bool:

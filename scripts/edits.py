@@ -5,18 +5,18 @@ import hashlib
 import os
 import signal
 import sys
-from typing import Optional, Sequence
+from typing import Callable, Sequence
 
 from build import FAILED, end_by_signal, toolchain
 from command import BAD_INPUT, Fault, UsageError, complain, run, write_output
 from crate_sources import TOP, crates, rows, sum_of
-from edit_checks import PARTS, REFUSED, Verdict, attempt, module
-from edit_files import GATE, MORE, Edit, Unfit, applied, edits_of
+from edit_checks import PARTS, PASSED, REFUSED, Check, Verdict, attempt, module, rounds, unedited
+from edit_files import GATE, MORE, TESTS, Edit, Unfit, applied, edits_of
 from rooms import bring, list_crates, room
 from toolchain import Call
 
 USAGE = """\
-usage: python3 scripts/edits.py [--look | --all] [--here] [CRATE ..]
+usage: python3 scripts/edits.py [--look | --all] [--here] [--unedited] [CRATE ..]
 
 Tries the edits of these crates or of all that the gate tries, those of crates/CRATE/edits; with --all those of
 crates/CRATE/more-edits too. Each is a wrong body, which the prover must refuse: of the function that it changes, or of
@@ -31,6 +31,9 @@ The status is 0 where the prover refuses each for a goal; 1 where it lets one th
 gives no verdict, and where the crates themselves aren't proved; 2 where one can't be applied to the sources as they
 stand, or a name is no crate that has such edits, and then nothing is tried; 70 where the toolchain is missing. With
 --look nothing is tried, and of all edits it is said which can't be applied.
+
+With --unedited no edit is applied, and each of these functions must be proved: else the way in which they are checked,
+and no edit, would have it refused.
 """
 KEPT = f"{TOP}/out/edits"
 # How many of its lines are shown where the toolchain doesn't prove the crates themselves.
@@ -65,7 +68,7 @@ def sum_of_crate(crate: str, top: str) -> str:
         for folder, folders, files in os.walk(f"{top}/crates/{crate}/{part}"):
             folders.sort()
             for path in (os.path.relpath(f"{folder}/{it}", f"{top}/crates/{crate}") for it in sorted(files)):
-                if path.endswith((".rt", ".antt")) and not path.startswith(("src/tests.rt", "src/tests/")):
+                if path.endswith((".rt", ".antt")) and not path.startswith(TESTS):
                     whole.update(f"{path} {sum_of(f'{top}/crates/{crate}/{path}')}\n".encode())
     return whole.hexdigest()
 
@@ -139,16 +142,17 @@ def prove(at: str) -> None:
         raise Fault("the crates themselves", f"are not proved; the last lines of what the toolchain said:\n{last}", 1)
 
 
-def attempt_all(edits: Sequence[Edit], here: bool) -> int:
-    """Tries edits, and says whether all were refused."""
+def attempt_all(edits: Sequence[Edit], here: bool, makes: Callable[[Sequence[Edit], str], list[Check]]) -> int:
+    """Tries edits, and says whether all were refused; or whether all functions are proved, where the checks apply none."""
     module()
-    of = Sums(TOP)
-    left = [it for it in edits if not was_refused(it, of.of(it))]
+    of, wanted = Sums(TOP), REFUSED if makes is rounds else PASSED
+    left = [it for it in edits if makes is unedited or not was_refused(it, of.of(it))]
     came: dict[Edit, Verdict] = {}
 
     def tell(edit: Edit, verdict: Verdict) -> None:
         came[edit] = verdict
-        write_output(f"{edit.crate}/{edit.name}: {verdict.kind}: {verdict.why}\n".encode())
+        kind = "as it must be" if verdict.kind == wanted == PASSED else verdict.kind
+        write_output(f"{edit.crate}/{edit.name}: {kind}: {verdict.why}\n".encode())
         if verdict.kind == REFUSED:
             keep(edit, in_room.of(edit), verdict.why)
 
@@ -161,27 +165,31 @@ def attempt_all(edits: Sequence[Edit], here: bool) -> int:
             takes_these = here and are_here(names)
             if not takes_these:
                 prove(at)
-            attempt(left, at, TOP if takes_these else at, tell)
-    well = all(came[it].kind == REFUSED for it in left)
+            attempt(makes(left, at), at, TOP if takes_these else at, tell)
+    well = all(came[it].kind == wanted for it in left)
     before = f", {len(edits) - len(left)} of them before" if len(left) < len(edits) else ""
-    write_output(f"edits tried: {len(edits)}{before}; {'each was' if well else 'not each was'} refused\n".encode())
+    said = "edits tried: {}{}; {} refused" if makes is rounds else "functions of edits looked at: {}{}; {} proved"
+    write_output(f"{said.format(len(edits), before, 'each was' if well else 'not each was')}\n".encode())
     return 0 if well else 1
 
 
 def main(words: list[str]) -> int:
     options = [it for it in words if it.startswith("-")]
-    names = words[len(options):]
-    if options != words[:len(options)] or options not in ([], ["--look"], ["--all"], ["--here"], ["--all", "--here"]):
+    names, looks = words[len(options):], options == ["--look"]
+    in_order = [it for it in ("--all", "--here", "--unedited") if it in options]
+    if options != words[:len(options)] or not looks and options != in_order:
         raise UsageError
     for number in (signal.SIGTERM, signal.SIGHUP):
         if signal.getsignal(number) != signal.SIG_IGN:
             signal.signal(number, end_by_signal)
     try:
-        edits = chosen(names, (GATE,) if options in ([], ["--here"]) else (GATE, MORE))
+        edits = chosen(names, (GATE, MORE) if looks or "--all" in options else (GATE,))
         faults = look(edits)
-        if "--look" in options:
+        if looks:
             write_output(f"edits looked at: {len(edits)}; {faults} can't be applied\n".encode())
-        return BAD_INPUT if faults else 0 if "--look" in options else attempt_all(edits, "--here" in options)
+        if faults or looks:
+            return BAD_INPUT if faults else 0
+        return attempt_all(edits, "--here" in options, unedited if "--unedited" in options else rounds)
     except OSError as error:
         raise Fault(error.filename or "the system", error.strerror or str(error), FAILED) from None
 

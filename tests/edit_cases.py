@@ -42,7 +42,7 @@ top, (verb, crate, *words) = os.environ["TEST_TOP"], sys.argv[1:]
 only = [words[at + 1] for at, it in enumerate(words) if it == "--only"]
 name = os.path.basename(crate)
 where = "here" if crate.startswith(top + "/crates/") else "a room"
-assert verb == "check" and words[:2] == ["--jobs", "1"] and (where == "here" or os.path.isdir(f"{crate}/out/rlib/{name}.rlib"))
+assert verb == "check" and words[:3] == ["--jobs", "1", "--allow-holes"] and (where == "here" or os.path.isdir(f"{crate}/out/rlib/{name}.rlib"))
 with open(f"{top}/asked", "a") as file:
     file.write(f"check {name} over {where}: {' '.join(only)}\\n")
 lines = [(path, number, line) for path in sorted(glob.glob("src/**/*.rt", recursive=True))
@@ -61,25 +61,30 @@ for it in only:
     if it.split("::")[-1] not in says:
         sys.exit(f"error: `{it}` fits no function")
 for it in only:
-    last = it.split("::")[-1]
-    word, files = says[last], "./proofs/" + it.replace("::", "/")
-    if word == "gone":
-        print(f"{files}/Answers.antt:1:1: error: `x` is not in scope")
-    if word == "spent":
-        print(f"{files}/Answers.antt:1:1: error: antt ran out of the steps")
-    if word == "differs":
-        print(f"{files}/Answers.antt:2:1: error: `y`: expected 1, found 2")
+    last, file = it.split("::")[-1], it.replace("::", "/")
+    hole = f"proofs/{file}/Proof.antt"
+    assert not os.path.exists(hole) and os.path.exists("proofs/" + file.replace(last, "other") + "/Proof.antt"), hole
+    word, answers = says[last], f"Rattle.{name}.proofs.{it.replace('::', '.')}.Answers"
+    found = {"gone": "`x`: `u` is not in scope", "spent": "`x`: antt ran out of the steps", "differs": "`x`: expected 1, found 2"}.get(word)
+    if found:
+        print(f"./proofs/{file}/Answers.antt:2:1: error: {found}")
     called = word.removeprefix("calls_")
     print(f"fn {name}::{it}: " + (
-        "proved" if word in ("good", "same") else
-        f"not proved; it calls `{name}::{called}`, which is not proved" if word != called and says[called] != "good" else
-        "not proved" if word in ("gone", "spent", "differs") else
+        "no holes" if word in ("good", "same") else f"depends on a hole in `{answers}`" if word == "upon" else
+        f"not proved; it stands on `{answers}.x`, which antt refuses" if found else
+        f"not proved; it calls `{name}::{called}`, which is not proved" if word != called and called in says else
         "could not tell" if word == "unclear" else
-        f"no proof: expected answers in {files}/Answers.antt; `search` did not prove `x`"))
-print(f"only={len(only)} proved=0")
+        f"no proof: expected answers in ./proofs/{file}/Answers.antt; `search` did not prove `x`"))
+print(f"only={len(only)} holes=1")
 """
 LISTED = "low:\ncoverage_program: low arrayvec\nother: low\n"
 SOURCE = """const MOST: u8 = 1;
+
+fn other() {
+    let other = nonsense;
+    let none = 1;
+    none
+}
 
 pub fn first(
     a: u8,
@@ -88,7 +93,7 @@ pub fn first(
 {
     let first = good;
     if a {
-        let other = 2;
+        let not_first = 2;
     }
 }
 
@@ -99,10 +104,15 @@ mod inner {
         fn second() {
             let second = good;
         }
+
+        fn other()
+            ensures { result ≡ 1 }
+        {
+            let other = nonsense;
+        }
     }
 }
 """
-OPEN = "fn low::{0}: no proof: expected answers in ./proofs/{1}/Answers.antt; `search` did not prove `x`"
 
 
 def body(function: str, word: str, file: str = "lib") -> str:
@@ -166,26 +176,32 @@ def are_tried() -> None:
     with copy(LISTED) as it:
         prepare(it, a=body("first", "wrong"), b=body("second", "differs"))
         ran = well(call(it))
-        second = "proofs/inner/PairFromFault/second/Answers.antt:2:1: error: `y`: expected 1, found 2"
+        second_path = "inner::PairFromFault::second"
+        second = "proofs/inner/PairFromFault/second/Answers.antt:2:1: error: `x`: expected 1, found 2"
         equal(said(ran), [f"low/a: refused: {goal('first')}", f"low/b: refused: ./{second}"])
         equal(last(ran), (0, "edits tried: 2; each was refused"))
         equal(it.lines("asked"), ["ci", "check low over a room: first inner::PairFromFault::second"])
         # The others are tried where they are asked for.
-        it.write("crates/low/more-edits/c.edit", body("first", "same"))
+        it.write("crates/low/more-edits/c.edit", body("first", "upon"))
         equal(well(call(it, "low")).output, b"edits tried: 2, 2 of them before; each was refused\n")
         ran = call(it, "--all", "low")
         equal(said(ran), ["low/c: LET THROUGH: low::first is still proved"])
         equal(last(ran), (1, "edits tried: 3, 2 of them before; not each was refused"))
-        equal((it.rooms(), os.listdir(f"{it.at}/crates/low")), ([], ["src", "edits", "more-edits"]))
+        # As it stands each function is proved.
+        ran = well(call(it, "--all", "--unedited"))
+        paths = ("first", second_path, "first")
+        equal(said(ran), [f"low/{name}: as it must be: low::{path} is still proved" for name, path in zip("abc", paths)])
+        equal(last(ran), (0, "functions of edits looked at: 3; each was proved"))
+        equal((it.rooms(), sorted(os.listdir(f"{it.at}/crates/low"))), ([], ["edits", "more-edits", "src"]))
 
 
 def are_told_apart() -> None:
     """edits: a refusal for a name alone, a limit, and what doesn't compile show nothing, and are no refusals"""
     for word, came in (
-        ("gone", "REFUSED FOR A NAME ALONE: ./proofs/first/Answers.antt:1:1: error: `x` is not in scope"),
-        ("spent", "NO VERDICT: ./proofs/first/Answers.antt:1:1: error: antt ran out of the steps"),
+        ("gone", "REFUSED FOR A NAME ALONE: ./proofs/first/Answers.antt:2:1: error: `x`: `u` is not in scope"),
+        ("spent", "NO VERDICT: ./proofs/first/Answers.antt:2:1: error: `x`: antt ran out of the steps"),
         ("unclear", "NO VERDICT: low::first: could not tell"),
-        ("nonsense", "REFUSED FOR A NAME ALONE: src/lib.rt:8:5: error: nonsense isn't in scope"),
+        ("nonsense", "REFUSED FOR A NAME ALONE: src/lib.rt:14:5: error: nonsense isn't in scope"),
         ("killed", "NO VERDICT: the check ended with status -9: "),
     ):
         with copy(LISTED) as it:
@@ -207,12 +223,11 @@ def stand_apart() -> None:
         equal(last(ran), (0, "edits tried: 3; each was refused"))
         asked = [line.partition(": ")[2] for line in it.lines("asked")[1:]]
         equal(sorted(asked), ["first", "first inner::PairFromFault::second", "inner::PairFromFault::second"])
-    # It is refused for what it does, or not at all.
+    # Where the one that it calls is no edit's it is judged at once.
     with copy(LISTED) as it:
-        prepare(it, a=body("first", "wrong"), c=body("second", "calls_first_well").replace("first_well", "first"))
-        it.write("crates/low/edits/d.edit", "function: first\nfile: src/lib.rt\nold: MOST: u8 = 1\nnew: MOST: u8 = 2\n")
-        ran = call(it)
-        equal(said(ran)[2], "low/d: LET THROUGH: low::first is still proved")
+        prepare(it, c=body("second", "calls_first"))
+        well(call(it))
+        equal(len(it.lines("asked")), 2)
 
 
 def are_named_by_themselves() -> None:
@@ -231,7 +246,7 @@ def are_kept() -> None:
     """edits: a refusal is kept until the edit, its crate, one below, or the toolchain changes; tests change nothing"""
     with copy(LISTED) as it:
         prepare(it)
-        it.write("crates/coverage_program/src/main.rt", "fn main() {\n    let main = good;\n}\n")
+        it.write("crates/coverage_program/src/main.rt", "fn main() {\n    let main = good;\n}\n\nfn other() {\n    a\n}\n")
         os.mkdir(f"{it.at}/crates/coverage_program/edits")
         edit = "crates/coverage_program/edits/a.edit"
         it.write(edit, body("main", "wrong", "main"))
@@ -278,14 +293,14 @@ def are_refused() -> None:
     with copy(LISTED) as it:
         prepare(it, a=first)
         for words in (["--x"], ["low", "--look"], ["--look", "--all"], ["--here", "--all"]):
-            refused(call(it, *words), 1, "usage: python3 scripts/edits.py [--look | --all] [--here] [CRATE ..]\n")
+            refused(call(it, *words), 1, "usage: python3 scripts/edits.py [--look | --all] [--here] [--unedited] [CRATE ..]\n")
         refused(call(it, "low", "other"), 2, "coverage: other: is no crate with edits in edits\n")
         refused(call(it, "--all", "other"), 2, "coverage: other: is no crate with edits in edits or more-edits\n")
         it.write("crates/low/more-edits/b.edit", first)
         equal(well(call(it, "--look")).output, b"edits looked at: 2; 0 can't be applied\n")
         for text, why in (
             (first.replace("good", "none"), "the text of old: stands 0 times in src/lib.rt, and not once: let first = none;"),
-            (first + "old: let\nnew: e\n", "the text of old: stands 3 times in src/lib.rt, and not once: let"),
+            (first + "old: let\nnew: e\n", "the text of old: stands 6 times in src/lib.rt, and not once: let"),
             (first.replace("lib.rt", "main.rt"), "there is no file src/main.rt"),
             ("old: one\nnew: two\n", "new: stands before file: or old:"), ("a word\n", "it changes nothing"),
             (first.replace("wrong", "good"), "it changes nothing"),
