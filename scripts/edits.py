@@ -190,6 +190,8 @@ def main(words: list[str]) -> int:
         if faults or looks:
             return BAD_INPUT if faults else 0
         return attempt_all(edits, "--here" in options, unedited if "--unedited" in options else rounds)
+    except Unfit as why:
+        raise Fault("the sources", f"changed as they were copied: {why}") from None
     except OSError as error:
         raise Fault(error.filename or "the system", error.strerror or str(error), FAILED) from None
 
