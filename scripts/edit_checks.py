@@ -215,6 +215,10 @@ def refused_parts(lines: Sequence[str], crate: str, said: str) -> list[re.Match[
     return [it for it in places if any(it[1] == file and it[3].startswith(name) for file, name in wanted)]
 
 
+# What makes the checks of edits in a room.
+Making = Callable[[Sequence[Edit], str], list[Check]]
+
+
 def unedited(edits: Sequence[Edit], at: str) -> list[Check]:
     """A check for each crate of these edits, of the functions that they change, as these stand."""
     found: dict[str, Check] = {}
@@ -243,9 +247,9 @@ def lanes() -> int:
     return max(1, min(len(os.sched_getaffinity(0)), holds))
 
 
-def attempt(checks: Sequence[Check], at: str, libraries: str, tell: Callable[[Edit, Verdict], None]) -> None:
-    """Makes checks of the crates in a room, and tells what came of each edit as it is known."""
-    waiting, running, count, most = list(checks), list[Check](), 0, lanes()
+def attempt(makes: Making, edits: Sequence[Edit], at: str, libraries: str, tell: Callable[[Edit, Verdict], None]) -> None:
+    """Makes the checks of these edits in a room of their crates, and tells what came of each as it is known."""
+    waiting, running, count, most = makes(edits, at), list[Check](), 0, lanes()
     try:
         while waiting or running:
             while waiting and len(running) < most:
@@ -258,7 +262,7 @@ def attempt(checks: Sequence[Check], at: str, libraries: str, tell: Callable[[Ed
                 found, again = check.verdicts()
                 for edit, verdict in found.items():
                     tell(edit, verdict)
-                waiting = [it for some in again for it in rounds(some, at)] + waiting
+                waiting = [it for some in again for it in makes(some, at)] + waiting
     finally:
         for check in running:
             check.end()

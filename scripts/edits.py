@@ -5,12 +5,12 @@ import hashlib
 import os
 import signal
 import sys
-from typing import Callable, Sequence
+from typing import Sequence
 
 from build import FAILED, end_by_signal, toolchain
 from command import BAD_INPUT, Fault, UsageError, complain, run, write_output
 from crate_sources import TOP, crates, rows, sum_of
-from edit_checks import PARTS, PASSED, REFUSED, Check, Verdict, attempt, module, rounds, unedited
+from edit_checks import PARTS, PASSED, REFUSED, Making, Verdict, attempt, module, rounds, unedited
 from edit_files import GATE, MORE, TESTS, Edit, Unfit, applied, edits_of
 from rooms import bring, list_crates, room
 from toolchain import Call
@@ -142,7 +142,7 @@ def prove(at: str) -> None:
         raise Fault("the crates themselves", f"are not proved; the last lines of what the toolchain said:\n{last}", 1)
 
 
-def attempt_all(edits: Sequence[Edit], here: bool, makes: Callable[[Sequence[Edit], str], list[Check]]) -> int:
+def attempt_all(edits: Sequence[Edit], here: bool, makes: Making) -> int:
     """Tries edits, and says whether all were refused; or whether all functions are proved, where the checks apply none."""
     module()
     of, wanted = Sums(TOP), REFUSED if makes is rounds else PASSED
@@ -165,7 +165,7 @@ def attempt_all(edits: Sequence[Edit], here: bool, makes: Callable[[Sequence[Edi
             takes_these = here and are_here(names)
             if not takes_these:
                 prove(at)
-            attempt(makes(left, at), at, TOP if takes_these else at, tell)
+            attempt(makes, left, at, TOP if takes_these else at, tell)
     well = all(came[it].kind == wanted for it in left)
     before = f", {len(edits) - len(left)} of them before" if len(left) < len(edits) else ""
     said = "edits tried: {}{}; {} refused" if makes is rounds else "functions of edits looked at: {}{}; {} proved"
