@@ -156,7 +156,7 @@ fn are_counts(counts: &[u64], words: &str) -> bool {
 }
 
 /// Whether the last tally has these counts.
-fn is_last(tallies: &[Tally], words: &str) -> bool {
+pub fn is_last(tallies: &[Tally], words: &str) -> bool {
     match tallies.get(tallies.len().wrapping_sub(1)) {
         Some(tally) => are_counts(
             &[

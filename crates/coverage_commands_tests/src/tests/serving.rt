@@ -2,9 +2,11 @@
 ghost use Rattle.std.specs.Prelude.{◌<◌, ◌^◌};
 
 use super::jobs::{FROM_3, job_of};
-use cov_outside::{Gate, MemSink, MemSource};
+use super::order::is_last;
+use cov_outside::{Gate, MemSink, MemSource, OpenGate, SureSink, SureSource};
 use coverage_commands::{Status, cover, cover_one};
 use module_area::Areas;
+use shared_area::SharedAreas;
 use std::alloc::Global;
 use std::sync::Wait;
 use std::test::Fail;
@@ -71,5 +73,42 @@ fn is_told(alloc: Global, words: &str, number: u8, text: &[u8]) -> Result<bool, 
 #[test]
 fn runs_nothing_and_lists_places_without_areas(rt: HostRuntime) -> Result<(), Fail> {
     assert!(rt; is_told(rt.alloc(), "run", 1, USAGE)? && is_told(rt.alloc(), "table", 0, PLACES)?);
+    Ok(())
+}
+
+/// Whether the words have this status on the job of a count over devices that never fail, and the last area these counts; no
+/// area is made where there are none.
+fn is_served_surely<T: Threads + Wait + Sync>(
+    rt: &T,
+    alloc: Global,
+    words: &str,
+    number: u8,
+    counts: &str,
+) -> Result<bool, Fail> {
+    let all = words_of(alloc, words)?;
+    let mut source = SureSource::new(job_of(alloc, "COUNT", FROM_3)?, 64);
+    let mut sink = SureSink::new();
+    let mut areas = SharedAreas::new(alloc, 2).map_err(|_| "memory")?;
+    let status = cover(
+        rt,
+        alloc,
+        &all,
+        &mut source,
+        &mut sink,
+        &mut areas,
+        &OpenGate,
+    );
+    let is_made = areas.ledger().len() > 0;
+    Ok(
+        status.0 == number
+            && is_made == is_last(areas.ledger(), counts)
+            && is_made != (counts == ""),
+    )
+}
+
+#[test]
+fn runs_over_devices_that_never_fail(rt: HostRuntime) -> Result<(), Fail> {
+    assert!(rt; is_served_surely(&rt, rt.alloc(), "run", 0, "2 4 4 2 0")?);
+    assert!(rt; is_served_surely(&rt, rt.alloc(), "runs", 1, "")?);
     Ok(())
 }
