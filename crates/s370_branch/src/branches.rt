@@ -30,14 +30,14 @@ fn less_one(cpu: &Cpu, code: &Code) -> u32
 fn index_sum(cpu: &Cpu, code: &Code) -> u32
     ensures { result ≡ index_sum cpu.now code.now }
 {
-    cpu.reg(code.r1()).wrapping_add(cpu.reg(code.r3()))
+    cpu.reg(code.r1()).wrapping_add(cpu.reg(code.r2()))
 }
 
 /// What the sum is compared with, where no register has changed yet.
 fn comparand(cpu: &Cpu, code: &Code) -> u32
     ensures { result ≡ comparand cpu.now code.now }
 {
-    let r3 = code.r3();
+    let r3 = code.r2();
     if r3 % 2 == 1 {
         cpu.reg(r3)
     } else {
@@ -280,32 +280,30 @@ fn branch_and_save_register(cpu: &mut Cpu, it: &Decoded, next: Addr)
 /// BXH and BXLE: adds the increment to R1, and branches as the comparison with the sum says.
 #[inline(always)]
 #[tactic(auto, unfolding(crate::specs::Meaning::goes))]
-fn branch_on_index(cpu: &mut Cpu, code: &Code, op: Op, next: Addr)
-    requires { (op ≡ Op.BXH) ⊎ (op ≡ Op.BXLE) }
-    ensures { (link : ℕ) → Some cpu.new ≡ branched op cpu.old code.now next link }
+fn branch_on_index(cpu: &mut Cpu, it: &Decoded, next: Addr)
+    requires { (it.now.op ≡ Op.BXH) ⊎ (it.now.op ≡ Op.BXLE) }
+    ensures { (link : ℕ) → Some cpu.new ≡ branched it.now.op cpu.old it.now.code next link }
 {
-    let to = if goes(cpu, code, op) {
-        cpu.based(code.b2(), code.d2())
+    let to = if goes(cpu, &it.code, it.op) {
+        cpu.second_based(it)
     } else {
         next
     };
-    cpu.set_reg(code.r1(), index_sum(cpu, code));
+    cpu.set_reg(it.first, index_sum(cpu, &it.code));
     cpu.go(to);
 }
 
 /// Performs a branch: BC BCR BCT BCTR BAL BALR BAS BASR BXH BXLE (Principles of Operation, "General Instructions").
 /// The instruction address becomes the branch address where the instruction branches, else `next`, the updated
 /// address; `link` is the length code that BAL and BALR leave: 1 for two bytes, 2 for four bytes and under EX. A branch
-/// has no test and no interruption, also where it goes to an odd address. The caller has looked up the operation.
-/// Takes no memory.
+/// has no test and no interruption, also where it goes to an odd address. Takes no memory.
 #[inline(always)]
-pub fn branch(cpu: &mut Cpu, code: &Code, op: Op, next: Addr, link: u8)
-    requires group { group_of op ≡ Group.Branch }
+pub fn branch(cpu: &mut Cpu, it: &Decoded, next: Addr, link: u8)
+    requires group { group_of it.now.op ≡ Group.Branch }
     requires link { link ≤ 2 }
-    ensures { Some cpu.new ≡ branched op cpu.old code.now next link }
+    ensures { Some cpu.new ≡ branched it.now.op cpu.old it.now.code next link }
 {
-    let it = &Decoded::of(*code);
-    match op {
+    match it.op {
         Op::BC => branch_on_condition(cpu, it, next),
         Op::BCR => branch_on_condition_register(cpu, it, next),
         Op::BCT => branch_on_count(cpu, it, next),
@@ -314,6 +312,6 @@ pub fn branch(cpu: &mut Cpu, code: &Code, op: Op, next: Addr, link: u8)
         Op::BALR => branch_and_link_register(cpu, it, next, link),
         Op::BAS => branch_and_save(cpu, it, next),
         Op::BASR => branch_and_save_register(cpu, it, next),
-        _ => branch_on_index(cpu, code, op, next),
+        _ => branch_on_index(cpu, it, next),
     }
 }

@@ -5,7 +5,7 @@ ghost use Rattle.s370_state.specs.Parts.{Tested};
 ghost use Rattle.s370_decode.specs.Meaning.{e1, e2};
 ghost use Rattle.s370_decimal.specs.Meaning.{l1, l2, replaces, reads_both, operands};
 
-use s370_decode::Code;
+use s370_decode::Decoded;
 use s370_state::{Cpu, Ending, Field, Space, field_at, test_read_both, test_store_read};
 
 /// What the two fields of an operation hold.
@@ -17,52 +17,52 @@ pub struct Operands {
 
 /// Tests a first field that is replaced and a second that is read.
 #[inline(always)]
-pub fn test_replaced<P: Space>(cpu: &Cpu, space: &P, code: &Code) -> Result<(), Ending>
-    ensures tested { Tested (P.memory space.now) (replaces cpu.now code.now) result }
-    ensures reach { IfOk result (λ _. can_reach (P.memory space.now) (e1 cpu.now code.now) (l1 code.now + 1) ≡ true) }
-    ensures store { IfOk result (λ _. can_store (P.memory space.now) (e1 cpu.now code.now) (l1 code.now + 1) ≡ true) }
-    ensures second { IfOk result (λ _. can_reach (P.memory space.now) (e2 cpu.now code.now) (l2 code.now + 1) ≡ true) }
+pub fn test_replaced<P: Space>(cpu: &Cpu, space: &P, it: &Decoded) -> Result<(), Ending>
+    ensures tested { Tested (P.memory space.now) (replaces cpu.now it.now.code) result }
+    ensures reach { IfOk result (λ _. can_reach (P.memory space.now) (e1 cpu.now it.now.code) (l1 it.now.code + 1) ≡ true) }
+    ensures store { IfOk result (λ _. can_store (P.memory space.now) (e1 cpu.now it.now.code) (l1 it.now.code + 1) ≡ true) }
+    ensures second { IfOk result (λ _. can_reach (P.memory space.now) (e2 cpu.now it.now.code) (l2 it.now.code + 1) ≡ true) }
 {
-    let a = cpu.based(code.b1(), code.d1());
-    let b = cpu.based(code.b2(), code.d2());
+    let a = cpu.first_based(it);
+    let b = cpu.second_based(it);
     test_store_read(
         space,
         a,
-        u32::from(code.l1()) + 1,
+        u32::from(it.first) + 1,
         b,
-        u32::from(code.l2()) + 1,
+        u32::from(it.second) + 1,
     )
 }
 
 /// Tests two fields that are read: code 5 by either, then touch by the first, then by the second.
-pub fn test_compared<P: Space>(cpu: &Cpu, space: &P, code: &Code) -> Result<(), Ending>
-    ensures tested { Tested (P.memory space.now) (reads_both cpu.now code.now) result }
-    ensures reach { IfOk result (λ _. can_reach (P.memory space.now) (e1 cpu.now code.now) (l1 code.now + 1) ≡ true) }
-    ensures second { IfOk result (λ _. can_reach (P.memory space.now) (e2 cpu.now code.now) (l2 code.now + 1) ≡ true) }
+pub fn test_compared<P: Space>(cpu: &Cpu, space: &P, it: &Decoded) -> Result<(), Ending>
+    ensures tested { Tested (P.memory space.now) (reads_both cpu.now it.now.code) result }
+    ensures reach { IfOk result (λ _. can_reach (P.memory space.now) (e1 cpu.now it.now.code) (l1 it.now.code + 1) ≡ true) }
+    ensures second { IfOk result (λ _. can_reach (P.memory space.now) (e2 cpu.now it.now.code) (l2 it.now.code + 1) ≡ true) }
 {
-    let a = cpu.based(code.b1(), code.d1());
-    let b = cpu.based(code.b2(), code.d2());
+    let a = cpu.first_based(it);
+    let b = cpu.second_based(it);
     test_read_both(
         space,
         a,
-        u32::from(code.l1()) + 1,
+        u32::from(it.first) + 1,
         b,
-        u32::from(code.l2()) + 1,
+        u32::from(it.second) + 1,
     )
 }
 
 /// What the two fields hold; none where a digit or the sign of either is bad.
 #[inline(always)]
-pub fn read_operands<P: Space>(cpu: &Cpu, space: &P, code: &Code) -> Option<Operands>
-    requires reach { can_reach (P.memory space.now) (e1 cpu.now code.now) (l1 code.now + 1) ≡ true }
-    requires reach_second { can_reach (P.memory space.now) (e2 cpu.now code.now) (l2 code.now + 1) ≡ true }
-    ensures operands { result ≡ operands (P.memory space.now) cpu.now (P.bytes space.now) code.now }
-    ensures second { IfSome result (λ o. o.second.magnitude < 10 ^ (2 * l2 code.now + 1)) }
+pub fn read_operands<P: Space>(cpu: &Cpu, space: &P, it: &Decoded) -> Option<Operands>
+    requires reach { can_reach (P.memory space.now) (e1 cpu.now it.now.code) (l1 it.now.code + 1) ≡ true }
+    requires reach_second { can_reach (P.memory space.now) (e2 cpu.now it.now.code) (l2 it.now.code + 1) ≡ true }
+    ensures operands { result ≡ operands (P.memory space.now) cpu.now (P.bytes space.now) it.now.code }
+    ensures second { IfSome result (λ o. o.second.magnitude < 10 ^ (2 * l2 it.now.code + 1)) }
     ensures first_most { IfSome result (λ o. o.first.magnitude < 10000000000000000000000000000000) }
     ensures second_most { IfSome result (λ o. o.second.magnitude < 10000000000000000000000000000000) }
 {
-    match field_at(space, cpu.based(code.b1(), code.d1()), code.l1()) {
-        Some(first) => match field_at(space, cpu.based(code.b2(), code.d2()), code.l2()) {
+    match field_at(space, cpu.first_based(it), it.first) {
+        Some(first) => match field_at(space, cpu.second_based(it), it.second) {
             Some(second) => Some(Operands { first, second }),
             None => None,
         },

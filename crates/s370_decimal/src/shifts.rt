@@ -11,15 +11,15 @@ ghost use Rattle.s370_decimal.specs.Meaning.{kept, digits_shifted, decimal_row};
 use crate::fields::power;
 use crate::results::{Kept, keep, put_result};
 use cov_base::Addr;
-use s370_decode::{Code, Op};
+use s370_decode::{Decoded, Op};
 use s370_state::{Cpu, Ending, Field, Next, Space, field_at, test_store};
 
 /// The low six bits of the second address.
-fn distance(cpu: &Cpu, code: &Code) -> u8
-    ensures value { result ≡ shift_distance cpu.now code.now }
+fn distance(cpu: &Cpu, it: &Decoded) -> u8
+    ensures value { result ≡ shift_distance cpu.now it.now.code }
     ensures below { result < 64 }
 {
-    (cpu.based(code.b2(), code.d2()).get() % 64) as u8
+    (cpu.second_based(it).get() % 64) as u8
 }
 
 /// What a field of length code l keeps where it goes n digits to the left. The whole result may have 62 digits, so it
@@ -77,16 +77,16 @@ fn rounded_field<P: Space>(space: &P, at: Addr, l: u8, i: u8) -> Option<Field>
 }
 
 /// SRP: shifts the digits of the first field, and rounds where they go to the right.
-pub fn shift_and_round<P: Space>(cpu: &mut Cpu, space: &mut P, code: &Code) -> Next
-    ensures { Performs P.memory P.bytes (decimal_row Op.SRP code.now) cpu.old space.old cpu.new space.new result }
+pub fn shift_and_round<P: Space>(cpu: &mut Cpu, space: &mut P, it: &Decoded) -> Next
+    ensures { Performs P.memory P.bytes (decimal_row Op.SRP it.now.code) cpu.old space.old cpu.new space.new result }
 {
-    let (at, l, i) = (cpu.based(code.b1(), code.d1()), code.l1(), code.i3());
+    let (at, l, i) = (cpu.first_based(it), it.first, it.second);
     if let Err(e) = test_store(space, at, u32::from(l) + 1) {
         return Next::Ended(e);
     }
     match rounded_field(space, at, l, i) {
         Some(f) => {
-            let n = distance(cpu, code);
+            let n = distance(cpu, it);
             put_result(cpu, space, at, l, keep_shifted(l, f, i, n))
         }
         None => Next::Ended(Ending::Abend(7)),

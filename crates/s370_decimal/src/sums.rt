@@ -10,7 +10,7 @@ ghost use Rattle.s370_decimal.specs.Kept.{number_kept};
 
 use crate::operands::{Operands, read_operands, test_compared, test_replaced};
 use crate::results::{Kept, keep, put_result};
-use s370_decode::{Code, Op};
+use s370_decode::{Decoded, Op};
 use s370_state::{Cpu, Ending, Next, Space, field_at, number, order_code};
 
 /// What a field of length code l keeps of a number.
@@ -44,53 +44,53 @@ fn keep_difference(l: u8, o: Operands) -> Kept
 }
 
 /// AP: adds the second field to the first.
-pub fn add<P: Space>(cpu: &mut Cpu, space: &mut P, code: &Code) -> Next
-    ensures { Performs P.memory P.bytes (decimal_row Op.AP code.now) cpu.old space.old cpu.new space.new result }
+pub fn add<P: Space>(cpu: &mut Cpu, space: &mut P, it: &Decoded) -> Next
+    ensures { Performs P.memory P.bytes (decimal_row Op.AP it.now.code) cpu.old space.old cpu.new space.new result }
 {
-    if let Err(e) = test_replaced(cpu, space, code) {
+    if let Err(e) = test_replaced(cpu, space, it) {
         return Next::Ended(e);
     }
-    match read_operands(cpu, space, code) {
+    match read_operands(cpu, space, it) {
         Some(o) => {
-            let at = cpu.based(code.b1(), code.d1());
-            put_result(cpu, space, at, code.l1(), keep_sum(code.l1(), o))
+            let at = cpu.first_based(it);
+            put_result(cpu, space, at, it.first, keep_sum(it.first, o))
         }
         None => Next::Ended(Ending::Abend(7)),
     }
 }
 
 /// SP: subtracts the second field from the first.
-pub fn subtract<P: Space>(cpu: &mut Cpu, space: &mut P, code: &Code) -> Next
-    ensures { Performs P.memory P.bytes (decimal_row Op.SP code.now) cpu.old space.old cpu.new space.new result }
+pub fn subtract<P: Space>(cpu: &mut Cpu, space: &mut P, it: &Decoded) -> Next
+    ensures { Performs P.memory P.bytes (decimal_row Op.SP it.now.code) cpu.old space.old cpu.new space.new result }
 {
-    if let Err(e) = test_replaced(cpu, space, code) {
+    if let Err(e) = test_replaced(cpu, space, it) {
         return Next::Ended(e);
     }
-    match read_operands(cpu, space, code) {
+    match read_operands(cpu, space, it) {
         Some(o) => {
-            let at = cpu.based(code.b1(), code.d1());
-            put_result(cpu, space, at, code.l1(), keep_difference(code.l1(), o))
+            let at = cpu.first_based(it);
+            put_result(cpu, space, at, it.first, keep_difference(it.first, o))
         }
         None => Next::Ended(Ending::Abend(7)),
     }
 }
 
 /// ZAP: puts the second field in place of the first.
-pub fn zero_and_add<P: Space>(cpu: &mut Cpu, space: &mut P, code: &Code) -> Next
-    ensures { Performs P.memory P.bytes (decimal_row Op.ZAP code.now) cpu.old space.old cpu.new space.new result }
+pub fn zero_and_add<P: Space>(cpu: &mut Cpu, space: &mut P, it: &Decoded) -> Next
+    ensures { Performs P.memory P.bytes (decimal_row Op.ZAP it.now.code) cpu.old space.old cpu.new space.new result }
 {
-    if let Err(e) = test_replaced(cpu, space, code) {
+    if let Err(e) = test_replaced(cpu, space, it) {
         return Next::Ended(e);
     }
-    match field_at(space, cpu.based(code.b2(), code.d2()), code.l2()) {
+    match field_at(space, cpu.second_based(it), it.second) {
         Some(f) => {
-            let at = cpu.based(code.b1(), code.d1());
+            let at = cpu.first_based(it);
             put_result(
                 cpu,
                 space,
                 at,
-                code.l1(),
-                keep(code.l1(), f.magnitude, f.minus),
+                it.first,
+                keep(it.first, f.magnitude, f.minus),
             )
         }
         None => Next::Ended(Ending::Abend(7)),
@@ -108,13 +108,13 @@ fn comparison(o: Operands) -> u8
 }
 
 /// CP: compares the fields.
-pub fn compare<P: Space>(cpu: &mut Cpu, space: &mut P, code: &Code) -> Next
-    ensures { Performs P.memory P.bytes (decimal_row Op.CP code.now) cpu.old space.old cpu.new space.new result }
+pub fn compare<P: Space>(cpu: &mut Cpu, space: &mut P, it: &Decoded) -> Next
+    ensures { Performs P.memory P.bytes (decimal_row Op.CP it.now.code) cpu.old space.old cpu.new space.new result }
 {
-    if let Err(e) = test_compared(cpu, space, code) {
+    if let Err(e) = test_compared(cpu, space, it) {
         return Next::Ended(e);
     }
-    match read_operands(cpu, space, code) {
+    match read_operands(cpu, space, it) {
         Some(o) => {
             cpu.set_cc(comparison(o));
             Next::On

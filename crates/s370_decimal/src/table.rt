@@ -7,7 +7,7 @@ ghost use Rattle.s370_decimal.specs.Meaning.{decimal_row};
 use crate::products::{divide, multiply};
 use crate::shifts::shift_and_round;
 use crate::sums::{add, compare, subtract, zero_and_add};
-use s370_decode::{Code, Group, Op};
+use s370_decode::{Decoded, Group, Op};
 use s370_state::{Cpu, Next, Space};
 
 /// Performs a decimal operation: AP SP ZAP CP MP DP SRP (Principles of Operation, "Decimal Instructions"). Both fields
@@ -17,18 +17,18 @@ use s370_state::{Cpu, Next, Space};
 /// zero divisor or a quotient that is too long, all without a change; and with code X'A', under the mask's second bit,
 /// after an overflow has completed. ZAP doesn't look at what its first field held. Registers and the instruction
 /// address are left as they are. Takes no memory.
-pub fn decimal<P: Space>(cpu: &mut Cpu, space: &mut P, code: &Code, op: Op) -> Next
-    requires { group_of op ≡ Group.Decimal }
-    ensures { Performs P.memory P.bytes (decimal_row op code.now) cpu.old space.old cpu.new space.new result }
+pub fn decimal<P: Space>(cpu: &mut Cpu, space: &mut P, it: &Decoded) -> Next
+    requires { group_of it.now.op ≡ Group.Decimal }
+    ensures { Performs P.memory P.bytes (decimal_row it.now.op it.now.code) cpu.old space.old cpu.new space.new result }
 {
-    match op {
-        Op::AP => add(cpu, space, code),
-        Op::SP => subtract(cpu, space, code),
-        Op::ZAP => zero_and_add(cpu, space, code),
-        Op::CP => compare(cpu, space, code),
-        Op::MP => multiply(cpu, space, code),
-        Op::DP => divide(cpu, space, code),
-        Op::SRP => shift_and_round(cpu, space, code),
+    match it.op {
+        Op::AP => add(cpu, space, it),
+        Op::SP => subtract(cpu, space, it),
+        Op::ZAP => zero_and_add(cpu, space, it),
+        Op::CP => compare(cpu, space, it),
+        Op::MP => multiply(cpu, space, it),
+        Op::DP => divide(cpu, space, it),
+        Op::SRP => shift_and_round(cpu, space, it),
         _ => unreachable!(),
     }
 }

@@ -23,7 +23,7 @@ impl Code {
         u16::from(self.bytes[0]) * 256 + u16::from(self.bytes[1])
     }
 
-    /// Bits 8-11: the first register, or a mask.
+    /// Bits 8-11: the first register, a mask, or the first operand's length code.
     pub fn r1(&self) -> u8
         ensures value { result ≡ r1 self.now }
         ensures below { result < 16 }
@@ -31,15 +31,7 @@ impl Code {
         self.bytes[1] / 16
     }
 
-    /// Bits 8-11: the first operand's length code.
-    pub fn l1(&self) -> u8
-        ensures value { result ≡ r1 self.now }
-        ensures below { result < 16 }
-    {
-        self.bytes[1] / 16
-    }
-
-    /// Bits 12-15: the second register.
+    /// Bits 12-15: the second or third register, the index, a mask, the second operand's length code, or an immediate digit.
     pub fn r2(&self) -> u8
         ensures value { result ≡ r2 self.now }
         ensures below { result < 16 }
@@ -47,54 +39,7 @@ impl Code {
         self.bytes[1] % 16
     }
 
-    /// Bits 12-15: the index.
-    pub fn x2(&self) -> u8
-        ensures value { result ≡ r2 self.now }
-        ensures below { result < 16 }
-    {
-        self.bytes[1] % 16
-    }
-
-    /// Bits 12-15: the third register.
-    pub fn r3(&self) -> u8
-        ensures value { result ≡ r2 self.now }
-        ensures below { result < 16 }
-    {
-        self.bytes[1] % 16
-    }
-
-    /// Bits 12-15: a mask.
-    pub fn m3(&self) -> u8
-        ensures value { result ≡ r2 self.now }
-        ensures below { result < 16 }
-    {
-        self.bytes[1] % 16
-    }
-
-    /// Bits 12-15: the second operand's length code.
-    pub fn l2(&self) -> u8
-        ensures value { result ≡ r2 self.now }
-        ensures below { result < 16 }
-    {
-        self.bytes[1] % 16
-    }
-
-    /// Bits 12-15: an immediate digit.
-    pub fn i3(&self) -> u8
-        ensures value { result ≡ r2 self.now }
-        ensures below { result < 16 }
-    {
-        self.bytes[1] % 16
-    }
-
-    /// Bits 8-15: a length code.
-    pub fn l(&self) -> u8
-        ensures { result ≡ i2 self.now }
-    {
-        self.bytes[1]
-    }
-
-    /// Bits 8-15: an immediate byte.
+    /// Bits 8-15: an immediate byte, or a length code.
     pub fn i2(&self) -> u8
         ensures { result ≡ i2 self.now }
     {

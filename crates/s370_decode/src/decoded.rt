@@ -17,7 +17,7 @@ pub struct Decoded {
     pub code: Code,
     pub next: Addr,
     pub op: Op,
-    /// Bits 8-11, R1 or a mask, and bits 12-15, R2 or R3.
+    /// Bits 8-11, R1, a mask or a length code, and bits 12-15, R2, R3, a mask, a length code or an immediate digit.
     pub first: u8,
     pub second: u8,
     /// The second operand's base, index and displacement; the index is one in the RX format alone.
@@ -68,7 +68,7 @@ impl Decoded {
             first: code.r1(),
             second: code.r2(),
             base: address_register(code.b2()),
-            index: address_register(code.x2()),
+            index: address_register(code.r2()),
             displacement: code.d2(),
             first_base: address_register(code.b1()),
             first_displacement: code.d1(),

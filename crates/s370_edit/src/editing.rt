@@ -12,7 +12,7 @@ use crate::pattern::work;
 use crate::working::Working;
 use arrayvec::ArrayVec;
 use cov_base::Addr;
-use s370_decode::{Code, Group, Op};
+use s370_decode::{Decoded, Group, Op};
 use s370_state::{Cpu, Ending, Next, Space, put_into, test_store_read};
 
 /// Forms the result of the n pattern bytes from a on and the source from b on, and makes the tests of all bytes that
@@ -116,12 +116,12 @@ fn complete<P: Space>(
 
 /// Edits by the pattern, with or without a mark.
 #[tactic(auto, using(s370_state::proofs::Laws::passes, s370_state::proofs::Laws::refuses))]
-fn edit_pattern<P: Space>(cpu: &mut Cpu, space: &mut P, code: &Code, marks: bool) -> Next
-    ensures { Performs P.memory P.bytes (pattern_row marks code.now) cpu.old space.old cpu.new space.new result }
+fn edit_pattern<P: Space>(cpu: &mut Cpu, space: &mut P, it: &Decoded, marks: bool) -> Next
+    ensures { Performs P.memory P.bytes (pattern_row marks it.now.code) cpu.old space.old cpu.new space.new result }
 {
-    let n = u32::from(code.l()) + 1;
-    let a = cpu.based(code.b1(), code.d1());
-    let b = cpu.based(code.b2(), code.d2());
+    let n = u32::from(it.code.i2()) + 1;
+    let a = cpu.first_based(it);
+    let b = cpu.second_based(it);
     let mut text = ArrayVec::new();
     match form(space, a, n, b, &mut text) {
         Ok(w) => complete(cpu, space, a, n, text.as_slice(), &w, marks),
@@ -137,13 +137,13 @@ fn edit_pattern<P: Space>(cpu: &mut Cpu, space: &mut P, code: &Code, marks: bool
 /// which no source byte is read; all without a change. The condition code is 0 for a last field that is zero or empty,
 /// else 1 where the significance indicator is on, 2 where it is off. The instruction address is left as it is. Takes no
 /// memory.
-pub fn edit<P: Space>(cpu: &mut Cpu, space: &mut P, code: &Code, op: Op) -> Next
-    requires { group_of op ≡ Group.Edit }
-    ensures { Performs P.memory P.bytes (edit_row op code.now) cpu.old space.old cpu.new space.new result }
+pub fn edit<P: Space>(cpu: &mut Cpu, space: &mut P, it: &Decoded) -> Next
+    requires { group_of it.now.op ≡ Group.Edit }
+    ensures { Performs P.memory P.bytes (edit_row it.now.op it.now.code) cpu.old space.old cpu.new space.new result }
 {
-    match op {
-        Op::ED => edit_pattern(cpu, space, code, false),
-        Op::EDMK => edit_pattern(cpu, space, code, true),
+    match it.op {
+        Op::ED => edit_pattern(cpu, space, it, false),
+        Op::EDMK => edit_pattern(cpu, space, it, true),
         _ => unreachable!(),
     }
 }

@@ -44,7 +44,7 @@ fn store_multiple_far<P: Space>(
 ) -> Told
     ensures { CarriesOn P.memory P.bytes it.now Op.STM cpu.old space.old cpu.new space.new result end.new }
 {
-    let n = store_multiple(cpu, space, &it.code);
+    let n = store_multiple(cpu, space, it);
     onward(cpu, it.next, n, end)
 }
 
@@ -73,7 +73,7 @@ pub(crate) fn load_multiple_apart<P: Space>(
 fn load_multiple_far<P: Space>(cpu: &mut Cpu, space: &mut P, it: &Decoded, end: &mut Ending) -> Told
     ensures { CarriesOn P.memory P.bytes it.now Op.LM cpu.old space.old cpu.new space.new result end.new }
 {
-    let n = load_multiple(cpu, space, &it.code);
+    let n = load_multiple(cpu, space, it);
     onward(cpu, it.next, n, end)
 }
 
@@ -182,7 +182,7 @@ fn move_characters_far<P: Space>(
 ) -> Told
     ensures { CarriesOn P.memory P.bytes it.now Op.MVC cpu.old space.old cpu.new space.new result end.new }
 {
-    let n = move_characters(cpu, space, &it.code);
+    let n = move_characters(cpu, space, it);
     onward(cpu, it.next, n, end)
 }
 
@@ -216,6 +216,6 @@ fn compare_fields_far<P: Space>(
 ) -> Told
     ensures { CarriesOn P.memory P.bytes it.now Op.CLC cpu.old space.old cpu.new space.new result end.new }
 {
-    let n = compare_fields(cpu, space, &it.code);
+    let n = compare_fields(cpu, space, it);
     onward(cpu, it.next, n, end)
 }

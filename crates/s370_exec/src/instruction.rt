@@ -26,7 +26,7 @@ use s370_branch::{
     branch_on_condition_register, branch_on_count, branch_on_count_register,
 };
 use s370_decimal::decimal;
-use s370_decode::{Code, Decoded, Group, Op, group_of, op_of};
+use s370_decode::{Code, Decoded, Group, Op, group_of};
 use s370_edit::edit;
 use s370_fixed::{
     add_register, compare_register, fixed, load_address, load_and_test, load_complement,
@@ -83,11 +83,11 @@ pub(crate) fn onward(cpu: &mut Cpu, to: Addr, next: Next, end: &mut Ending) -> T
 }
 
 /// The updated address: the EX's plus 4, else the instruction's plus its length.
-fn updated(code: &Code, ex: &Option<Addr>) -> Addr
-    ensures { result ≡ updated code.now ex.now }
+fn updated(it: &Decoded, ex: &Option<Addr>) -> Addr
+    ensures { result ≡ updated it.now.code ex.now }
 {
     match ex {
-        None => code.at.plus(u32::from(code.len)),
+        None => it.next,
         Some(x) => (*x).plus(4),
     }
 }
@@ -126,12 +126,12 @@ fn tell(next: Next, end: &mut Ending) -> Told
 /// A branch in a frame of its own.
 #[inline(never)]
 #[tactic(auto, using(crate::proofs::Groups::by_group))]
-fn branch_apart(cpu: &mut Cpu, code: &Code, op: Op, next: Addr, link: u8) -> Told
-    requires group { group_of op ≡ Group.Branch }
+fn branch_apart(cpu: &mut Cpu, it: &Decoded, next: Addr, link: u8) -> Told
+    requires group { group_of it.now.op ≡ Group.Branch }
     requires link { link ≤ 2 }
-    ensures { Branches code.now op next link cpu.old cpu.new result }
+    ensures { Branches it.now.code it.now.op next link cpu.old cpu.new result }
 {
-    branch(cpu, code, op, next, link);
+    branch(cpu, it, next, link);
     Told::GoesOn
 }
 
@@ -141,15 +141,14 @@ fn branch_apart(cpu: &mut Cpu, code: &Code, op: Op, next: Addr, link: u8) -> Tol
 fn fixed_apart<P: Space>(
     cpu: &mut Cpu,
     space: &mut P,
-    code: &Code,
-    op: Op,
+    it: &Decoded,
     next: Addr,
     end: &mut Ending,
 ) -> Told
-    requires group { group_of op ≡ Group.Fixed }
-    ensures { CarriesOut P.memory P.bytes code.now op next cpu.old space.old cpu.new space.new result end.new }
+    requires group { group_of it.now.op ≡ Group.Fixed }
+    ensures { CarriesOut P.memory P.bytes it.now.code it.now.op next cpu.old space.old cpu.new space.new result end.new }
 {
-    let n = fixed(cpu, space, code, op);
+    let n = fixed(cpu, space, it);
     onward(cpu, next, n, end)
 }
 
@@ -159,15 +158,14 @@ fn fixed_apart<P: Space>(
 fn logic_apart<P: Space>(
     cpu: &mut Cpu,
     space: &mut P,
-    code: &Code,
-    op: Op,
+    it: &Decoded,
     next: Addr,
     end: &mut Ending,
 ) -> Told
-    requires group { group_of op ≡ Group.Logic }
-    ensures { CarriesOut P.memory P.bytes code.now op next cpu.old space.old cpu.new space.new result end.new }
+    requires group { group_of it.now.op ≡ Group.Logic }
+    ensures { CarriesOut P.memory P.bytes it.now.code it.now.op next cpu.old space.old cpu.new space.new result end.new }
 {
-    let n = logic(cpu, space, code, op);
+    let n = logic(cpu, space, it);
     onward(cpu, next, n, end)
 }
 
@@ -177,15 +175,14 @@ fn logic_apart<P: Space>(
 fn storage_apart<P: Space>(
     cpu: &mut Cpu,
     space: &mut P,
-    code: &Code,
-    op: Op,
+    it: &Decoded,
     next: Addr,
     end: &mut Ending,
 ) -> Told
-    requires group { group_of op ≡ Group.Storage }
-    ensures { CarriesOut P.memory P.bytes code.now op next cpu.old space.old cpu.new space.new result end.new }
+    requires group { group_of it.now.op ≡ Group.Storage }
+    ensures { CarriesOut P.memory P.bytes it.now.code it.now.op next cpu.old space.old cpu.new space.new result end.new }
 {
-    let n = storage(cpu, space, code, op);
+    let n = storage(cpu, space, it);
     onward(cpu, next, n, end)
 }
 
@@ -195,15 +192,14 @@ fn storage_apart<P: Space>(
 fn decimal_apart<P: Space>(
     cpu: &mut Cpu,
     space: &mut P,
-    code: &Code,
-    op: Op,
+    it: &Decoded,
     next: Addr,
     end: &mut Ending,
 ) -> Told
-    requires group { group_of op ≡ Group.Decimal }
-    ensures { CarriesOut P.memory P.bytes code.now op next cpu.old space.old cpu.new space.new result end.new }
+    requires group { group_of it.now.op ≡ Group.Decimal }
+    ensures { CarriesOut P.memory P.bytes it.now.code it.now.op next cpu.old space.old cpu.new space.new result end.new }
 {
-    let n = decimal(cpu, space, code, op);
+    let n = decimal(cpu, space, it);
     onward(cpu, next, n, end)
 }
 
@@ -214,25 +210,24 @@ fn carry_out_apart<P: Space>(
     cpu: &mut Cpu,
     space: &mut P,
     io: &mut TaskIo,
-    code: &Code,
+    it: &Decoded,
     ex: Option<Addr>,
     end: &mut Ending,
 ) -> Told
-    ensures { Executes P.memory P.bytes code.now ex cpu.old space.old io.old cpu.new space.new io.new result end.new }
+    ensures { Executes P.memory P.bytes it.now.code ex cpu.old space.old io.old cpu.new space.new io.new result end.new }
 {
-    let op = op_of(code.first_half());
-    let next = updated(code, &ex);
-    match group_of(op) {
-        Group::Fixed => fixed_apart(cpu, space, code, op, next, end),
-        Group::Logic => logic_apart(cpu, space, code, op, next, end),
-        Group::Storage => storage_apart(cpu, space, code, op, next, end),
-        Group::Decimal => decimal_apart(cpu, space, code, op, next, end),
+    let next = updated(it, &ex);
+    match group_of(it.op) {
+        Group::Fixed => fixed_apart(cpu, space, it, next, end),
+        Group::Logic => logic_apart(cpu, space, it, next, end),
+        Group::Storage => storage_apart(cpu, space, it, next, end),
+        Group::Decimal => decimal_apart(cpu, space, it, next, end),
         Group::Edit => {
-            let n = edit(cpu, space, code, op);
+            let n = edit(cpu, space, it);
             onward(cpu, next, n, end)
         }
-        Group::Branch => branch_apart(cpu, code, op, next, link_code(code, &ex)),
-        Group::Call => tell(task_call(cpu, space, io, code.i2(), next), end),
+        Group::Branch => branch_apart(cpu, it, next, link_code(&it.code, &ex)),
+        Group::Call => tell(task_call(cpu, space, io, it.code.i2(), next), end),
         Group::Supervisor => tell(Next::Ended(privileged()), end),
         Group::Missing => tell(Next::Ended(Ending::Abend(1)), end),
     }
@@ -444,7 +439,7 @@ pub fn execute<P: Space>(
     ensures { Does P.memory P.bytes (executed code.now ex) cpu.old space.old io.old cpu.new space.new io.new result }
 {
     let mut end = Ending::Spent;
-    match carry_out_apart(cpu, space, io, code, ex, &mut end) {
+    match carry_out_apart(cpu, space, io, &Decoded::of(*code), ex, &mut end) {
         Told::GoesOn => Next::On,
         Told::HasEnded => how_ended(&end),
     }

@@ -19,7 +19,7 @@ pub fn is_execute(half: u16) -> bool
 pub fn subject_address(cpu: &Cpu, ex: &Code) -> Addr
     ensures { result ≡ fields.ex cpu.now ex.now }
 {
-    cpu.address(ex.b2(), ex.x2(), ex.d2())
+    cpu.address(ex.b2(), ex.r2(), ex.d2())
 }
 
 /// What bits 8-15 of the subject are ORed with.

@@ -8,9 +8,9 @@ ghost use Rattle.s370_state.specs.Parts.{finished};
 ghost use Rattle.s370_fixed.specs.Meaning.{converted, fixed_row};
 
 use crate::words::{is_word, low_word};
-use s370_decode::{Code, Op};
+use s370_decode::{Decoded, Op};
 use s370_state::{
-    Cpu, Ending, Field, Next, Space, field_at, indexed, number, put_field, signed, test_read,
+    Cpu, Ending, Field, Next, Space, field_at, number, put_field, signed, test_read,
     test_store,
 };
 
@@ -34,28 +34,28 @@ fn convert(cpu: &mut Cpu, r: u8, f: Field) -> Next
 }
 
 /// CVB: loads R1 with the number of a packed doubleword.
-pub fn convert_to_binary<P: Space>(cpu: &mut Cpu, space: &mut P, code: &Code) -> Next
-    ensures { Performs P.memory P.bytes (fixed_row Op.CVB code.now) cpu.old space.old cpu.new space.new result }
+pub fn convert_to_binary<P: Space>(cpu: &mut Cpu, space: &mut P, it: &Decoded) -> Next
+    ensures { Performs P.memory P.bytes (fixed_row Op.CVB it.now.code) cpu.old space.old cpu.new space.new result }
 {
-    let at = indexed(cpu, code);
+    let at = cpu.second_indexed(it);
     if let Err(e) = test_read(space, at, 8) {
         return Next::Ended(e);
     }
     match field_at(space, at, DOUBLEWORD) {
-        Some(f) => convert(cpu, code.r1(), f),
+        Some(f) => convert(cpu, it.first, f),
         None => Next::Ended(Ending::Abend(7)),
     }
 }
 
 /// CVD: stores R1's number in a packed doubleword.
-pub fn convert_to_decimal<P: Space>(cpu: &mut Cpu, space: &mut P, code: &Code) -> Next
-    ensures { Performs P.memory P.bytes (fixed_row Op.CVD code.now) cpu.old space.old cpu.new space.new result }
+pub fn convert_to_decimal<P: Space>(cpu: &mut Cpu, space: &mut P, it: &Decoded) -> Next
+    ensures { Performs P.memory P.bytes (fixed_row Op.CVD it.now.code) cpu.old space.old cpu.new space.new result }
 {
-    let at = indexed(cpu, code);
+    let at = cpu.second_indexed(it);
     if let Err(e) = test_store(space, at, 8) {
         return Next::Ended(e);
     }
-    let z = signed(cpu.reg(code.r1()));
+    let z = signed(cpu.reg(it.first));
     put_field(space, at, DOUBLEWORD, u128::from(z.unsigned_abs()), z < 0);
     Next::On
 }

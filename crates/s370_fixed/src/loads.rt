@@ -8,7 +8,7 @@ ghost use Rattle.s370_fixed.specs.Meaning.{fixed_row};
 
 use crate::operands::{half_at, load, set_result};
 use crate::words::{low_word, put_half, sign_code};
-use s370_decode::{Code, Decoded, Op};
+use s370_decode::{Decoded, Op};
 use s370_state::{Cpu, Next, Space, put_word, read_word, signed, test_store};
 
 /// The magnitude of a register's number.
@@ -72,18 +72,18 @@ pub fn load_complement<P: Space>(cpu: &mut Cpu, space: &mut P, it: &Decoded) -> 
 
 /// LPR: loads R1 with the magnitude of R2; that of -2^31 overflows.
 #[inline(always)]
-pub fn load_positive<P: Space>(cpu: &mut Cpu, space: &mut P, code: &Code) -> Next
-    ensures { Performs P.memory P.bytes (fixed_row Op.LPR code.now) cpu.old space.old cpu.new space.new result }
+pub fn load_positive<P: Space>(cpu: &mut Cpu, space: &mut P, it: &Decoded) -> Next
+    ensures { Performs P.memory P.bytes (fixed_row Op.LPR it.now.code) cpu.old space.old cpu.new space.new result }
 {
-    set_result(cpu, code.r1(), magnitude(signed(cpu.reg(code.r2()))))
+    set_result(cpu, it.first, magnitude(signed(cpu.reg(it.second))))
 }
 
 /// LNR: loads R1 with the magnitude of R2 made negative.
 #[inline(always)]
-pub fn load_negative<P: Space>(cpu: &mut Cpu, space: &mut P, code: &Code) -> Next
-    ensures { Performs P.memory P.bytes (fixed_row Op.LNR code.now) cpu.old space.old cpu.new space.new result }
+pub fn load_negative<P: Space>(cpu: &mut Cpu, space: &mut P, it: &Decoded) -> Next
+    ensures { Performs P.memory P.bytes (fixed_row Op.LNR it.now.code) cpu.old space.old cpu.new space.new result }
 {
-    set_result(cpu, code.r1(), -magnitude(signed(cpu.reg(code.r2()))))
+    set_result(cpu, it.first, -magnitude(signed(cpu.reg(it.second))))
 }
 
 /// LA: loads R1 with the second operand's address, and zeros in bits 0-7; no operand is tested.

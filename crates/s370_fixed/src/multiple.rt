@@ -9,17 +9,17 @@ ghost use Rattle.s370_state.specs.Row.{Attempts, Performs};
 ghost use Rattle.s370_fixed.specs.Meaning.{many, loaded, stored, fixed_row};
 
 use cov_base::Addr;
-use s370_decode::{Code, Decoded, Op};
+use s370_decode::{Decoded, Op};
 use s370_state::{
     Cpu, Next, Space, put_word, reads_own, stores_own, test_read, test_store, word_of,
 };
 
 /// How many registers there are from R1 to R3, 15 followed by 0.
-fn count(code: &Code) -> u8
-    ensures value { result ≡ many code.now }
+fn count(it: &Decoded) -> u8
+    ensures value { result ≡ many it.now.code }
     ensures most { result ≤ 16 }
 {
-    (code.r3() + 16 - code.r1()) % 16 + 1
+    (it.second + 16 - it.first) % 16 + 1
 }
 
 /// Word i of n that stand in a row.
@@ -89,7 +89,7 @@ fn store_words<P: Space>(cpu: &Cpu, space: &mut P, r: u8, at: Addr, n: u8)
 pub fn load_multiple_own<P: Space>(cpu: &mut Cpu, space: &mut P, it: &Decoded) -> bool
     ensures { Attempts P.memory P.bytes (fixed_row Op.LM it.now.code) cpu.old space.old cpu.new space.new result }
 {
-    let (r, n) = (it.first, count(&it.code));
+    let (r, n) = (it.first, count(it));
     let at = cpu.second_based(it);
     if r + n > 16 {
         return false;
@@ -126,27 +126,27 @@ pub fn store_multiple_own<P: Space>(cpu: &mut Cpu, space: &mut P, it: &Decoded) 
 }
 
 /// LM: loads the registers from R1 to R3 from as many words.
-pub fn load_multiple<P: Space>(cpu: &mut Cpu, space: &mut P, code: &Code) -> Next
-    ensures { Performs P.memory P.bytes (fixed_row Op.LM code.now) cpu.old space.old cpu.new space.new result }
+pub fn load_multiple<P: Space>(cpu: &mut Cpu, space: &mut P, it: &Decoded) -> Next
+    ensures { Performs P.memory P.bytes (fixed_row Op.LM it.now.code) cpu.old space.old cpu.new space.new result }
 {
-    let n = count(code);
-    let at = cpu.based(code.b2(), code.d2());
+    let n = count(it);
+    let at = cpu.second_based(it);
     if let Err(e) = test_read(space, at, 4 * u32::from(n)) {
         return Next::Ended(e);
     }
-    load_words(cpu, space, code.r1(), at, n);
+    load_words(cpu, space, it.first, at, n);
     Next::On
 }
 
 /// STM: stores the registers from R1 to R3 in as many words.
-pub fn store_multiple<P: Space>(cpu: &mut Cpu, space: &mut P, code: &Code) -> Next
-    ensures { Performs P.memory P.bytes (fixed_row Op.STM code.now) cpu.old space.old cpu.new space.new result }
+pub fn store_multiple<P: Space>(cpu: &mut Cpu, space: &mut P, it: &Decoded) -> Next
+    ensures { Performs P.memory P.bytes (fixed_row Op.STM it.now.code) cpu.old space.old cpu.new space.new result }
 {
-    let n = count(code);
-    let at = cpu.based(code.b2(), code.d2());
+    let n = count(it);
+    let at = cpu.second_based(it);
     if let Err(e) = test_store(space, at, 4 * u32::from(n)) {
         return Next::Ended(e);
     }
-    store_words(cpu, space, code.r1(), at, n);
+    store_words(cpu, space, it.first, at, n);
     Next::On
 }

@@ -1,35 +1,13 @@
-//! The second operand of an operation, tested and read, and what operations do with a result.
+//! The halfword of an operation, tested and read, and what operations do with a result.
 ghost use Rattle.std.specs.Prelude.{◌≡◌, ◌<◌, ◌≤◌, [], ◌∷◌, ℤ, pos, neg_ℤ, ◌≤ℤ◌, ◌<ℤ◌, IfOk, IfErr, None, Some, if◌then◌else◌, slice_set};
-ghost use Rattle.s370_state.specs.Meaning.{reads, next_after, number_at};
+ghost use Rattle.s370_state.specs.Meaning.{reads, next_after};
 ghost use Rattle.s370_state.specs.Parts.{Tested};
 ghost use Rattle.s370_fixed.specs.Meaning.{is_word};
 ghost use Rattle.s370_fixed.specs.Results.{signed_half_at, with_result};
-ghost use Rattle.s370_decode.specs.Meaning.{ex};
 
 use crate::words::{half_of, is_beyond_word, low_word, sign_code, signed_half};
 use cov_base::Addr;
-use s370_decode::Code;
-use s370_state::{Cpu, Ending, Next, Space, indexed, next_after, read_word, signed, test_read};
-
-/// The word at the second operand's address.
-#[inline(always)]
-pub fn word<P: Space>(cpu: &Cpu, space: &P, code: &Code) -> Result<u32, Ending>
-    ensures tested { Tested (P.memory space.now) (reads (ex cpu.now code.now) 4 ∷ []) result }
-    ensures value { IfOk result (λ v. v ≡ number_at (P.memory space.now) (P.bytes space.now) (ex cpu.now code.now) 4) }
-{
-    read_word(space, indexed(cpu, code))
-}
-
-/// The halfword there, extended by its sign.
-#[inline(always)]
-pub fn half<P: Space>(cpu: &Cpu, space: &P, code: &Code) -> Result<i64, Ending>
-    ensures tested { Tested (P.memory space.now) (reads (ex cpu.now code.now) 2 ∷ []) result }
-    ensures value { IfOk result (λ z. z ≡ signed_half_at (P.memory space.now) (P.bytes space.now) (ex cpu.now code.now)) }
-    ensures low { IfOk result (λ z. neg_ℤ (pos 32768) ≤ℤ z) }
-    ensures high { IfOk result (λ z. z <ℤ pos 32768) }
-{
-    half_at(space, indexed(cpu, code))
-}
+use s370_state::{Cpu, Ending, Next, Space, next_after, signed, test_read};
 
 /// The halfword at the address, extended by its sign.
 #[inline(always)]

@@ -10,10 +10,10 @@ ghost use Rattle.s370_state.specs.Parts.{Follows};
 ghost use Rattle.s370_fixed.specs.Meaning.{is_word, divides, fixed_row};
 ghost use Rattle.s370_fixed.specs.Results.{signed_in, with_low_word, with_both_words, pair_divided};
 
-use crate::operands::{half, load, word};
+use crate::operands::{half_at, load};
 use crate::words::{is_word, low_word};
-use s370_decode::{Code, Op};
-use s370_state::{Cpu, Ending, Next, Space, signed};
+use s370_decode::{Decoded, Op};
+use s370_state::{Cpu, Ending, Next, Space, read_word, signed};
 
 /// The product of the pair's second register and a signed word goes to the pair.
 #[tactic(auto, using(crate::proofs::Wide::product_fits))]
@@ -79,60 +79,60 @@ fn quotient(p: i64, d: i64) -> Option<(i64, i64)>
 }
 
 /// MR: multiplies the second register of the pair R1 by R2; the pair has the product.
-pub fn multiply_register<P: Space>(cpu: &mut Cpu, space: &mut P, code: &Code) -> Next
-    ensures { Performs P.memory P.bytes (fixed_row Op.MR code.now) cpu.old space.old cpu.new space.new result }
+pub fn multiply_register<P: Space>(cpu: &mut Cpu, space: &mut P, it: &Decoded) -> Next
+    ensures { Performs P.memory P.bytes (fixed_row Op.MR it.now.code) cpu.old space.old cpu.new space.new result }
 {
-    let r = code.r1();
+    let r = it.first;
     if r % 2 != 0 {
         return Next::Ended(Ending::Abend(6));
     }
-    multiply(cpu, r, signed(cpu.reg(code.r2())))
+    multiply(cpu, r, signed(cpu.reg(it.second)))
 }
 
 /// M: multiplies the second register of the pair R1 by a word; the pair has the product.
-pub fn multiply_word<P: Space>(cpu: &mut Cpu, space: &mut P, code: &Code) -> Next
-    ensures { Performs P.memory P.bytes (fixed_row Op.M code.now) cpu.old space.old cpu.new space.new result }
+pub fn multiply_word<P: Space>(cpu: &mut Cpu, space: &mut P, it: &Decoded) -> Next
+    ensures { Performs P.memory P.bytes (fixed_row Op.M it.now.code) cpu.old space.old cpu.new space.new result }
 {
-    let r = code.r1();
+    let r = it.first;
     if r % 2 != 0 {
         return Next::Ended(Ending::Abend(6));
     }
-    match word(cpu, space, code) {
+    match read_word(space, cpu.second_indexed(it)) {
         Ok(v) => multiply(cpu, r, signed(v)),
         Err(e) => Next::Ended(e),
     }
 }
 
 /// MH: multiplies R1 by a halfword, extended by its sign; R1 keeps the low word of the product.
-pub fn multiply_half<P: Space>(cpu: &mut Cpu, space: &mut P, code: &Code) -> Next
-    ensures { Performs P.memory P.bytes (fixed_row Op.MH code.now) cpu.old space.old cpu.new space.new result }
+pub fn multiply_half<P: Space>(cpu: &mut Cpu, space: &mut P, it: &Decoded) -> Next
+    ensures { Performs P.memory P.bytes (fixed_row Op.MH it.now.code) cpu.old space.old cpu.new space.new result }
 {
-    match half(cpu, space, code) {
-        Ok(z) => multiply_low(cpu, code.r1(), z),
+    match half_at(space, cpu.second_indexed(it)) {
+        Ok(z) => multiply_low(cpu, it.first, z),
         Err(e) => Next::Ended(e),
     }
 }
 
 /// DR: divides the pair R1 by R2, and leaves remainder and quotient in it.
-pub fn divide_register<P: Space>(cpu: &mut Cpu, space: &mut P, code: &Code) -> Next
-    ensures { Performs P.memory P.bytes (fixed_row Op.DR code.now) cpu.old space.old cpu.new space.new result }
+pub fn divide_register<P: Space>(cpu: &mut Cpu, space: &mut P, it: &Decoded) -> Next
+    ensures { Performs P.memory P.bytes (fixed_row Op.DR it.now.code) cpu.old space.old cpu.new space.new result }
 {
-    let r = code.r1();
+    let r = it.first;
     if r % 2 != 0 {
         return Next::Ended(Ending::Abend(6));
     }
-    divide(cpu, space, r, signed(cpu.reg(code.r2())))
+    divide(cpu, space, r, signed(cpu.reg(it.second)))
 }
 
 /// D: divides the pair R1 by a word, and leaves remainder and quotient in it.
-pub fn divide_word<P: Space>(cpu: &mut Cpu, space: &mut P, code: &Code) -> Next
-    ensures { Performs P.memory P.bytes (fixed_row Op.D code.now) cpu.old space.old cpu.new space.new result }
+pub fn divide_word<P: Space>(cpu: &mut Cpu, space: &mut P, it: &Decoded) -> Next
+    ensures { Performs P.memory P.bytes (fixed_row Op.D it.now.code) cpu.old space.old cpu.new space.new result }
 {
-    let r = code.r1();
+    let r = it.first;
     if r % 2 != 0 {
         return Next::Ended(Ending::Abend(6));
     }
-    match word(cpu, space, code) {
+    match read_word(space, cpu.second_indexed(it)) {
         Ok(v) => divide(cpu, space, r, signed(v)),
         Err(e) => Next::Ended(e),
     }

@@ -9,7 +9,7 @@ ghost use Rattle.s370_fixed.specs.Meaning.{low_word, is_word, is_doubleword, sig
 
 use crate::operands::load;
 use crate::words::{is_word, low_word, sign_code};
-use s370_decode::{Code, Op};
+use s370_decode::{Decoded, Op};
 use s370_state::{Cpu, Ending, Next, Space, next_after, signed};
 
 /// The value of a word's sign bit.
@@ -19,11 +19,11 @@ const WORD_SIGN: u64 = 2_147_483_648;
 const DOUBLE_SIGN: u64 = 9_223_372_036_854_775_808;
 
 /// How far the shift goes, 0 to 63.
-fn distance(cpu: &Cpu, code: &Code) -> u32
-    ensures value { result ≡ e2 cpu.now code.now % 64 }
+fn distance(cpu: &Cpu, it: &Decoded) -> u32
+    ensures value { result ≡ e2 cpu.now it.now.code % 64 }
     ensures below { result < 64 }
 {
-    cpu.based(code.b2(), code.d2()).get() % 64
+    cpu.second_based(it).get() % 64
 }
 
 /// The number times 2^n.
@@ -85,80 +85,80 @@ fn set_code(cpu: &mut Cpu, kept: bool, code: u8) -> Next
 }
 
 /// SLL: shifts R1 to the left, without a sign.
-pub fn shift_left_logical<P: Space>(cpu: &mut Cpu, space: &mut P, code: &Code) -> Next
-    ensures { Performs P.memory P.bytes (fixed_row Op.SLL code.now) cpu.old space.old cpu.new space.new result }
+pub fn shift_left_logical<P: Space>(cpu: &mut Cpu, space: &mut P, it: &Decoded) -> Next
+    ensures { Performs P.memory P.bytes (fixed_row Op.SLL it.now.code) cpu.old space.old cpu.new space.new result }
 {
-    let n = distance(cpu, code);
-    let v = u64::from(cpu.reg(code.r1())) << n;
-    load(cpu, code.r1(), (v % 4_294_967_296) as u32)
+    let n = distance(cpu, it);
+    let v = u64::from(cpu.reg(it.first)) << n;
+    load(cpu, it.first, (v % 4_294_967_296) as u32)
 }
 
 /// SRL: shifts R1 to the right, without a sign.
-pub fn shift_right_logical<P: Space>(cpu: &mut Cpu, space: &mut P, code: &Code) -> Next
-    ensures { Performs P.memory P.bytes (fixed_row Op.SRL code.now) cpu.old space.old cpu.new space.new result }
+pub fn shift_right_logical<P: Space>(cpu: &mut Cpu, space: &mut P, it: &Decoded) -> Next
+    ensures { Performs P.memory P.bytes (fixed_row Op.SRL it.now.code) cpu.old space.old cpu.new space.new result }
 {
-    let n = distance(cpu, code);
-    let v = u64::from(cpu.reg(code.r1())) >> n;
-    load(cpu, code.r1(), v as u32)
+    let n = distance(cpu, it);
+    let v = u64::from(cpu.reg(it.first)) >> n;
+    load(cpu, it.first, v as u32)
 }
 
 /// SLA: shifts R1 to the left behind its sign; lost digits overflow.
-pub fn shift_left<P: Space>(cpu: &mut Cpu, space: &mut P, code: &Code) -> Next
-    ensures { Performs P.memory P.bytes (fixed_row Op.SLA code.now) cpu.old space.old cpu.new space.new result }
+pub fn shift_left<P: Space>(cpu: &mut Cpu, space: &mut P, it: &Decoded) -> Next
+    ensures { Performs P.memory P.bytes (fixed_row Op.SLA it.now.code) cpu.old space.old cpu.new space.new result }
 {
-    let n = distance(cpu, code);
-    let x = signed(cpu.reg(code.r1()));
+    let n = distance(cpu, it);
+    let x = signed(cpu.reg(it.first));
     let z = left_by(x, n);
-    cpu.set_reg(code.r1(), with_sign(WORD_SIGN, x, z) as u32);
+    cpu.set_reg(it.first, with_sign(WORD_SIGN, x, z) as u32);
     set_code(cpu, is_word(z), sign_code(z))
 }
 
 /// SRA: shifts R1 to the right, filled with its sign.
-pub fn shift_right<P: Space>(cpu: &mut Cpu, space: &mut P, code: &Code) -> Next
-    ensures { Performs P.memory P.bytes (fixed_row Op.SRA code.now) cpu.old space.old cpu.new space.new result }
+pub fn shift_right<P: Space>(cpu: &mut Cpu, space: &mut P, it: &Decoded) -> Next
+    ensures { Performs P.memory P.bytes (fixed_row Op.SRA it.now.code) cpu.old space.old cpu.new space.new result }
 {
-    let n = distance(cpu, code);
-    let z = right_by(signed(cpu.reg(code.r1())), n);
-    cpu.set_reg(code.r1(), low_word(z));
+    let n = distance(cpu, it);
+    let z = right_by(signed(cpu.reg(it.first)), n);
+    cpu.set_reg(it.first, low_word(z));
     cpu.set_cc(sign_code(i128::from(z)));
     Next::On
 }
 
 /// SLDL: shifts the pair R1 to the left, without a sign.
-pub fn shift_left_double_logical<P: Space>(cpu: &mut Cpu, space: &mut P, code: &Code) -> Next
-    ensures { Performs P.memory P.bytes (fixed_row Op.SLDL code.now) cpu.old space.old cpu.new space.new result }
+pub fn shift_left_double_logical<P: Space>(cpu: &mut Cpu, space: &mut P, it: &Decoded) -> Next
+    ensures { Performs P.memory P.bytes (fixed_row Op.SLDL it.now.code) cpu.old space.old cpu.new space.new result }
 {
-    let r = code.r1();
+    let r = it.first;
     if r % 2 != 0 {
         return Next::Ended(Ending::Abend(6));
     }
-    let n = distance(cpu, code);
+    let n = distance(cpu, it);
     cpu.set_pair(r, cpu.pair(r) << n);
     Next::On
 }
 
 /// SRDL: shifts the pair R1 to the right, without a sign.
-pub fn shift_right_double_logical<P: Space>(cpu: &mut Cpu, space: &mut P, code: &Code) -> Next
-    ensures { Performs P.memory P.bytes (fixed_row Op.SRDL code.now) cpu.old space.old cpu.new space.new result }
+pub fn shift_right_double_logical<P: Space>(cpu: &mut Cpu, space: &mut P, it: &Decoded) -> Next
+    ensures { Performs P.memory P.bytes (fixed_row Op.SRDL it.now.code) cpu.old space.old cpu.new space.new result }
 {
-    let r = code.r1();
+    let r = it.first;
     if r % 2 != 0 {
         return Next::Ended(Ending::Abend(6));
     }
-    let n = distance(cpu, code);
+    let n = distance(cpu, it);
     cpu.set_pair(r, cpu.pair(r) >> n);
     Next::On
 }
 
 /// SLDA: shifts the pair R1 to the left behind its sign; lost digits overflow.
-pub fn shift_left_double<P: Space>(cpu: &mut Cpu, space: &mut P, code: &Code) -> Next
-    ensures { Performs P.memory P.bytes (fixed_row Op.SLDA code.now) cpu.old space.old cpu.new space.new result }
+pub fn shift_left_double<P: Space>(cpu: &mut Cpu, space: &mut P, it: &Decoded) -> Next
+    ensures { Performs P.memory P.bytes (fixed_row Op.SLDA it.now.code) cpu.old space.old cpu.new space.new result }
 {
-    let r = code.r1();
+    let r = it.first;
     if r % 2 != 0 {
         return Next::Ended(Ending::Abend(6));
     }
-    let n = distance(cpu, code);
+    let n = distance(cpu, it);
     let x = cpu.pair(r).cast_signed();
     let z = left_by(x, n);
     cpu.set_pair(r, with_sign(DOUBLE_SIGN, x, z));
@@ -166,14 +166,14 @@ pub fn shift_left_double<P: Space>(cpu: &mut Cpu, space: &mut P, code: &Code) ->
 }
 
 /// SRDA: shifts the pair R1 to the right, filled with its sign.
-pub fn shift_right_double<P: Space>(cpu: &mut Cpu, space: &mut P, code: &Code) -> Next
-    ensures { Performs P.memory P.bytes (fixed_row Op.SRDA code.now) cpu.old space.old cpu.new space.new result }
+pub fn shift_right_double<P: Space>(cpu: &mut Cpu, space: &mut P, it: &Decoded) -> Next
+    ensures { Performs P.memory P.bytes (fixed_row Op.SRDA it.now.code) cpu.old space.old cpu.new space.new result }
 {
-    let r = code.r1();
+    let r = it.first;
     if r % 2 != 0 {
         return Next::Ended(Ending::Abend(6));
     }
-    let n = distance(cpu, code);
+    let n = distance(cpu, it);
     let z = right_by(cpu.pair(r).cast_signed(), n);
     cpu.set_pair(r, z.cast_unsigned());
     cpu.set_cc(sign_code(i128::from(z)));

@@ -9,7 +9,7 @@ ghost use Rattle.s370_fixed.specs.Meaning.{is_word, fixed_row};
 ghost use Rattle.s370_fixed.specs.Results.{signed_in, with_result, with_sum};
 
 use crate::operands::{half_at, set_result};
-use s370_decode::{Code, Decoded, Op};
+use s370_decode::{Decoded, Op};
 use s370_state::{Cpu, Next, Space, order_code, read_word, signed};
 
 /// Adds a signed word to the register.
@@ -148,10 +148,10 @@ pub fn subtract_half<P: Space>(cpu: &mut Cpu, space: &mut P, it: &Decoded) -> Ne
 
 /// ALR: adds R2 to R1 without signs.
 #[inline(always)]
-pub fn add_logical_register<P: Space>(cpu: &mut Cpu, space: &mut P, code: &Code) -> Next
-    ensures { Performs P.memory P.bytes (fixed_row Op.ALR code.now) cpu.old space.old cpu.new space.new result }
+pub fn add_logical_register<P: Space>(cpu: &mut Cpu, space: &mut P, it: &Decoded) -> Next
+    ensures { Performs P.memory P.bytes (fixed_row Op.ALR it.now.code) cpu.old space.old cpu.new space.new result }
 {
-    add_unsigned(cpu, code.r1(), cpu.reg(code.r2()))
+    add_unsigned(cpu, it.first, cpu.reg(it.second))
 }
 
 /// AL: adds a word to R1 without signs.
@@ -167,10 +167,10 @@ pub fn add_logical_word<P: Space>(cpu: &mut Cpu, space: &mut P, it: &Decoded) ->
 
 /// SLR: subtracts R2 from R1 without signs.
 #[inline(always)]
-pub fn subtract_logical_register<P: Space>(cpu: &mut Cpu, space: &mut P, code: &Code) -> Next
-    ensures { Performs P.memory P.bytes (fixed_row Op.SLR code.now) cpu.old space.old cpu.new space.new result }
+pub fn subtract_logical_register<P: Space>(cpu: &mut Cpu, space: &mut P, it: &Decoded) -> Next
+    ensures { Performs P.memory P.bytes (fixed_row Op.SLR it.now.code) cpu.old space.old cpu.new space.new result }
 {
-    subtract_unsigned(cpu, code.r1(), cpu.reg(code.r2()))
+    subtract_unsigned(cpu, it.first, cpu.reg(it.second))
 }
 
 /// SL: subtracts a word from R1 without signs.

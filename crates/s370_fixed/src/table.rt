@@ -22,7 +22,7 @@ use crate::sums::{
     compare_register, compare_word, subtract_half, subtract_logical_register,
     subtract_logical_word, subtract_register, subtract_word,
 };
-use s370_decode::{Code, Decoded, Group, Op};
+use s370_decode::{Decoded, Group, Op};
 use s370_state::{Cpu, Next, Space};
 
 /// Performs an operation of fixed point and loads: LR L LH LTR LCR LPR LNR LA ST STH LM STM, AR A AH SR S SH ALR AL
@@ -32,51 +32,51 @@ use s370_state::{Cpu, Next, Space};
 /// a bad digit or sign of CVB, and 9 by a divide or CVB whose result doesn't fit, all without a change; and with
 /// code 8, under the mask's first bit, after an overflow has completed. The instruction address is left as it is.
 /// Takes no memory.
-pub fn fixed<P: Space>(cpu: &mut Cpu, space: &mut P, code: &Code, op: Op) -> Next
-    requires { group_of op ≡ Group.Fixed }
-    ensures { Performs P.memory P.bytes (fixed_row op code.now) cpu.old space.old cpu.new space.new result }
+pub fn fixed<P: Space>(cpu: &mut Cpu, space: &mut P, it: &Decoded) -> Next
+    requires { group_of it.now.op ≡ Group.Fixed }
+    ensures { Performs P.memory P.bytes (fixed_row it.now.op it.now.code) cpu.old space.old cpu.new space.new result }
 {
-    match op {
-        Op::LR => load_register(cpu, space, &Decoded::of(*code)),
-        Op::L => load_word(cpu, space, &Decoded::of(*code)),
-        Op::LH => load_half(cpu, space, &Decoded::of(*code)),
-        Op::LTR => load_and_test(cpu, space, &Decoded::of(*code)),
-        Op::LCR => load_complement(cpu, space, &Decoded::of(*code)),
-        Op::LPR => load_positive(cpu, space, code),
-        Op::LNR => load_negative(cpu, space, code),
-        Op::LA => load_address(cpu, space, &Decoded::of(*code)),
-        Op::ST => store_word(cpu, space, &Decoded::of(*code)),
-        Op::STH => store_half(cpu, space, &Decoded::of(*code)),
-        Op::LM => load_multiple(cpu, space, code),
-        Op::STM => store_multiple(cpu, space, code),
-        Op::AR => add_register(cpu, space, &Decoded::of(*code)),
-        Op::A => add_word(cpu, space, &Decoded::of(*code)),
-        Op::AH => add_half(cpu, space, &Decoded::of(*code)),
-        Op::SR => subtract_register(cpu, space, &Decoded::of(*code)),
-        Op::S => subtract_word(cpu, space, &Decoded::of(*code)),
-        Op::SH => subtract_half(cpu, space, &Decoded::of(*code)),
-        Op::ALR => add_logical_register(cpu, space, code),
-        Op::AL => add_logical_word(cpu, space, &Decoded::of(*code)),
-        Op::SLR => subtract_logical_register(cpu, space, code),
-        Op::SL => subtract_logical_word(cpu, space, &Decoded::of(*code)),
-        Op::CR => compare_register(cpu, space, &Decoded::of(*code)),
-        Op::C => compare_word(cpu, space, &Decoded::of(*code)),
-        Op::CH => compare_half(cpu, space, &Decoded::of(*code)),
-        Op::MR => multiply_register(cpu, space, code),
-        Op::M => multiply_word(cpu, space, code),
-        Op::MH => multiply_half(cpu, space, code),
-        Op::DR => divide_register(cpu, space, code),
-        Op::D => divide_word(cpu, space, code),
-        Op::SLL => shift_left_logical(cpu, space, code),
-        Op::SRL => shift_right_logical(cpu, space, code),
-        Op::SLA => shift_left(cpu, space, code),
-        Op::SRA => shift_right(cpu, space, code),
-        Op::SLDL => shift_left_double_logical(cpu, space, code),
-        Op::SRDL => shift_right_double_logical(cpu, space, code),
-        Op::SLDA => shift_left_double(cpu, space, code),
-        Op::SRDA => shift_right_double(cpu, space, code),
-        Op::CVB => convert_to_binary(cpu, space, code),
-        Op::CVD => convert_to_decimal(cpu, space, code),
+    match it.op {
+        Op::LR => load_register(cpu, space, it),
+        Op::L => load_word(cpu, space, it),
+        Op::LH => load_half(cpu, space, it),
+        Op::LTR => load_and_test(cpu, space, it),
+        Op::LCR => load_complement(cpu, space, it),
+        Op::LPR => load_positive(cpu, space, it),
+        Op::LNR => load_negative(cpu, space, it),
+        Op::LA => load_address(cpu, space, it),
+        Op::ST => store_word(cpu, space, it),
+        Op::STH => store_half(cpu, space, it),
+        Op::LM => load_multiple(cpu, space, it),
+        Op::STM => store_multiple(cpu, space, it),
+        Op::AR => add_register(cpu, space, it),
+        Op::A => add_word(cpu, space, it),
+        Op::AH => add_half(cpu, space, it),
+        Op::SR => subtract_register(cpu, space, it),
+        Op::S => subtract_word(cpu, space, it),
+        Op::SH => subtract_half(cpu, space, it),
+        Op::ALR => add_logical_register(cpu, space, it),
+        Op::AL => add_logical_word(cpu, space, it),
+        Op::SLR => subtract_logical_register(cpu, space, it),
+        Op::SL => subtract_logical_word(cpu, space, it),
+        Op::CR => compare_register(cpu, space, it),
+        Op::C => compare_word(cpu, space, it),
+        Op::CH => compare_half(cpu, space, it),
+        Op::MR => multiply_register(cpu, space, it),
+        Op::M => multiply_word(cpu, space, it),
+        Op::MH => multiply_half(cpu, space, it),
+        Op::DR => divide_register(cpu, space, it),
+        Op::D => divide_word(cpu, space, it),
+        Op::SLL => shift_left_logical(cpu, space, it),
+        Op::SRL => shift_right_logical(cpu, space, it),
+        Op::SLA => shift_left(cpu, space, it),
+        Op::SRA => shift_right(cpu, space, it),
+        Op::SLDL => shift_left_double_logical(cpu, space, it),
+        Op::SRDL => shift_right_double_logical(cpu, space, it),
+        Op::SLDA => shift_left_double(cpu, space, it),
+        Op::SRDA => shift_right_double(cpu, space, it),
+        Op::CVB => convert_to_binary(cpu, space, it),
+        Op::CVD => convert_to_decimal(cpu, space, it),
         _ => unreachable!(),
     }
 }

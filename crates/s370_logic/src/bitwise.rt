@@ -8,7 +8,7 @@ ghost use Rattle.s370_logic.specs.Meaning.{zero_code, bytes_joined, are_zero, ro
 ghost use Rattle.s370_logic.specs.Bitwise.{connected, with_result};
 
 use cov_base::Addr;
-use s370_decode::Code;
+use s370_decode::Decoded;
 use s370_state::{Cpu, Next, Space, byte_of, put_into, read_word, test_store, test_store_read};
 
 /// An operation on the bits of two operands.
@@ -81,43 +81,43 @@ fn join_bytes<P: Space>(f: Connective, space: &mut P, a: Addr, b: Addr, n: u32) 
 }
 
 /// NR, OR, XR: joins R2 to R1.
-pub fn join_registers<P: Space>(cpu: &mut Cpu, space: &mut P, code: &Code, f: Connective) -> Next
-    ensures { Performs P.memory P.bytes (row_registers (connected f) code.now) cpu.old space.old cpu.new space.new result }
+pub fn join_registers<P: Space>(cpu: &mut Cpu, space: &mut P, it: &Decoded, f: Connective) -> Next
+    ensures { Performs P.memory P.bytes (row_registers (connected f) it.now.code) cpu.old space.old cpu.new space.new result }
 {
-    join(cpu, code.r1(), cpu.reg(code.r2()), f)
+    join(cpu, it.first, cpu.reg(it.second), f)
 }
 
 /// N, O, X: joins a word to R1.
-pub fn join_word<P: Space>(cpu: &mut Cpu, space: &mut P, code: &Code, f: Connective) -> Next
-    ensures { Performs P.memory P.bytes (row_word (connected f) code.now) cpu.old space.old cpu.new space.new result }
+pub fn join_word<P: Space>(cpu: &mut Cpu, space: &mut P, it: &Decoded, f: Connective) -> Next
+    ensures { Performs P.memory P.bytes (row_word (connected f) it.now.code) cpu.old space.old cpu.new space.new result }
 {
-    match read_word(space, cpu.address(code.b2(), code.x2(), code.d2())) {
-        Ok(v) => join(cpu, code.r1(), v, f),
+    match read_word(space, cpu.second_indexed(it)) {
+        Ok(v) => join(cpu, it.first, v, f),
         Err(e) => Next::Ended(e),
     }
 }
 
 /// NI, OI, XI: joins I2 to a byte.
-pub fn join_immediate<P: Space>(cpu: &mut Cpu, space: &mut P, code: &Code, f: Connective) -> Next
-    ensures { Performs P.memory P.bytes (row_immediate (connected f) code.now) cpu.old space.old cpu.new space.new result }
+pub fn join_immediate<P: Space>(cpu: &mut Cpu, space: &mut P, it: &Decoded, f: Connective) -> Next
+    ensures { Performs P.memory P.bytes (row_immediate (connected f) it.now.code) cpu.old space.old cpu.new space.new result }
 {
-    let at = cpu.based(code.b1(), code.d1());
+    let at = cpu.first_based(it);
     if let Err(e) = test_store(space, at, 1) {
         return Next::Ended(e);
     }
-    let v = f.of_bytes(byte_of(space, at, 0, 1), code.i2());
+    let v = f.of_bytes(byte_of(space, at, 0, 1), it.code.i2());
     put_into(space, at, 0, 1, v);
     cpu.set_cc(zero_code(v == 0));
     Next::On
 }
 
 /// NC, OC, XC: joins the second operand to the first, left to right.
-pub fn join_fields<P: Space>(cpu: &mut Cpu, space: &mut P, code: &Code, f: Connective) -> Next
-    ensures { Performs P.memory P.bytes (row_fields (connected f) code.now) cpu.old space.old cpu.new space.new result }
+pub fn join_fields<P: Space>(cpu: &mut Cpu, space: &mut P, it: &Decoded, f: Connective) -> Next
+    ensures { Performs P.memory P.bytes (row_fields (connected f) it.now.code) cpu.old space.old cpu.new space.new result }
 {
-    let n = u32::from(code.l()) + 1;
-    let a = cpu.based(code.b1(), code.d1());
-    let b = cpu.based(code.b2(), code.d2());
+    let n = u32::from(it.code.i2()) + 1;
+    let a = cpu.first_based(it);
+    let b = cpu.second_based(it);
     if let Err(e) = test_store_read(space, a, n, b, n) {
         return Next::Ended(e);
     }

@@ -11,7 +11,7 @@ ghost use Rattle.s370_logic.specs.Rows.{number_in};
 ghost use Rattle.s370_logic.specs.Meaning.{compared, logic_row};
 
 use cov_base::Addr;
-use s370_decode::{Code, Decoded, Op};
+use s370_decode::{Decoded, Op};
 use s370_state::{
     Cpu, Next, Space, byte_of, order_code, read_word, reads_both_own, test_read, test_read_both,
 };
@@ -108,18 +108,18 @@ fn compare_operands<P: Space>(space: &P, a: Addr, b: Addr, n: u32) -> u8
 }
 
 /// CLR: compares R1 with R2.
-pub fn compare_registers<P: Space>(cpu: &mut Cpu, space: &mut P, code: &Code) -> Next
-    ensures { Performs P.memory P.bytes (logic_row Op.CLR code.now) cpu.old space.old cpu.new space.new result }
+pub fn compare_registers<P: Space>(cpu: &mut Cpu, space: &mut P, it: &Decoded) -> Next
+    ensures { Performs P.memory P.bytes (logic_row Op.CLR it.now.code) cpu.old space.old cpu.new space.new result }
 {
-    compare(cpu, code.r1(), cpu.reg(code.r2()))
+    compare(cpu, it.first, cpu.reg(it.second))
 }
 
 /// CL: compares R1 with a word.
-pub fn compare_word<P: Space>(cpu: &mut Cpu, space: &mut P, code: &Code) -> Next
-    ensures { Performs P.memory P.bytes (logic_row Op.CL code.now) cpu.old space.old cpu.new space.new result }
+pub fn compare_word<P: Space>(cpu: &mut Cpu, space: &mut P, it: &Decoded) -> Next
+    ensures { Performs P.memory P.bytes (logic_row Op.CL it.now.code) cpu.old space.old cpu.new space.new result }
 {
-    match read_word(space, cpu.address(code.b2(), code.x2(), code.d2())) {
-        Ok(v) => compare(cpu, code.r1(), v),
+    match read_word(space, cpu.second_indexed(it)) {
+        Ok(v) => compare(cpu, it.first, v),
         Err(e) => Next::Ended(e),
     }
 }
@@ -143,7 +143,7 @@ pub fn compare_immediate<P: Space>(cpu: &mut Cpu, space: &mut P, it: &Decoded) -
 pub fn compare_fields_own<P: Space>(cpu: &mut Cpu, space: &mut P, it: &Decoded) -> bool
     ensures { Attempts P.memory P.bytes (logic_row Op.CLC it.now.code) cpu.old space.old cpu.new space.new result }
 {
-    let n = u32::from(it.code.l()) + 1;
+    let n = u32::from(it.code.i2()) + 1;
     let (a, b) = (cpu.first_based(it), cpu.second_based(it));
     if !reads_both_own(space, a, n, b, n) {
         return false;
@@ -162,12 +162,12 @@ pub fn compare_fields_own<P: Space>(cpu: &mut Cpu, space: &mut P, it: &Decoded) 
 
 /// CLC: compares the operands, left to right.
 #[inline(always)]
-pub fn compare_fields<P: Space>(cpu: &mut Cpu, space: &mut P, code: &Code) -> Next
-    ensures { Performs P.memory P.bytes (logic_row Op.CLC code.now) cpu.old space.old cpu.new space.new result }
+pub fn compare_fields<P: Space>(cpu: &mut Cpu, space: &mut P, it: &Decoded) -> Next
+    ensures { Performs P.memory P.bytes (logic_row Op.CLC it.now.code) cpu.old space.old cpu.new space.new result }
 {
-    let n = u32::from(code.l()) + 1;
-    let a = cpu.based(code.b1(), code.d1());
-    let b = cpu.based(code.b2(), code.d2());
+    let n = u32::from(it.code.i2()) + 1;
+    let a = cpu.first_based(it);
+    let b = cpu.second_based(it);
     if let Err(e) = test_read_both(space, a, n, b, n) {
         return Next::Ended(e);
     }

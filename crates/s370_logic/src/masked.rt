@@ -8,15 +8,15 @@ ghost use Rattle.s370_state.specs.Meaning.{number_at, store_number};
 ghost use Rattle.s370_logic.specs.Meaning.{size, gathered, inserted, insert_code, logic_row};
 
 use cov_base::Addr;
-use s370_decode::{Code, Op};
+use s370_decode::{Decoded, Op};
 use s370_state::{Cpu, Next, Space, byte_of, order_code, put_into, test_read, test_store};
 
 /// The operand's length: how many bytes the mask selects.
-fn size(code: &Code) -> u32
-    ensures value { result ≡ size code.now }
+fn size(it: &Decoded) -> u32
+    ensures value { result ≡ size it.now.code }
     ensures most { result ≤ 4 }
 {
-    code.m3().count_ones()
+    it.second.count_ones()
 }
 
 /// Of a word's k right bytes, the number that those make which the mask's k right bits select.
@@ -99,45 +99,45 @@ fn insert_code<P: Space>(space: &P, at: Addr, n: u32, v: u32) -> u8
 }
 
 /// ICM: inserts bytes into the places of R1 that the mask selects.
-pub fn insert_under_mask<P: Space>(cpu: &mut Cpu, space: &mut P, code: &Code) -> Next
-    ensures { Performs P.memory P.bytes (logic_row Op.ICM code.now) cpu.old space.old cpu.new space.new result }
+pub fn insert_under_mask<P: Space>(cpu: &mut Cpu, space: &mut P, it: &Decoded) -> Next
+    ensures { Performs P.memory P.bytes (logic_row Op.ICM it.now.code) cpu.old space.old cpu.new space.new result }
 {
-    let at = cpu.based(code.b2(), code.d2());
-    let n = size(code);
+    let at = cpu.second_based(it);
+    let n = size(it);
     if let Err(e) = test_read(space, at, n) {
         return Next::Ended(e);
     }
     let v = number_of(space, at, n);
-    let r = code.r1();
-    cpu.set_reg(r, inserted(4, code.m3(), cpu.reg(r), v));
+    let r = it.first;
+    cpu.set_reg(r, inserted(4, it.second, cpu.reg(r), v));
     cpu.set_cc(insert_code(space, at, n, v));
     Next::On
 }
 
 /// STCM: stores the bytes of R1 that the mask selects.
-pub fn store_under_mask<P: Space>(cpu: &mut Cpu, space: &mut P, code: &Code) -> Next
-    ensures { Performs P.memory P.bytes (logic_row Op.STCM code.now) cpu.old space.old cpu.new space.new result }
+pub fn store_under_mask<P: Space>(cpu: &mut Cpu, space: &mut P, it: &Decoded) -> Next
+    ensures { Performs P.memory P.bytes (logic_row Op.STCM it.now.code) cpu.old space.old cpu.new space.new result }
 {
-    let at = cpu.based(code.b2(), code.d2());
-    let n = size(code);
+    let at = cpu.second_based(it);
+    let n = size(it);
     if let Err(e) = test_store(space, at, n) {
         return Next::Ended(e);
     }
-    let v = gathered(4, code.m3(), cpu.reg(code.r1()));
+    let v = gathered(4, it.second, cpu.reg(it.first));
     put_number(space, at, n, v);
     Next::On
 }
 
 /// CLM: compares the bytes of R1 that the mask selects with as many in storage.
-pub fn compare_under_mask<P: Space>(cpu: &mut Cpu, space: &mut P, code: &Code) -> Next
-    ensures { Performs P.memory P.bytes (logic_row Op.CLM code.now) cpu.old space.old cpu.new space.new result }
+pub fn compare_under_mask<P: Space>(cpu: &mut Cpu, space: &mut P, it: &Decoded) -> Next
+    ensures { Performs P.memory P.bytes (logic_row Op.CLM it.now.code) cpu.old space.old cpu.new space.new result }
 {
-    let at = cpu.based(code.b2(), code.d2());
-    let n = size(code);
+    let at = cpu.second_based(it);
+    let n = size(it);
     if let Err(e) = test_read(space, at, n) {
         return Next::Ended(e);
     }
-    let first = gathered(4, code.m3(), cpu.reg(code.r1()));
+    let first = gathered(4, it.second, cpu.reg(it.first));
     cpu.set_cc(order_code(first.cmp(&number_of(space, at, n))));
     Next::On
 }

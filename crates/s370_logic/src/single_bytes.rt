@@ -6,7 +6,7 @@ ghost use Rattle.s370_state.specs.Row.{Performs};
 ghost use Rattle.s370_logic.specs.Meaning.{mask_code, stores_byte, logic_row};
 
 use cov_base::Addr;
-use s370_decode::{Code, Decoded, Op};
+use s370_decode::{Decoded, Op};
 use s370_state::{Cpu, Next, Space, byte_of, put_into, test_read, test_store};
 
 /// Stores one byte.
@@ -83,10 +83,10 @@ fn mask_code(selected: u8, mask: u8) -> u8
 }
 
 /// TS: tests the leftmost bit of a byte, and stores ones in it.
-pub fn test_and_set<P: Space>(cpu: &mut Cpu, space: &mut P, code: &Code) -> Next
-    ensures { Performs P.memory P.bytes (logic_row Op.TS code.now) cpu.old space.old cpu.new space.new result }
+pub fn test_and_set<P: Space>(cpu: &mut Cpu, space: &mut P, it: &Decoded) -> Next
+    ensures { Performs P.memory P.bytes (logic_row Op.TS it.now.code) cpu.old space.old cpu.new space.new result }
 {
-    let at = cpu.based(code.b2(), code.d2());
+    let at = cpu.second_based(it);
     if let Err(e) = test_store(space, at, 1) {
         return Next::Ended(e);
     }
@@ -96,10 +96,10 @@ pub fn test_and_set<P: Space>(cpu: &mut Cpu, space: &mut P, code: &Code) -> Next
 }
 
 /// SPM: loads the condition code and the program mask from R1.
-pub fn set_program_mask<P: Space>(cpu: &mut Cpu, space: &mut P, code: &Code) -> Next
-    ensures { Performs P.memory P.bytes (logic_row Op.SPM code.now) cpu.old space.old cpu.new space.new result }
+pub fn set_program_mask<P: Space>(cpu: &mut Cpu, space: &mut P, it: &Decoded) -> Next
+    ensures { Performs P.memory P.bytes (logic_row Op.SPM it.now.code) cpu.old space.old cpu.new space.new result }
 {
-    let w = cpu.reg(code.r1());
+    let w = cpu.reg(it.first);
     cpu.set_cc((w / 268_435_456 % 4) as u8);
     cpu.set_mask((w / 16_777_216 % 16) as u8);
     Next::On

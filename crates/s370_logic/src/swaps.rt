@@ -8,7 +8,7 @@ ghost use Rattle.s370_state.specs.Meaning.{number_at, store_number};
 ghost use Rattle.s370_logic.specs.Meaning.{logic_row};
 
 use cov_base::Addr;
-use s370_decode::{Code, Op};
+use s370_decode::{Decoded, Op};
 use s370_state::{Cpu, Ending, Next, Space, put_word, test_store, word_of};
 
 /// The doubleword at a distance into an operand that was tested, unsigned.
@@ -35,10 +35,10 @@ fn put_double<P: Space>(space: &mut P, at: Addr, i: u32, len: u32, value: u64)
 }
 
 /// CS: stores R3 in a word that equals R1, or else loads R1 from it.
-pub fn compare_and_swap<P: Space>(cpu: &mut Cpu, space: &mut P, code: &Code) -> Next
-    ensures { Performs P.memory P.bytes (logic_row Op.CS code.now) cpu.old space.old cpu.new space.new result }
+pub fn compare_and_swap<P: Space>(cpu: &mut Cpu, space: &mut P, it: &Decoded) -> Next
+    ensures { Performs P.memory P.bytes (logic_row Op.CS it.now.code) cpu.old space.old cpu.new space.new result }
 {
-    let at = cpu.based(code.b2(), code.d2());
+    let at = cpu.second_based(it);
     if at.get() % 4 != 0 {
         return Next::Ended(Ending::Abend(6));
     }
@@ -46,22 +46,22 @@ pub fn compare_and_swap<P: Space>(cpu: &mut Cpu, space: &mut P, code: &Code) -> 
         return Next::Ended(e);
     }
     let v = word_of(space, at, 0, 4);
-    if cpu.reg(code.r1()) == v {
-        put_word(space, at, 0, 4, cpu.reg(code.r3()));
+    if cpu.reg(it.first) == v {
+        put_word(space, at, 0, 4, cpu.reg(it.second));
         cpu.set_cc(0);
     } else {
-        cpu.set_reg(code.r1(), v);
+        cpu.set_reg(it.first, v);
         cpu.set_cc(1);
     }
     Next::On
 }
 
 /// CDS: stores the pair R3 in a doubleword that equals the pair R1, or else loads the pair R1 from it.
-pub fn compare_double_and_swap<P: Space>(cpu: &mut Cpu, space: &mut P, code: &Code) -> Next
-    ensures { Performs P.memory P.bytes (logic_row Op.CDS code.now) cpu.old space.old cpu.new space.new result }
+pub fn compare_double_and_swap<P: Space>(cpu: &mut Cpu, space: &mut P, it: &Decoded) -> Next
+    ensures { Performs P.memory P.bytes (logic_row Op.CDS it.now.code) cpu.old space.old cpu.new space.new result }
 {
-    let at = cpu.based(code.b2(), code.d2());
-    let (r1, r3) = (code.r1(), code.r3());
+    let at = cpu.second_based(it);
+    let (r1, r3) = (it.first, it.second);
     if r1 % 2 != 0 || r3 % 2 != 0 || at.get() % 8 != 0 {
         return Next::Ended(Ending::Abend(6));
     }

@@ -12,7 +12,7 @@ use crate::single_bytes::{
     test_under_mask,
 };
 use crate::swaps::{compare_and_swap, compare_double_and_swap};
-use s370_decode::{Code, Decoded, Group, Op};
+use s370_decode::{Decoded, Group, Op};
 use s370_state::{Cpu, Next, Space};
 
 /// Performs an operation of logic and tests: NR N NI NC, OR O OI OC, XR X XI XC, CLR CL CLI CLC, IC STC, ICM STCM CLM,
@@ -21,38 +21,38 @@ use s370_state::{Cpu, Next, Space};
 /// where an operand is inaccessible, 4 where a stored one is not private, and Touched by a touch byte that is read, all
 /// without a change. An operand that is stored and read counts as stored, that of CS and CDS also where they only
 /// load. The instruction address is left as it is. Takes no memory.
-pub fn logic<P: Space>(cpu: &mut Cpu, space: &mut P, code: &Code, op: Op) -> Next
-    requires { group_of op ≡ Group.Logic }
-    ensures { Performs P.memory P.bytes (logic_row op code.now) cpu.old space.old cpu.new space.new result }
+pub fn logic<P: Space>(cpu: &mut Cpu, space: &mut P, it: &Decoded) -> Next
+    requires { group_of it.now.op ≡ Group.Logic }
+    ensures { Performs P.memory P.bytes (logic_row it.now.op it.now.code) cpu.old space.old cpu.new space.new result }
 {
-    match op {
-        Op::NR => join_registers(cpu, space, code, Connective::And),
-        Op::N => join_word(cpu, space, code, Connective::And),
-        Op::NI => join_immediate(cpu, space, code, Connective::And),
-        Op::NC => join_fields(cpu, space, code, Connective::And),
-        Op::OR => join_registers(cpu, space, code, Connective::Or),
-        Op::O => join_word(cpu, space, code, Connective::Or),
-        Op::OI => join_immediate(cpu, space, code, Connective::Or),
-        Op::OC => join_fields(cpu, space, code, Connective::Or),
-        Op::XR => join_registers(cpu, space, code, Connective::ExclusiveOr),
-        Op::X => join_word(cpu, space, code, Connective::ExclusiveOr),
-        Op::XI => join_immediate(cpu, space, code, Connective::ExclusiveOr),
-        Op::XC => join_fields(cpu, space, code, Connective::ExclusiveOr),
-        Op::CLR => compare_registers(cpu, space, code),
-        Op::CL => compare_word(cpu, space, code),
-        Op::CLI => compare_immediate(cpu, space, &Decoded::of(*code)),
-        Op::CLC => compare_fields(cpu, space, code),
-        Op::IC => insert_character(cpu, space, &Decoded::of(*code)),
-        Op::STC => store_character(cpu, space, &Decoded::of(*code)),
-        Op::ICM => insert_under_mask(cpu, space, code),
-        Op::STCM => store_under_mask(cpu, space, code),
-        Op::CLM => compare_under_mask(cpu, space, code),
-        Op::TM => test_under_mask(cpu, space, &Decoded::of(*code)),
-        Op::MVI => move_immediate(cpu, space, &Decoded::of(*code)),
-        Op::TS => test_and_set(cpu, space, code),
-        Op::CS => compare_and_swap(cpu, space, code),
-        Op::CDS => compare_double_and_swap(cpu, space, code),
-        Op::SPM => set_program_mask(cpu, space, code),
+    match it.op {
+        Op::NR => join_registers(cpu, space, it, Connective::And),
+        Op::N => join_word(cpu, space, it, Connective::And),
+        Op::NI => join_immediate(cpu, space, it, Connective::And),
+        Op::NC => join_fields(cpu, space, it, Connective::And),
+        Op::OR => join_registers(cpu, space, it, Connective::Or),
+        Op::O => join_word(cpu, space, it, Connective::Or),
+        Op::OI => join_immediate(cpu, space, it, Connective::Or),
+        Op::OC => join_fields(cpu, space, it, Connective::Or),
+        Op::XR => join_registers(cpu, space, it, Connective::ExclusiveOr),
+        Op::X => join_word(cpu, space, it, Connective::ExclusiveOr),
+        Op::XI => join_immediate(cpu, space, it, Connective::ExclusiveOr),
+        Op::XC => join_fields(cpu, space, it, Connective::ExclusiveOr),
+        Op::CLR => compare_registers(cpu, space, it),
+        Op::CL => compare_word(cpu, space, it),
+        Op::CLI => compare_immediate(cpu, space, it),
+        Op::CLC => compare_fields(cpu, space, it),
+        Op::IC => insert_character(cpu, space, it),
+        Op::STC => store_character(cpu, space, it),
+        Op::ICM => insert_under_mask(cpu, space, it),
+        Op::STCM => store_under_mask(cpu, space, it),
+        Op::CLM => compare_under_mask(cpu, space, it),
+        Op::TM => test_under_mask(cpu, space, it),
+        Op::MVI => move_immediate(cpu, space, it),
+        Op::TS => test_and_set(cpu, space, it),
+        Op::CS => compare_and_swap(cpu, space, it),
+        Op::CDS => compare_double_and_swap(cpu, space, it),
+        Op::SPM => set_program_mask(cpu, space, it),
         _ => unreachable!(),
     }
 }

@@ -190,13 +190,6 @@ impl Cpu {
     {
         Addr::of(u32::from(d)).plus(self.base(b)).plus(self.base(x))
     }
-    /// The effective address of base and displacement, for operands that take no index.
-    pub fn based(&self, b: u8, d: u16) -> Addr
-        requires { b < 16 }
-        ensures { result ≡ address self.now b 0 d }
-    {
-        self.address(b, 0, d)
-    }
 
     /// What counts in an address for the register of a decoded base or index.
     #[inline(always)]

@@ -1,30 +1,13 @@
 //! The tests of operands in storage, made here once for all operations, and the numbers that operands hold.
 ghost use Rattle.std.specs.Prelude.{◌≡◌, ◌+◌, ◌-◌, ◌%◌, ◌/◌, ◌<◌, ◌≤◌, [], ◌∷◌, true, IfOk, IfErr, IsTrue, slice_set, if◌then◌else◌, ◌&&◌};
 ghost use Rattle.cov_base.specs.Meaning.{byte_at, can_reach, can_store, wrap};
-ghost use Rattle.s370_decode.specs.Meaning.{ex};
 ghost use Rattle.s370_state.specs.Meaning.{reads, stores, use_tests, number_at, store_number};
 ghost use Rattle.s370_state.specs.Answers.{ending_of};
 ghost use Rattle.s370_state.specs.Parts.{Pass, Tested, both_reach_answer};
 
-use crate::cpu::Cpu;
 use crate::endings::Ending;
 use crate::space::{Refused, Space};
 use cov_base::Addr;
-use s370_decode::Code;
-
-/// The second operand's address in the RX format. Below six bytes its fields stand where the first operand's do, so that the
-/// length is asked once for both.
-#[inline(always)]
-#[tactic(auto, unfolding(s370_decode::specs::Meaning::b1, s370_decode::specs::Meaning::d1, s370_decode::specs::Meaning::b2, s370_decode::specs::Meaning::d2))]
-pub fn indexed(cpu: &Cpu, code: &Code) -> Addr
-    ensures { result ≡ ex cpu.now code.now }
-{
-    if code.len == 6 {
-        cpu.address(code.b2(), code.x2(), code.d2())
-    } else {
-        cpu.address(code.b1(), code.x2(), code.d1())
-    }
-}
 
 /// How a refused operand or halfword ends the task: codes 5 and 4, or Touched.
 #[inline(always)]

@@ -9,7 +9,7 @@ ghost use Rattle.s370_state.specs.Parts.{Follows};
 ghost use Rattle.s370_storage.specs.Meaning.{long, passed, lesser, overlaps, padded_bytes, long_moved, moves_apart, long_moves, extended, unequal, compares, long_compares, storage_row};
 
 use cov_base::Addr;
-use s370_decode::{Code, Op};
+use s370_decode::{Decoded, Op};
 use s370_state::{
     Cpu, Ending, Next, Space, byte_of, order_code, put_into, test_read_both, test_store_read,
 };
@@ -139,10 +139,10 @@ fn move_even<P: Space>(cpu: &mut Cpu, space: &mut P, r: u8, q: u8) -> Next
 }
 
 /// MVCL: moves a long operand, and pads what it does not fill.
-pub fn move_long<P: Space>(cpu: &mut Cpu, space: &mut P, code: &Code) -> Next
-    ensures { Performs P.memory P.bytes (storage_row Op.MVCL code.now) cpu.old space.old cpu.new space.new result }
+pub fn move_long<P: Space>(cpu: &mut Cpu, space: &mut P, it: &Decoded) -> Next
+    ensures { Performs P.memory P.bytes (storage_row Op.MVCL it.now.code) cpu.old space.old cpu.new space.new result }
 {
-    let (r, q) = (code.r1(), code.r2());
+    let (r, q) = (it.first, it.second);
     if !are_even(r, q) {
         return Next::Ended(Ending::Abend(6));
     }
@@ -219,10 +219,10 @@ fn compare_even<P: Space>(cpu: &mut Cpu, space: &mut P, r: u8, q: u8) -> Next
 }
 
 /// CLCL: compares long operands, the shorter one padded.
-pub fn compare_long<P: Space>(cpu: &mut Cpu, space: &mut P, code: &Code) -> Next
-    ensures { Performs P.memory P.bytes (storage_row Op.CLCL code.now) cpu.old space.old cpu.new space.new result }
+pub fn compare_long<P: Space>(cpu: &mut Cpu, space: &mut P, it: &Decoded) -> Next
+    ensures { Performs P.memory P.bytes (storage_row Op.CLCL it.now.code) cpu.old space.old cpu.new space.new result }
 {
-    let (r, q) = (code.r1(), code.r2());
+    let (r, q) = (it.first, it.second);
     if !are_even(r, q) {
         return Next::Ended(Ending::Abend(6));
     }

@@ -7,7 +7,7 @@ ghost use Rattle.s370_state.specs.Row.{Attempts, Performs};
 ghost use Rattle.s370_storage.specs.Meaning.{with_part, moved, moves, left_of, inverted, storage_row};
 
 use cov_base::Addr;
-use s370_decode::{Code, Decoded, Op};
+use s370_decode::{Decoded, Op};
 use s370_state::{Cpu, Next, Space, byte_of, put_into, stores_reads_own, test_store_read};
 
 /// What is moved of a byte.
@@ -49,12 +49,12 @@ fn move_halves<P: Space>(part: Part, space: &mut P, a: Addr, b: Addr, n: u32)
 /// Moves that part of L+1 bytes.
 #[inline(always)]
 #[tactic(auto, using(s370_state::proofs::Laws::passes, s370_state::proofs::Laws::refuses, crate::proofs::Steps::moved_copied))]
-fn move_parts<P: Space>(part: Part, cpu: &Cpu, space: &mut P, code: &Code) -> Next
-    ensures { Performs P.memory P.bytes (moves part code.now) cpu.now space.old cpu.now space.new result }
+fn move_parts<P: Space>(part: Part, cpu: &Cpu, space: &mut P, it: &Decoded) -> Next
+    ensures { Performs P.memory P.bytes (moves part it.now.code) cpu.now space.old cpu.now space.new result }
 {
-    let a = cpu.based(code.b1(), code.d1());
-    let b = cpu.based(code.b2(), code.d2());
-    let n = u32::from(code.l()) + 1;
+    let a = cpu.first_based(it);
+    let b = cpu.second_based(it);
+    let n = u32::from(it.code.i2()) + 1;
     if let Err(e) = test_store_read(space, a, n, b, n) {
         return Next::Ended(e);
     }
@@ -72,7 +72,7 @@ pub fn move_characters_own<P: Space>(cpu: &mut Cpu, space: &mut P, it: &Decoded)
     ensures { Attempts P.memory P.bytes (storage_row Op.MVC it.now.code) cpu.old space.old cpu.new space.new result }
 {
     let (a, b) = (cpu.first_based(it), cpu.second_based(it));
-    let n = u32::from(it.code.l()) + 1;
+    let n = u32::from(it.code.i2()) + 1;
     if !stores_reads_own(space, a, n, b, n) {
         return false;
     }
@@ -82,24 +82,24 @@ pub fn move_characters_own<P: Space>(cpu: &mut Cpu, space: &mut P, it: &Decoded)
 
 /// MVC: moves bytes, left to right.
 #[inline(always)]
-pub fn move_characters<P: Space>(cpu: &mut Cpu, space: &mut P, code: &Code) -> Next
-    ensures { Performs P.memory P.bytes (storage_row Op.MVC code.now) cpu.old space.old cpu.new space.new result }
+pub fn move_characters<P: Space>(cpu: &mut Cpu, space: &mut P, it: &Decoded) -> Next
+    ensures { Performs P.memory P.bytes (storage_row Op.MVC it.now.code) cpu.old space.old cpu.new space.new result }
 {
-    move_parts(Part::Byte, cpu, space, code)
+    move_parts(Part::Byte, cpu, space, it)
 }
 
 /// MVN: moves the right halves of bytes, left to right.
-pub fn move_numerics<P: Space>(cpu: &mut Cpu, space: &mut P, code: &Code) -> Next
-    ensures { Performs P.memory P.bytes (storage_row Op.MVN code.now) cpu.old space.old cpu.new space.new result }
+pub fn move_numerics<P: Space>(cpu: &mut Cpu, space: &mut P, it: &Decoded) -> Next
+    ensures { Performs P.memory P.bytes (storage_row Op.MVN it.now.code) cpu.old space.old cpu.new space.new result }
 {
-    move_parts(Part::Numeric, cpu, space, code)
+    move_parts(Part::Numeric, cpu, space, it)
 }
 
 /// MVZ: moves the left halves of bytes, left to right.
-pub fn move_zones<P: Space>(cpu: &mut Cpu, space: &mut P, code: &Code) -> Next
-    ensures { Performs P.memory P.bytes (storage_row Op.MVZ code.now) cpu.old space.old cpu.new space.new result }
+pub fn move_zones<P: Space>(cpu: &mut Cpu, space: &mut P, it: &Decoded) -> Next
+    ensures { Performs P.memory P.bytes (storage_row Op.MVZ it.now.code) cpu.old space.old cpu.new space.new result }
 {
-    move_parts(Part::Zone, cpu, space, code)
+    move_parts(Part::Zone, cpu, space, it)
 }
 
 /// The address n bytes to the left.
@@ -126,15 +126,15 @@ fn invert_bytes<P: Space>(space: &mut P, a: Addr, b: Addr, l: u8)
 }
 
 /// MVCIN: moves bytes in inverse order: the second operand is taken right to left.
-pub fn move_inverse<P: Space>(cpu: &mut Cpu, space: &mut P, code: &Code) -> Next
-    ensures { Performs P.memory P.bytes (storage_row Op.MVCIN code.now) cpu.old space.old cpu.new space.new result }
+pub fn move_inverse<P: Space>(cpu: &mut Cpu, space: &mut P, it: &Decoded) -> Next
+    ensures { Performs P.memory P.bytes (storage_row Op.MVCIN it.now.code) cpu.old space.old cpu.new space.new result }
 {
-    let a = cpu.based(code.b1(), code.d1());
-    let b = cpu.based(code.b2(), code.d2());
-    let l = u32::from(code.l());
+    let a = cpu.first_based(it);
+    let b = cpu.second_based(it);
+    let l = u32::from(it.code.i2());
     if let Err(e) = test_store_read(space, a, l + 1, left_of(b, l), l + 1) {
         return Next::Ended(e);
     }
-    invert_bytes(space, a, b, code.l());
+    invert_bytes(space, a, b, it.code.i2());
     Next::On
 }

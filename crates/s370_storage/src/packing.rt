@@ -8,7 +8,7 @@ ghost use Rattle.s370_state.specs.Parts.{Tested};
 ghost use Rattle.s370_storage.specs.Meaning.{fields, source, result_at, exchanged, packed_byte, packed, with_zoned, unpacked, shifted, field_uses, storage_row};
 
 use cov_base::Addr;
-use s370_decode::{Code, Op};
+use s370_decode::{Decoded, Op};
 use s370_state::{Cpu, Ending, Next, Space, byte_of, put_into, test_store_read};
 
 /// The field of results and that of sources: where each begins, and the number of its last byte, 0 to 15.
@@ -21,16 +21,16 @@ pub struct Fields {
 }
 
 /// Both fields as the instruction gives them.
-fn fields_of(cpu: &Cpu, code: &Code) -> Fields
-    ensures fields { result ≡ fields cpu.now code.now }
+fn fields_of(cpu: &Cpu, it: &Decoded) -> Fields
+    ensures fields { result ≡ fields cpu.now it.now.code }
     ensures to { result.to_last < 16 }
     ensures from { result.from_last < 16 }
 {
     Fields {
-        to: cpu.based(code.b1(), code.d1()),
-        to_last: u32::from(code.l1()),
-        from: cpu.based(code.b2(), code.d2()),
-        from_last: u32::from(code.l2()),
+        to: cpu.first_based(it),
+        to_last: u32::from(it.first),
+        from: cpu.second_based(it),
+        from_last: u32::from(it.second),
     }
 }
 
@@ -109,10 +109,10 @@ fn pack_bytes<P: Space>(space: &mut P, o: &Fields)
 }
 
 /// PACK: packs the digits of zoned bytes, two to a byte.
-pub fn pack<P: Space>(cpu: &mut Cpu, space: &mut P, code: &Code) -> Next
-    ensures { Performs P.memory P.bytes (storage_row Op.PACK code.now) cpu.old space.old cpu.new space.new result }
+pub fn pack<P: Space>(cpu: &mut Cpu, space: &mut P, it: &Decoded) -> Next
+    ensures { Performs P.memory P.bytes (storage_row Op.PACK it.now.code) cpu.old space.old cpu.new space.new result }
 {
-    let o = fields_of(cpu, code);
+    let o = fields_of(cpu, it);
     if let Err(e) = test_fields(space, &o) {
         return Next::Ended(e);
     }
@@ -153,10 +153,10 @@ fn unpack_bytes<P: Space>(space: &mut P, o: &Fields)
 }
 
 /// UNPK: gives each packed digit a zoned byte.
-pub fn unpack<P: Space>(cpu: &mut Cpu, space: &mut P, code: &Code) -> Next
-    ensures { Performs P.memory P.bytes (storage_row Op.UNPK code.now) cpu.old space.old cpu.new space.new result }
+pub fn unpack<P: Space>(cpu: &mut Cpu, space: &mut P, it: &Decoded) -> Next
+    ensures { Performs P.memory P.bytes (storage_row Op.UNPK it.now.code) cpu.old space.old cpu.new space.new result }
 {
-    let o = fields_of(cpu, code);
+    let o = fields_of(cpu, it);
     if let Err(e) = test_fields(space, &o) {
         return Next::Ended(e);
     }
@@ -184,10 +184,10 @@ fn shift_bytes<P: Space>(space: &mut P, o: &Fields)
 }
 
 /// MVO: moves half bytes to the left of the first operand's last half byte.
-pub fn move_with_offset<P: Space>(cpu: &mut Cpu, space: &mut P, code: &Code) -> Next
-    ensures { Performs P.memory P.bytes (storage_row Op.MVO code.now) cpu.old space.old cpu.new space.new result }
+pub fn move_with_offset<P: Space>(cpu: &mut Cpu, space: &mut P, it: &Decoded) -> Next
+    ensures { Performs P.memory P.bytes (storage_row Op.MVO it.now.code) cpu.old space.old cpu.new space.new result }
 {
-    let o = fields_of(cpu, code);
+    let o = fields_of(cpu, it);
     if let Err(e) = test_fields(space, &o) {
         return Next::Ended(e);
     }

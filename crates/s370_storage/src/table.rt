@@ -8,7 +8,7 @@ use crate::long::{compare_long, move_long};
 use crate::moves::{move_characters, move_inverse, move_numerics, move_zones};
 use crate::packing::{move_with_offset, pack, unpack};
 use crate::translate::{translate, translate_and_test};
-use s370_decode::{Code, Group, Op};
+use s370_decode::{Decoded, Group, Op};
 use s370_state::{Cpu, Next, Space};
 
 /// Performs an operation on fields in storage: MVC MVN MVZ MVCIN, TR TRT, MVCL CLCL, PACK UNPK and MVO (Principles of
@@ -17,22 +17,22 @@ use s370_state::{Cpu, Next, Space};
 /// Touched by a touch byte that is read, all without a change. Operands that overlap are worked a byte at a time, but
 /// MVCL is refused by condition code 3 where it would move a byte after it was stored into. The instruction address is
 /// left as it is. Takes no memory.
-pub fn storage<P: Space>(cpu: &mut Cpu, space: &mut P, code: &Code, op: Op) -> Next
-    requires { group_of op ≡ Group.Storage }
-    ensures { Performs P.memory P.bytes (storage_row op code.now) cpu.old space.old cpu.new space.new result }
+pub fn storage<P: Space>(cpu: &mut Cpu, space: &mut P, it: &Decoded) -> Next
+    requires { group_of it.now.op ≡ Group.Storage }
+    ensures { Performs P.memory P.bytes (storage_row it.now.op it.now.code) cpu.old space.old cpu.new space.new result }
 {
-    match op {
-        Op::MVC => move_characters(cpu, space, code),
-        Op::MVN => move_numerics(cpu, space, code),
-        Op::MVZ => move_zones(cpu, space, code),
-        Op::MVCIN => move_inverse(cpu, space, code),
-        Op::TR => translate(cpu, space, code),
-        Op::TRT => translate_and_test(cpu, space, code),
-        Op::MVCL => move_long(cpu, space, code),
-        Op::CLCL => compare_long(cpu, space, code),
-        Op::PACK => pack(cpu, space, code),
-        Op::UNPK => unpack(cpu, space, code),
-        Op::MVO => move_with_offset(cpu, space, code),
+    match it.op {
+        Op::MVC => move_characters(cpu, space, it),
+        Op::MVN => move_numerics(cpu, space, it),
+        Op::MVZ => move_zones(cpu, space, it),
+        Op::MVCIN => move_inverse(cpu, space, it),
+        Op::TR => translate(cpu, space, it),
+        Op::TRT => translate_and_test(cpu, space, it),
+        Op::MVCL => move_long(cpu, space, it),
+        Op::CLCL => compare_long(cpu, space, it),
+        Op::PACK => pack(cpu, space, it),
+        Op::UNPK => unpack(cpu, space, it),
+        Op::MVO => move_with_offset(cpu, space, it),
         _ => unreachable!(),
     }
 }

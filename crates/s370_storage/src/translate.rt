@@ -10,7 +10,7 @@ ghost use Rattle.s370_storage.specs.Meaning.{function_at, translation_uses, sear
 ghost use Rattle.s370_storage.specs.Lookups.{AreReached, LooksUp, Searches};
 
 use cov_base::Addr;
-use s370_decode::{Code, Op};
+use s370_decode::{Decoded, Op};
 use s370_state::{Cpu, Ending, Next, Space, byte_of, ending_of, put_into};
 
 /// The address of the function byte of argument i of n.
@@ -98,12 +98,12 @@ fn translate_bytes<P: Space>(space: &mut P, a: Addr, t: Addr, n: u32)
 }
 
 /// TR: replaces each byte of the first operand by its function byte.
-pub fn translate<P: Space>(cpu: &mut Cpu, space: &mut P, code: &Code) -> Next
-    ensures { Performs P.memory P.bytes (storage_row Op.TR code.now) cpu.old space.old cpu.new space.new result }
+pub fn translate<P: Space>(cpu: &mut Cpu, space: &mut P, it: &Decoded) -> Next
+    ensures { Performs P.memory P.bytes (storage_row Op.TR it.now.code) cpu.old space.old cpu.new space.new result }
 {
-    let a = cpu.based(code.b1(), code.d1());
-    let t = cpu.based(code.b2(), code.d2());
-    let n = u32::from(code.l()) + 1;
+    let a = cpu.first_based(it);
+    let t = cpu.second_based(it);
+    let n = u32::from(it.code.i2()) + 1;
     if let Err(e) = test_translation(space, a, t, n) {
         return Next::Ended(e);
     }
@@ -199,12 +199,12 @@ fn set_found<P: Space>(cpu: &mut Cpu, space: &P, a: Addr, t: Addr, n: u32, selec
 }
 
 /// TRT: searches the first operand for a byte whose function byte is not zero.
-pub fn translate_and_test<P: Space>(cpu: &mut Cpu, space: &mut P, code: &Code) -> Next
-    ensures { Performs P.memory P.bytes (storage_row Op.TRT code.now) cpu.old space.old cpu.new space.new result }
+pub fn translate_and_test<P: Space>(cpu: &mut Cpu, space: &mut P, it: &Decoded) -> Next
+    ensures { Performs P.memory P.bytes (storage_row Op.TRT it.now.code) cpu.old space.old cpu.new space.new result }
 {
-    let a = cpu.based(code.b1(), code.d1());
-    let t = cpu.based(code.b2(), code.d2());
-    let n = u32::from(code.l()) + 1;
+    let a = cpu.first_based(it);
+    let t = cpu.second_based(it);
+    let n = u32::from(it.code.i2()) + 1;
     match test_search(space, a, t, n) {
         Ok(selected) => {
             set_found(cpu, space, a, t, n, selected);

@@ -3,7 +3,7 @@
 use super::plain_space::PlainSpace;
 use cov_base::Addr;
 use s370_branch::{branch, outcome};
-use s370_decode::{Code, Group, group_of, length, op_of};
+use s370_decode::{Code, Decoded, Group, group_of, length};
 use s370_exec::{execute, is_execute};
 use s370_state::{Cpu, Ending, Next, TaskIo};
 use std::alloc::{AllocError, Global};
@@ -311,9 +311,9 @@ fn perform(
 ) -> Next {
     let half = code.first_half();
     if let Some(link) = known.link {
-        let op = op_of(half);
-        match group_of(op) {
-            Group::Branch => branch(cpu, code, op, Addr::of(UPDATED), link % 3),
+        let it = Decoded::of(*code);
+        match group_of(it.op) {
+            Group::Branch => branch(cpu, &it, Addr::of(UPDATED), link % 3),
             _ => panic!(rt; "{line}"),
         }
         return Next::On;

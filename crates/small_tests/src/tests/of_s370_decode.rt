@@ -205,7 +205,7 @@ fn fields_are_bits_from_the_left(rt: HostRuntime) {
         len: 4,
     };
     assert_eq!(rt;
-        (short.r1(), short.x2(), short.b2(), short.d2(), short.i2()),
+        (short.r1(), short.r2(), short.b2(), short.d2(), short.i2()),
         (2, 3, 4, 0x567, 0x23)
     );
     let long = Code {
@@ -213,7 +213,7 @@ fn fields_are_bits_from_the_left(rt: HostRuntime) {
         bytes: [0xD2, 0x1F, 0x45, 0x67, 0x89, 0xAB],
         len: 6,
     };
-    assert_eq!(rt; (long.l(), long.l1(), long.l2()), (0x1F, 1, 15));
+    assert_eq!(rt; (long.i2(), long.r1(), long.r2()), (0x1F, 1, 15));
     assert_eq!(rt;
         (long.b1(), long.d1(), long.b2(), long.d2()),
         (4, 0x567, 8, 0x9AB)
