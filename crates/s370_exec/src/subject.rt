@@ -5,7 +5,7 @@ ghost use Rattle.s370_exec.specs.Meaning.{is_execute, subject_tests, code_at, mo
 
 use crate::fetch::fetch_rest;
 use cov_base::Addr;
-use s370_decode::Code;
+use s370_decode::{Code, Decoded};
 use s370_state::{Cpu, Ending, Space};
 
 /// Whether an instruction with this first halfword is EX, whose operation code is X'44'.
@@ -19,7 +19,7 @@ pub fn is_execute(half: u16) -> bool
 pub fn subject_address(cpu: &Cpu, ex: &Code) -> Addr
     ensures { result ≡ fields.ex cpu.now ex.now }
 {
-    cpu.address(ex.b2(), ex.r2(), ex.d2())
+    cpu.second_indexed(&Decoded::of(*ex))
 }
 
 /// What bits 8-15 of the subject are ORed with.

@@ -1,6 +1,6 @@
 //! The registers and the parts of the program status word that a task sees.
 ghost use Rattle.std.specs.Prelude.{◌≡◌, ℕ, ◌+◌, ◌*◌, ◌/◌, ◌%◌, ◌<◌, ◌≤◌, ◌^◌, slice_index, slice_set, ◌-◌, length};
-ghost use Rattle.cov_base.specs.Meaning.{base, address};
+ghost use Rattle.cov_base.specs.Meaning.{base};
 ghost use Rattle.s370_state.specs.Meaning.{pair, with_pair, with_address};
 ghost use Rattle.s370_decode.specs.Decoded.{address_register};
 ghost use Rattle.s370_decode.specs.Meaning.{e1, e2, ex};
@@ -169,28 +169,6 @@ impl Cpu {
         self.mask
     }
 
-    /// A register as base or index, where register 0 means zero.
-    #[inline(always)]
-    fn base(&self, r: u8) -> u32
-        requires { r < 16 }
-        ensures { result ≡ base self.now r }
-    {
-        // The load comes before the choice, which then needs no branch.
-        let v = self.reg(r);
-        if r == 0 { 0 } else { v }
-    }
-
-    /// The effective address of base, index and displacement, modulo 2^24 (Principles of Operation,
-    /// "Address Generation").
-    #[inline(always)]
-    pub fn address(&self, b: u8, x: u8, d: u16) -> Addr
-        requires b { b < 16 }
-        requires x { x < 16 }
-        ensures { result ≡ address self.now b x d }
-    {
-        Addr::of(u32::from(d)).plus(self.base(b)).plus(self.base(x))
-    }
-
     /// What counts in an address for the register of a decoded base or index.
     #[inline(always)]
     fn addend(&self, register: u8) -> u32
@@ -200,7 +178,7 @@ impl Cpu {
         self.words[register as usize]
     }
 
-    /// The second operand's address in the RX format, with its index.
+    /// The second operand's address in the RX format, with its index, modulo 2^24 (Principles of Operation, "Address Generation").
     #[inline(always)]
     pub fn second_indexed(&self, it: &Decoded) -> Addr
         ensures { result ≡ ex self.now it.now.code }
