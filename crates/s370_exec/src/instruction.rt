@@ -432,14 +432,14 @@ pub fn execute<P: Space>(
     cpu: &mut Cpu,
     space: &mut P,
     io: &mut TaskIo,
-    code: &Code,
+    it: &Decoded,
     ex: Option<Addr>,
 ) -> Next
-    requires subject { is_execute (first_half code.now) ≡ false }
-    ensures { Does P.memory P.bytes (executed code.now ex) cpu.old space.old io.old cpu.new space.new io.new result }
+    requires subject { is_execute (first_half it.now.code) ≡ false }
+    ensures { Does P.memory P.bytes (executed it.now.code ex) cpu.old space.old io.old cpu.new space.new io.new result }
 {
     let mut end = Ending::Spent;
-    match carry_out_apart(cpu, space, io, &Decoded::of(*code), ex, &mut end) {
+    match carry_out_apart(cpu, space, io, it, ex, &mut end) {
         Told::GoesOn => Next::On,
         Told::HasEnded => how_ended(&end),
     }

@@ -12,7 +12,7 @@ use crate::instruction::execute;
 use crate::subject::{fetch_subject, is_execute, subject_address};
 use cov_base::{Addr, RETURN_ADDRESS};
 use s370_branch::outcome;
-use s370_decode::Code;
+use s370_decode::{Code, Decoded};
 use s370_state::{Cpu, Next, Space, TaskIo};
 
 /// Whether the task is at its return address.
@@ -41,7 +41,7 @@ fn step_subject<P: Space>(cpu: &mut Cpu, space: &mut P, io: &mut TaskIo, ex: &Co
         Ok(code) => code,
         Err(e) => return Next::Ended(e),
     };
-    execute(cpu, space, io, &subject, Some(ex.at))
+    execute(cpu, space, io, &Decoded::of(subject), Some(ex.at))
 }
 
 /// Executes one instruction, its subject included where it is EX. Neither budget nor return address is tested.
@@ -55,7 +55,7 @@ pub fn step<P: Space>(cpu: &mut Cpu, space: &mut P, io: &mut TaskIo) -> Next
     if is_ex(&code) {
         return step_subject(cpu, space, io, &code);
     }
-    execute(cpu, space, io, &code, None)
+    execute(cpu, space, io, &Decoded::of(code), None)
 }
 
 /// Whether the subject that an EX visits branches as it is executed; false where it isn't begun.

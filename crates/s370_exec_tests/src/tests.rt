@@ -14,7 +14,7 @@ use cov_base::Addr;
 use harness::check;
 use plain_space::PlainSpace;
 use s370_branch::outcome;
-use s370_decode::{Code, Op, length, op_of};
+use s370_decode::{Code, Decoded, Op, length, op_of};
 use s370_exec::{execute, fetch_rest, is_execute, merge, subject_address, supervisor_call};
 use s370_state::{Cpu, Ending, TaskIo};
 use std::alloc::Global;
@@ -83,7 +83,13 @@ fn goes_by(alloc: Global, code: &Code, cc: u8) -> Result<u32, Fail> {
     let mut cpu = task([0x3000; 16], cc);
     let mut io = TaskIo::new(alloc, Vec::new(alloc), 0)?;
     if !is_execute(u16::from(code.bytes[0]) * 256 + u16::from(code.bytes[1])) {
-        execute(&mut cpu, &mut nowhere(alloc), &mut io, code, None);
+        execute(
+            &mut cpu,
+            &mut nowhere(alloc),
+            &mut io,
+            &Decoded::of(*code),
+            None,
+        );
     }
     Ok(cpu.ia.get())
 }

@@ -13,7 +13,7 @@ use crate::observer::{Known, Observer, Sight};
 use brk_table::{Kept, Tables};
 use cov_base::{Addr, PlaceNo};
 use s370_branch::{go_on_condition, go_on_count};
-use s370_decode::Code;
+use s370_decode::{Code, Decoded};
 use s370_exec::{
     Told, execute, execute_frequent, fetch_first, fetch_rest, fetch_subject, is_execute, next_of,
     subject_address,
@@ -89,7 +89,7 @@ fn step_subject<O: Observer>(
         &mut bench.cpu,
         &mut bench.space,
         &mut bench.io,
-        &subject,
+        &Decoded::of(subject),
         Some(ex.at),
     )
 }
@@ -120,19 +120,19 @@ fn carry_on<O: Observer>(
     tables: &Tables,
     bench: &mut Bench<'_>,
     done: u32,
-    code: &Code,
+    it: &Decoded,
 ) -> Next
-    requires fetched { IsFetched bench.old code.now }
+    requires fetched { IsFetched bench.old it.now.code }
     requires can { CanStep O.IsReady O.IsTied observer.now tables.now pass.old bench.old done 1 }
     ensures can { CanStep O.IsReady O.IsTied observer.now tables.now pass.new bench.new (done + 1) 0 }
     ensures goes { GoesOn O.Observer observer.now tables.now pass.old bench.old done pass.new bench.new result }
 {
-    let half = code.first_half();
+    let half = it.code.first_half();
     if is_execute(half) {
-        return step_subject_here(observer, pass, tables, bench, done, code);
+        return step_subject_here(observer, pass, tables, bench, done, &it.code);
     }
     observer.called(pass, tables, &mut bench.control, done, half);
-    execute(&mut bench.cpu, &mut bench.space, &mut bench.io, code, None)
+    execute(&mut bench.cpu, &mut bench.space, &mut bench.io, it, None)
 }
 
 /// The same in a call of its own, out of the loop over places. Where the task has ended `end` tells how.
@@ -143,15 +143,15 @@ fn carry_on_apart<O: Observer>(
     tables: &Tables,
     bench: &mut Bench<'_>,
     done: u32,
-    code: &Code,
+    it: &Decoded,
     end: &mut Ending,
 ) -> Told
-    requires fetched { IsFetched bench.old code.now }
+    requires fetched { IsFetched bench.old it.now.code }
     requires can { CanStep O.IsReady O.IsTied observer.now tables.now pass.old bench.old done 1 }
     ensures can { CanStep O.IsReady O.IsTied observer.now tables.now pass.new bench.new (done + 1) 0 }
     ensures goes { GoesOnTold O.Observer observer.now tables.now pass.old bench.old done pass.new bench.new result end.new }
 {
-    match carry_on(observer, pass, tables, bench, done, code) {
+    match carry_on(observer, pass, tables, bench, done, it) {
         Next::On => Told::GoesOn,
         Next::Ended(e) => {
             *end = e;
@@ -185,7 +185,7 @@ fn carry_on_kept<O: Observer, Caller>(
         end,
     ) {
         Some(told) => told,
-        None => carry_on_apart(observer, pass, tables, bench, done, &kept.decoded.code, end),
+        None => carry_on_apart(observer, pass, tables, bench, done, &kept.decoded, end),
     }
 }
 
@@ -260,7 +260,7 @@ fn step_far<O: Observer>(
         }
     };
     observer.begun(pass, tables, &bench.cpu, &code, sight);
-    carry_on_apart(observer, pass, tables, bench, done, &code, end)
+    carry_on_apart(observer, pass, tables, bench, done, &Decoded::of(code), end)
 }
 
 /// One instruction where the place begins. The instruction is read where it is kept: a copy would wait for the parts that were

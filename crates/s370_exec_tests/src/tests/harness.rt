@@ -323,7 +323,7 @@ fn perform(
         None => None,
         Some(ex) => Some(Addr::of(ex)),
     };
-    execute(cpu, space, io, code, ex)
+    execute(cpu, space, io, &Decoded::of(*code), ex)
 }
 
 /// The input left and the output are as known.

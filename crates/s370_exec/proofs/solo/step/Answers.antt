@@ -38,7 +38,7 @@ begun : (g : given.Over) (c : goal.After-execute g) (d : ℕ) →
 begun g c d =
     solo_step-read _ (state_of c.args.cpu.now (g.P.Space.bytes c.args.space.now) c.args.io.now d) c.at.result c.in-Ok.code
     (effect_of c.execute.new.cpu (g.P.Space.bytes c.execute.new.space) c.execute.new.io c.execute.result) c.at.ensures c.in-Ok.ensures.passed c.in-Ok.ensures.code
-    (sym c.is_ex.ensures ∙ c.if-is_ex.false) c.execute.ensures.effect
+    (sym c.is_ex.ensures ∙ c.if-is_ex.false) (rw c.of.ensures at c.execute.ensures.effect)
 
 pub returns : goal.returns
 returns g c = record { memory = c.execute.ensures.memory; state = λ d. ap (λ r. r.state) (begun g c d); next = λ d. ap (λ r. r.next) (begun g c d) }

@@ -36,7 +36,7 @@ begun : (g : given.Over) (c : goal.After-execute g) (d : ℕ) →
 begun g c d =
     subject_step-begun _ (state_of c.args.cpu.now (g.P.Space.bytes c.args.space.now) c.args.io.now d) c.args.ex.now c.subject_address-at.result c.in-Ok.half
     c.in-Ok-fetch_subject.code (effect_of c.execute.new.cpu (g.P.Space.bytes c.execute.new.space) c.execute.new.io c.execute.result)
-    c.subject_address-at.ensures c.in-Ok.ensures.passed c.in-Ok.ensures.half c.in-Ok-fetch_subject.ensures.passed c.in-Ok-fetch_subject.ensures.code c.execute.ensures.effect
+    c.subject_address-at.ensures c.in-Ok.ensures.passed c.in-Ok.ensures.half c.in-Ok-fetch_subject.ensures.passed c.in-Ok-fetch_subject.ensures.code (rw c.of.ensures at c.execute.ensures.effect)
 
 pub returns : goal.returns
 returns g c = record { memory = c.execute.ensures.memory; state = λ d. ap (λ r. r.state) (begun g c d); next = λ d. ap (λ r. r.next) (begun g c d) }

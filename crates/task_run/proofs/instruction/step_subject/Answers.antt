@@ -63,7 +63,7 @@ begun g c =
     subject_step-begun _ (stands c.args.bench.now c.args.done) c.args.ex.now c.subject_address-at.result c.in-Ok.first.half
     c.in-Ok-fetch_subject.code (effect_of c.execute.new.cpu c.execute.new.space.bytes c.execute.new.io c.execute.result)
     c.subject_address-at.ensures c.in-Ok.ensures.passed c.in-Ok.ensures.half c.in-Ok-fetch_subject.ensures.passed c.in-Ok-fetch_subject.ensures.code
-    c.execute.ensures.effect
+    (rw c.of.ensures at c.execute.ensures.effect)
 
 called : (g : given.Over) (c : goal.After-execute g) → subject_call (memory_at c.args.bench.now) (stands c.args.bench.now c.args.done) c.args.ex.now ≡ call_at c.first_half.result
 called g c =
