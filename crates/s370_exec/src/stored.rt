@@ -7,9 +7,10 @@ ghost use Rattle.s370_exec.specs.Meaning.{effect};
 use crate::instruction::{Told, onward};
 use s370_decode::{Decoded, Op};
 use s370_fixed::{
-    add_half, add_logical_word, add_word, compare_half, compare_word, load_half, store_half,
-    subtract_half, subtract_logical_word, subtract_word,
+    add_half, add_word, compare_half, compare_word, load_half, store_half, subtract_half,
+    subtract_word,
 };
+use s370_logic::{add_logical_word, subtract_logical_word};
 use s370_state::{Cpu, Ending, Space};
 
 /// LH.

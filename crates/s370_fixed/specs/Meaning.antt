@@ -1,5 +1,5 @@
 -- What the claim of the program says by this crate's clauses.
-use Rattle.std.specs.Prelude.{ℕ, ◌%◌, ◌-◌, nat_lt, ◌==◌, if◌then◌else◌, Bool, ℤ, pos, negsuc, zero, suc, ◌+◌, ◌*◌, List, slice_index, slice_set, ◌&&◌, ◌*ℤ◌, ◌^◌, ◌/◌, Option, Some, None, neg_ℤ, ◌+ℤ◌, ◌-ℤ◌}
+use Rattle.std.specs.Prelude.{ℕ, ◌%◌, ◌-◌, nat_lt, ◌==◌, if◌then◌else◌, Bool, ℤ, pos, negsuc, zero, suc, ◌+◌, ◌*◌, List, slice_index, slice_set, ◌&&◌, ◌*ℤ◌, ◌^◌, Option, Some, None, neg_ℤ, ◌+ℤ◌, ◌-ℤ◌}
 use Rattle.std.specs.Int.{cast_signed, w16, cast_unsigned, w64, int_div_euclid, is_negative}
 use Rattle.cov_base.specs.Meaning.{Machine, Memory}
 use Rattle.s370_state.specs.Meaning.{Outcome, Completes, Program, with_reg, Row, Overflows, reading, with_cc, reg, pair, with_pair, with_regs, at_once, storing, needing, on_data, from_register, from_word, to_storage, is_even, with_bytes, number, field_at, store_field, number_at, store_number, signed, order_code}
@@ -9,7 +9,7 @@ use Rattle.s370_decode.specs.declared.code.Code.{Code}
 use Rattle.std.specs.Int.RustNames.{int_div, int_rem, unsigned_abs}
 use Rattle.std.specs.Ordering.{int_cmp}
 use Rattle.s370_decode.specs.declared.op.Op.{Op}
-use Rattle.s370_decode.specs.declared.op.Op.TheVariants.{LR, L, LH, LTR, LCR, LPR, LNR, LA, ST, STH, LM, STM, AR, A, AH, SR, S, SH, ALR, AL, SLR, SL, CR, C, CH, MR, M, MH, DR, D, SLL, SRL, SLA, SRA, SLDL, SRDL, SLDA, SRDA, CVB, CVD}
+use Rattle.s370_decode.specs.declared.op.Op.TheVariants.{LR, L, LH, LTR, LCR, LPR, LNR, LA, ST, STH, LM, STM, AR, A, AH, SR, S, SH, CR, C, CH, MR, M, MH, DR, D, SLA, SRA, SLDA, SRDA, CVB, CVD}
 
 -- Numbers of which a register keeps 32 bits, and halfwords.
 
@@ -107,8 +107,8 @@ divides p d = nat_lt 0 (unsigned_abs d) && is_word (int_div p d)
 abbrev pub divided : Machine → ℕ → ℤ → ℤ → Outcome
 divided s r p d = if divides p d then Completes (with_reg (with_reg s r (low_word (int_rem p d))) (r + 1) (low_word (int_div p d))) else Program 9
 
--- Shifts (Principles of Operation, "General Instructions"). An arithmetic one multiplies a signed number by a power of two, or
--- divides by it and rounds down.
+-- Shifts (Principles of Operation, "General Instructions"). They multiply a signed number by a power of two, or divide by it and
+-- round down.
 
 abbrev pub left_by : ℤ → ℕ → ℤ
 left_by x n = x *ℤ pos (2 ^ n)
@@ -125,18 +125,6 @@ with_sign sign x z = (if is_negative x then sign else 0) + modulo sign z
 -- R1 as a signed number
 abbrev pub first : Machine → Code → ℤ
 first s c = signed (reg s (r1 c))
-
--- of a sum without signs: 1 where its low word isn't zero, and 2 more with a carry out of it
-abbrev pub carry_code : ℕ → ℕ
-carry_code n = (if n % 4294967296 == 0 then 0 else 1) + (if nat_lt n 4294967296 then 0 else 2)
-
--- R1 becomes the low word of a sum without signs
-abbrev pub sums : Machine → Code → ℕ → Outcome
-sums s c n = Completes (with_cc (with_reg s (r1 c) (n % 4294967296)) (carry_code n))
-
--- a difference without signs is the sum of R1, the one's complement of the operand, and 1
-abbrev pub differs : Machine → Code → ℕ → Outcome
-differs s c v = sums s c (reg s (r1 c) + (4294967295 - v) + 1)
 
 -- R1 is the first operand
 abbrev pub compares_signed : Machine → Code → ℤ → Outcome
@@ -165,10 +153,6 @@ fixed_row AH c m s = Some (from_half m s c (λ z. results s c (first s c +ℤ z)
 fixed_row SR c m s = Some (from_register s c (λ v. results s c (first s c -ℤ signed v)))
 fixed_row S c m s = Some (from_word m s c (λ v. results s c (first s c -ℤ signed v)))
 fixed_row SH c m s = Some (from_half m s c (λ z. results s c (first s c -ℤ z)))
-fixed_row ALR c m s = Some (from_register s c (λ v. sums s c (reg s (r1 c) + v)))
-fixed_row AL c m s = Some (from_word m s c (λ v. sums s c (reg s (r1 c) + v)))
-fixed_row SLR c m s = Some (from_register s c (differs s c))
-fixed_row SL c m s = Some (from_word m s c (differs s c))
 fixed_row CR c m s = Some (from_register s c (λ v. compares_signed s c (signed v)))
 fixed_row C c m s = Some (from_word m s c (λ v. compares_signed s c (signed v)))
 fixed_row CH c m s = Some (from_half m s c (compares_signed s c))
@@ -178,8 +162,6 @@ fixed_row M c m s = Some (needing (is_even (r1 c)) (from_word m s c (multiplies 
 fixed_row MH c m s = Some (from_half m s c (λ z. loads s c (low_word (first s c *ℤ z))))
 fixed_row DR c m s = Some (needing (is_even (r1 c)) (from_register s c (λ v. divided s (r1 c) (signed_pair s c) (signed v))))
 fixed_row D c m s = Some (needing (is_even (r1 c)) (from_word m s c (λ v. divided s (r1 c) (signed_pair s c) (signed v))))
-fixed_row SLL c m s = Some (at_once (loads s c (reg s (r1 c) * 2 ^ shift_distance s.cpu c % 4294967296)))
-fixed_row SRL c m s = Some (at_once (loads s c (reg s (r1 c) / 2 ^ shift_distance s.cpu c)))
 fixed_row SLA c m s =
     let z = left_by (first s c) (shift_distance s.cpu c) in
     Some (at_once (signals (with_reg s (r1 c) (with_sign 2147483648 (first s c) z)) (is_word z) z))
@@ -187,8 +169,6 @@ fixed_row SRA c m s =
     let z = right_by (first s c) (shift_distance s.cpu c) in
     Some (at_once (Completes (with_cc (with_reg s (r1 c) (low_word z)) (sign_code z))))
 -- the same of the 64 bits of a pair
-fixed_row SLDL c m s = Some (needing (is_even (r1 c)) (at_once (Completes (to_pair s c (pair s.cpu (r1 c) * 2 ^ shift_distance s.cpu c % 18446744073709551616)))))
-fixed_row SRDL c m s = Some (needing (is_even (r1 c)) (at_once (Completes (to_pair s c (pair s.cpu (r1 c) / 2 ^ shift_distance s.cpu c)))))
 fixed_row SLDA c m s =
     let z = left_by (signed_pair s c) (shift_distance s.cpu c) in
     Some (needing (is_even (r1 c)) (at_once (signals (to_pair s c (with_sign 9223372036854775808 (signed_pair s c) z)) (is_doubleword z) z)))

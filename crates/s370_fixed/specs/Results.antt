@@ -1,9 +1,9 @@
 -- What operations leave in the processor.
-use Rattle.std.specs.Prelude.{ℕ, ◌%◌, ℤ, List, slice_index, slice_set}
+use Rattle.std.specs.Prelude.{ℕ, ℤ, List, slice_index, slice_set}
 use Rattle.std.specs.Int.{cast_signed, cast_unsigned, w64}
 use Rattle.cov_base.specs.Meaning.{CpuView, Machine, Memory}
 use Rattle.s370_state.specs.Meaning.{Outcome, signed, pair, with_pair, number_at}
-use Rattle.s370_fixed.specs.Meaning.{low_word, is_word, result_code, carry_code, signed_half, divided}
+use Rattle.s370_fixed.specs.Meaning.{low_word, is_word, result_code, signed_half, divided}
 
 -- register r as a signed number
 abbrev pub signed_in : CpuView → ℕ → ℤ
@@ -24,10 +24,6 @@ with_both_words cpu r z = record cpu { regs = with_pair cpu.regs r (cast_unsigne
 -- register r has the low word of a signed result, with its condition code
 abbrev pub with_result : CpuView → ℕ → ℤ → CpuView
 with_result cpu r z = record cpu { regs = slice_set cpu.regs r (low_word z); condition = result_code (is_word z) z }
-
--- register r has the low word of a sum without signs, with its condition code
-abbrev pub with_sum : CpuView → ℕ → ℕ → CpuView
-with_sum cpu r n = record cpu { regs = slice_set cpu.regs r (n % 4294967296); condition = carry_code n }
 
 -- the pair r is divided
 abbrev pub pair_divided : ℕ → ℤ → Memory → Machine → Outcome

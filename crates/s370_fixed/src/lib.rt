@@ -1,4 +1,4 @@
-//! Fixed-point operations and loads: the effect of each on registers, condition code and private storage.
+//! Signed fixed-point operations and loads: the effect of each on registers, condition code and private storage.
 #![tactic(auto)]
 
 mod conversions;
@@ -17,7 +17,7 @@ pub use loads::{
 };
 pub use multiple::{load_multiple, load_multiple_own, store_multiple, store_multiple_own};
 pub use sums::{
-    add_half, add_logical_word, add_register, add_word, compare_half, compare_register,
-    compare_word, subtract_half, subtract_logical_word, subtract_register, subtract_word,
+    add_half, add_register, add_word, compare_half, compare_register,
+    compare_word, subtract_half, subtract_register, subtract_word,
 };
 pub use table::fixed;

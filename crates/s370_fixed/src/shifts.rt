@@ -1,4 +1,4 @@
-//! Shifts of a register or a pair.
+//! Signed shifts of a register or a pair.
 #![tactic(auto, using(s370_state::proofs::Laws::at_once, s370_state::proofs::Laws::passes, s370_state::proofs::Laws::refuses, s370_state::proofs::Laws::ill_formed, s370_state::proofs::Laws::well_at_once, s370_state::proofs::Laws::well_passes, s370_state::proofs::Laws::well_refuses))]
 
 ghost use Rattle.std.specs.Prelude.{◌≡◌, ◌+◌, ◌-◌, ◌*◌, ◌/◌, ◌%◌, ◌^◌, ◌<◌, ◌≤◌, if◌then◌else◌};
@@ -84,24 +84,6 @@ fn set_code(cpu: &mut Cpu, kept: bool, code: u8) -> Next
     }
 }
 
-/// SLL: shifts R1 to the left, without a sign.
-pub fn shift_left_logical<P: Space>(cpu: &mut Cpu, space: &mut P, it: &Decoded) -> Next
-    ensures { Performs P.memory P.bytes (fixed_row Op.SLL it.now.code) cpu.old space.old cpu.new space.new result }
-{
-    let n = distance(cpu, it);
-    let v = u64::from(cpu.reg(it.first)) << n;
-    load(cpu, it.first, (v % 4_294_967_296) as u32)
-}
-
-/// SRL: shifts R1 to the right, without a sign.
-pub fn shift_right_logical<P: Space>(cpu: &mut Cpu, space: &mut P, it: &Decoded) -> Next
-    ensures { Performs P.memory P.bytes (fixed_row Op.SRL it.now.code) cpu.old space.old cpu.new space.new result }
-{
-    let n = distance(cpu, it);
-    let v = u64::from(cpu.reg(it.first)) >> n;
-    load(cpu, it.first, v as u32)
-}
-
 /// SLA: shifts R1 to the left behind its sign; lost digits overflow.
 pub fn shift_left<P: Space>(cpu: &mut Cpu, space: &mut P, it: &Decoded) -> Next
     ensures { Performs P.memory P.bytes (fixed_row Op.SLA it.now.code) cpu.old space.old cpu.new space.new result }
@@ -121,32 +103,6 @@ pub fn shift_right<P: Space>(cpu: &mut Cpu, space: &mut P, it: &Decoded) -> Next
     let z = right_by(signed(cpu.reg(it.first)), n);
     cpu.set_reg(it.first, low_word(z));
     cpu.set_cc(sign_code(i128::from(z)));
-    Next::On
-}
-
-/// SLDL: shifts the pair R1 to the left, without a sign.
-pub fn shift_left_double_logical<P: Space>(cpu: &mut Cpu, space: &mut P, it: &Decoded) -> Next
-    ensures { Performs P.memory P.bytes (fixed_row Op.SLDL it.now.code) cpu.old space.old cpu.new space.new result }
-{
-    let r = it.first;
-    if r % 2 != 0 {
-        return Next::Ended(Ending::Abend(6));
-    }
-    let n = distance(cpu, it);
-    cpu.set_pair(r, cpu.pair(r) << n);
-    Next::On
-}
-
-/// SRDL: shifts the pair R1 to the right, without a sign.
-pub fn shift_right_double_logical<P: Space>(cpu: &mut Cpu, space: &mut P, it: &Decoded) -> Next
-    ensures { Performs P.memory P.bytes (fixed_row Op.SRDL it.now.code) cpu.old space.old cpu.new space.new result }
-{
-    let r = it.first;
-    if r % 2 != 0 {
-        return Next::Ended(Ending::Abend(6));
-    }
-    let n = distance(cpu, it);
-    cpu.set_pair(r, cpu.pair(r) >> n);
     Next::On
 }
 

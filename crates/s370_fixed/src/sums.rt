@@ -1,12 +1,12 @@
-//! Sums, differences and comparisons. Each call does what `fixed` does for its operation, refusals too.
+//! Signed sums, differences and comparisons. Each call does what `fixed` does for its operation, refusals too.
 #![tactic(auto, using(s370_state::proofs::Laws::at_once, s370_state::proofs::Laws::passes, s370_state::proofs::Laws::refuses))]
 
-ghost use Rattle.std.specs.Prelude.{◌≡◌, ◌+◌, ◌-◌, ◌%◌, ◌<◌, ◌≤◌, ℤ, pos, neg_ℤ, ◌+ℤ◌, ◌-ℤ◌, ◌≤ℤ◌, ◌<ℤ◌, if◌then◌else◌, slice_set, slice_index};
+ghost use Rattle.std.specs.Prelude.{◌≡◌, ◌<◌, ◌≤◌, ℤ, pos, neg_ℤ, ◌+ℤ◌, ◌-ℤ◌, ◌≤ℤ◌, ◌<ℤ◌, if◌then◌else◌, slice_set, slice_index};
 ghost use Rattle.std.specs.Ordering.{int_cmp};
 ghost use Rattle.s370_state.specs.Meaning.{next_after, signed, order_code};
 ghost use Rattle.s370_state.specs.Row.{Performs};
 ghost use Rattle.s370_fixed.specs.Meaning.{is_word, fixed_row};
-ghost use Rattle.s370_fixed.specs.Results.{signed_in, with_result, with_sum};
+ghost use Rattle.s370_fixed.specs.Results.{signed_in, with_result};
 
 use crate::operands::{half_at, set_result};
 use s370_decode::{Decoded, Op};
@@ -36,43 +36,6 @@ fn subtract(cpu: &mut Cpu, r: u8, z: i64) -> Next
 {
     let difference = signed(cpu.reg(r)) - z;
     set_result(cpu, r, difference)
-}
-
-/// The low word of a sum without signs goes to the register, with its condition code.
-#[inline(always)]
-fn set_sum(cpu: &mut Cpu, r: u8, n: u64) -> Next
-    requires r { r < 16 }
-    requires carry { n < 8589934592 }
-    ensures cpu { cpu.new ≡ with_sum cpu.old r n }
-    ensures next { result ≡ Next.On }
-{
-    let low = (n % 4_294_967_296) as u32;
-    let not_zero = if low == 0 { 0 } else { 1 };
-    let carry = if n < 4_294_967_296 { 0 } else { 2 };
-    cpu.set_reg(r, low);
-    cpu.set_cc(not_zero + carry);
-    Next::On
-}
-
-#[inline(always)]
-fn add_unsigned(cpu: &mut Cpu, r: u8, v: u32) -> Next
-    requires { r < 16 }
-    ensures cpu { cpu.new ≡ with_sum cpu.old r (slice_index cpu.old.regs r + v) }
-    ensures next { result ≡ Next.On }
-{
-    let n = u64::from(cpu.reg(r)) + u64::from(v);
-    set_sum(cpu, r, n)
-}
-
-/// Adds the one's complement and 1.
-#[inline(always)]
-fn subtract_unsigned(cpu: &mut Cpu, r: u8, v: u32) -> Next
-    requires { r < 16 }
-    ensures cpu { cpu.new ≡ with_sum cpu.old r (slice_index cpu.old.regs r + (4294967295 - v) + 1) }
-    ensures next { result ≡ Next.On }
-{
-    let n = u64::from(cpu.reg(r)) + (4_294_967_295 - u64::from(v)) + 1;
-    set_sum(cpu, r, n)
 }
 
 /// Compares the register with a signed word.
@@ -142,44 +105,6 @@ pub fn subtract_half<P: Space>(cpu: &mut Cpu, space: &mut P, it: &Decoded) -> Ne
 {
     match half_at(space, cpu.second_indexed(it)) {
         Ok(z) => subtract(cpu, it.first, z),
-        Err(e) => Next::Ended(e),
-    }
-}
-
-/// ALR: adds R2 to R1 without signs.
-#[inline(always)]
-pub fn add_logical_register<P: Space>(cpu: &mut Cpu, space: &mut P, it: &Decoded) -> Next
-    ensures { Performs P.memory P.bytes (fixed_row Op.ALR it.now.code) cpu.old space.old cpu.new space.new result }
-{
-    add_unsigned(cpu, it.first, cpu.reg(it.second))
-}
-
-/// AL: adds a word to R1 without signs.
-#[inline(always)]
-pub fn add_logical_word<P: Space>(cpu: &mut Cpu, space: &mut P, it: &Decoded) -> Next
-    ensures { Performs P.memory P.bytes (fixed_row Op.AL it.now.code) cpu.old space.old cpu.new space.new result }
-{
-    match read_word(space, cpu.second_indexed(it)) {
-        Ok(v) => add_unsigned(cpu, it.first, v),
-        Err(e) => Next::Ended(e),
-    }
-}
-
-/// SLR: subtracts R2 from R1 without signs.
-#[inline(always)]
-pub fn subtract_logical_register<P: Space>(cpu: &mut Cpu, space: &mut P, it: &Decoded) -> Next
-    ensures { Performs P.memory P.bytes (fixed_row Op.SLR it.now.code) cpu.old space.old cpu.new space.new result }
-{
-    subtract_unsigned(cpu, it.first, cpu.reg(it.second))
-}
-
-/// SL: subtracts a word from R1 without signs.
-#[inline(always)]
-pub fn subtract_logical_word<P: Space>(cpu: &mut Cpu, space: &mut P, it: &Decoded) -> Next
-    ensures { Performs P.memory P.bytes (fixed_row Op.SL it.now.code) cpu.old space.old cpu.new space.new result }
-{
-    match read_word(space, cpu.second_indexed(it)) {
-        Ok(v) => subtract_unsigned(cpu, it.first, v),
         Err(e) => Next::Ended(e),
     }
 }

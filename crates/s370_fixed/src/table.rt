@@ -1,4 +1,4 @@
-//! The one call for all operations of fixed point and loads.
+//! The one call for all operations of signed numbers and loads.
 ghost use Rattle.std.specs.Prelude.{◌≡◌};
 ghost use Rattle.s370_decode.specs.Groups.{group_of};
 ghost use Rattle.s370_state.specs.Row.{Performs};
@@ -14,20 +14,18 @@ use crate::products::{
     divide_register, divide_word, multiply_half, multiply_register, multiply_word,
 };
 use crate::shifts::{
-    shift_left, shift_left_double, shift_left_double_logical, shift_left_logical, shift_right,
-    shift_right_double, shift_right_double_logical, shift_right_logical,
+    shift_left, shift_left_double, shift_right,
+    shift_right_double,
 };
 use crate::sums::{
-    add_half, add_logical_register, add_logical_word, add_register, add_word, compare_half,
-    compare_register, compare_word, subtract_half, subtract_logical_register,
-    subtract_logical_word, subtract_register, subtract_word,
+    add_half, add_register, add_word, compare_half,
+    compare_register, compare_word, subtract_half, subtract_register, subtract_word,
 };
 use s370_decode::{Decoded, Group, Op};
 use s370_state::{Cpu, Next, Space};
 
-/// Performs an operation of fixed point and loads: LR L LH LTR LCR LPR LNR LA ST STH LM STM, AR A AH SR S SH ALR AL
-/// SLR SL CR C CH, MR M MH DR D, SLL SRL SLA SRA SLDL SRDL SLDA SRDA, CVB and CVD (Principles of Operation, "General
-/// Instructions"). All tests are made before anything is changed. The task ends with code 6 where R1 of a pair is odd,
+/// Performs an operation of signed numbers and loads: LR L LH LTR LCR LPR LNR LA ST STH LM STM, AR A AH SR S SH CR C CH,
+/// MR M MH DR D, SLA SRA SLDA SRDA, CVB and CVD (Principles of Operation, "General Instructions"). All tests are made before anything is changed. The task ends with code 6 where R1 of a pair is odd,
 /// 5 where an operand is inaccessible, 4 where a stored one is not private, Touched by a touch byte that is read, 7 by
 /// a bad digit or sign of CVB, and 9 by a divide or CVB whose result doesn't fit, all without a change; and with
 /// code 8, under the mask's first bit, after an overflow has completed. The instruction address is left as it is.
@@ -55,10 +53,6 @@ pub fn fixed<P: Space>(cpu: &mut Cpu, space: &mut P, it: &Decoded) -> Next
         Op::SR => subtract_register(cpu, space, it),
         Op::S => subtract_word(cpu, space, it),
         Op::SH => subtract_half(cpu, space, it),
-        Op::ALR => add_logical_register(cpu, space, it),
-        Op::AL => add_logical_word(cpu, space, it),
-        Op::SLR => subtract_logical_register(cpu, space, it),
-        Op::SL => subtract_logical_word(cpu, space, it),
         Op::CR => compare_register(cpu, space, it),
         Op::C => compare_word(cpu, space, it),
         Op::CH => compare_half(cpu, space, it),
@@ -67,12 +61,8 @@ pub fn fixed<P: Space>(cpu: &mut Cpu, space: &mut P, it: &Decoded) -> Next
         Op::MH => multiply_half(cpu, space, it),
         Op::DR => divide_register(cpu, space, it),
         Op::D => divide_word(cpu, space, it),
-        Op::SLL => shift_left_logical(cpu, space, it),
-        Op::SRL => shift_right_logical(cpu, space, it),
         Op::SLA => shift_left(cpu, space, it),
         Op::SRA => shift_right(cpu, space, it),
-        Op::SLDL => shift_left_double_logical(cpu, space, it),
-        Op::SRDL => shift_right_double_logical(cpu, space, it),
         Op::SLDA => shift_left_double(cpu, space, it),
         Op::SRDA => shift_right_double(cpu, space, it),
         Op::CVB => convert_to_binary(cpu, space, it),

@@ -1,3 +1,4 @@
 pub mod Bitwise
 pub mod Meaning
 pub mod Rows
+pub mod Unsigned

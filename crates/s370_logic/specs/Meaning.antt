@@ -1,12 +1,12 @@
 -- What the claim of the program says by this crate's clauses.
-use Rattle.std.specs.Prelude.{ℕ, zero, suc, ◌+◌, Bool, true, ◌&&◌, ◌==◌, if◌then◌else◌, Option, Some, List, slice_set, ◌*◌, ◌/◌, ◌%◌, nat_le, count_ones, None, bit_and, bit_or, bit_xor}
+use Rattle.std.specs.Prelude.{ℕ, zero, suc, ◌+◌, ◌-◌, ◌^◌, nat_lt, Bool, true, ◌&&◌, ◌==◌, if◌then◌else◌, Option, Some, List, slice_set, ◌*◌, ◌/◌, ◌%◌, nat_le, count_ones, None, bit_and, bit_or, bit_xor}
 use Rattle.cov_base.specs.Meaning.{Machine, Memory, byte_at, wrap}
 use Rattle.s370_state.specs.Meaning.{Row, Outcome, Completes, from_register, from_word, storing, replacing, reg, with_reg, with_cc, with_bytes, at_once, reading, comparing, needing, to_storage, is_even, pair, with_pair, with_regs, order_code, number_at, store_number}
-use Rattle.s370_decode.specs.Meaning.{r1, i2, e1, e2, r2, ex}
+use Rattle.s370_decode.specs.Meaning.{r1, i2, e1, e2, r2, ex, shift_distance}
 use Rattle.s370_decode.specs.declared.code.Code.{Code}
 use Rattle.std.specs.Ordering.{nat_cmp}
 use Rattle.s370_decode.specs.declared.op.Op.{Op}
-use Rattle.s370_decode.specs.declared.op.Op.TheVariants.{NR, N, NI, NC, OR, O, OI, OC, XR, X, XI, XC, CLR, CL, CLI, CLC, IC, STC, ICM, STCM, CLM, TM, MVI, TS, CS, CDS, SPM}
+use Rattle.s370_decode.specs.declared.op.Op.TheVariants.{NR, N, NI, NC, OR, O, OI, OC, XR, X, XI, XC, CLR, CL, CLI, CLC, IC, STC, ICM, STCM, CLM, TM, MVI, TS, CS, CDS, SPM, ALR, AL, SLR, SL, SLL, SRL, SLDL, SRDL}
 
 -- And, or and exclusive or, by the operation on bits (Principles of Operation, "General Instructions", "AND", "OR", "Exclusive
 -- OR"). The rows are of R1 with R2, of R1 with a word, of a byte with the immediate byte, and of the bytes of two fields.
@@ -99,6 +99,27 @@ stores_byte a v m s = Some (storing a 1 (Completes (with_bytes s (slice_set s.by
 abbrev pub mask_code : ℕ → ℕ → ℕ
 mask_code selected mask = if selected == 0 then 0 else (if selected == mask then 3 else 1)
 
+-- Sums, differences and shifts without signs (Principles of Operation, "General Instructions").
+
+-- of a sum: 1 where its low word isn't zero, and 2 more with a carry out of it
+abbrev pub carry_code : ℕ → ℕ
+carry_code n = (if n % 4294967296 == 0 then 0 else 1) + (if nat_lt n 4294967296 then 0 else 2)
+
+-- R1 becomes the low word of a sum
+abbrev pub sums : Machine → Code → ℕ → Outcome
+sums s c n = Completes (with_cc (with_reg s (r1 c) (n % 4294967296)) (carry_code n))
+
+-- a difference is the sum of R1, the one's complement of the operand, and 1
+abbrev pub differs : Machine → Code → ℕ → Outcome
+differs s c v = sums s c (reg s (r1 c) + (4294967295 - v) + 1)
+
+-- R1 becomes the word, and the pair R1 the 64 bits
+abbrev pub shifts : Machine → Code → ℕ → Row
+shifts s c v = at_once (Completes (with_reg s (r1 c) v))
+
+abbrev pub shifts_pair : Machine → Code → ℕ → Row
+shifts_pair s c v = needing (is_even (r1 c)) (at_once (Completes (with_regs s (with_pair s.cpu.regs (r1 c) v))))
+
 -- The row of each operation of logic and tests (Principles of Operation, "General Instructions").
 
 abbrev pub logic_row : Op → Code → Memory → Machine → Option Row
@@ -150,4 +171,12 @@ logic_row CDS c m s =
 logic_row SPM c m s =
     let w = reg s (r1 c) in
     Some (at_once (Completes (record { cpu = record s.cpu { condition = w / 268435456 % 4; mask = w / 16777216 % 16 }; bytes = s.bytes })))
+logic_row ALR c m s = Some (from_register s c (λ v. sums s c (reg s (r1 c) + v)))
+logic_row AL c m s = Some (from_word m s c (λ v. sums s c (reg s (r1 c) + v)))
+logic_row SLR c m s = Some (from_register s c (differs s c))
+logic_row SL c m s = Some (from_word m s c (differs s c))
+logic_row SLL c m s = Some (shifts s c (reg s (r1 c) * 2 ^ shift_distance s.cpu c % 4294967296))
+logic_row SRL c m s = Some (shifts s c (reg s (r1 c) / 2 ^ shift_distance s.cpu c))
+logic_row SLDL c m s = Some (shifts_pair s c (pair s.cpu (r1 c) * 2 ^ shift_distance s.cpu c % 18446744073709551616))
+logic_row SRDL c m s = Some (shifts_pair s c (pair s.cpu (r1 c) / 2 ^ shift_distance s.cpu c))
 logic_row _ c m s = None
