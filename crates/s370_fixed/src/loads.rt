@@ -7,9 +7,9 @@ ghost use Rattle.s370_state.specs.Row.{Performs};
 ghost use Rattle.s370_fixed.specs.Meaning.{fixed_row};
 
 use crate::operands::{half_at, load, set_result};
-use crate::words::{low_word, put_half, sign_code};
+use crate::words::{low_word, sign_code};
 use s370_decode::{Decoded, Op};
-use s370_state::{Cpu, Next, Space, put_word, read_word, signed, test_store};
+use s370_state::{Cpu, Next, Space, put_into, put_word, read_word, signed, test_store};
 
 /// The magnitude of a register's number.
 fn magnitude(z: i64) -> i64
@@ -109,6 +109,7 @@ pub fn store_word<P: Space>(cpu: &mut Cpu, space: &mut P, it: &Decoded) -> Next
 
 /// STH: stores bits 16-31 of R1 in a halfword.
 #[inline(always)]
+#[tactic(auto, using(s370_state::proofs::Laws::passes, s370_state::proofs::Laws::refuses, crate::proofs::Registers::half_stored))]
 pub fn store_half<P: Space>(cpu: &mut Cpu, space: &mut P, it: &Decoded) -> Next
     ensures { Performs P.memory P.bytes (fixed_row Op.STH it.now.code) cpu.old space.old cpu.new space.new result }
 {
@@ -116,6 +117,8 @@ pub fn store_half<P: Space>(cpu: &mut Cpu, space: &mut P, it: &Decoded) -> Next
     if let Err(e) = test_store(space, at, 2) {
         return Next::Ended(e);
     }
-    put_half(space, at, 0, 2, cpu.reg(it.first));
+    let v = cpu.reg(it.first);
+    put_into(space, at, 1, 2, (v % 256) as u8);
+    put_into(space, at, 0, 2, (v / 256 % 256) as u8);
     Next::On
 }

@@ -5,12 +5,13 @@ ghost use Rattle.s370_state.specs.Parts.{Tested};
 ghost use Rattle.s370_fixed.specs.Meaning.{is_word};
 ghost use Rattle.s370_fixed.specs.Results.{signed_half_at, with_result};
 
-use crate::words::{half_of, is_beyond_word, low_word, sign_code, signed_half};
+use crate::words::{is_beyond_word, low_word, sign_code};
 use cov_base::Addr;
-use s370_state::{Cpu, Ending, Next, Space, next_after, signed, test_read};
+use s370_state::{Cpu, Ending, Next, Space, byte_of, next_after, signed, test_read};
 
 /// The halfword at the address, extended by its sign.
 #[inline(always)]
+#[tactic(auto, unfolding(crate::specs::Meaning::signed_half), using(crate::proofs::Registers::half_of_bytes))]
 pub fn half_at<P: Space>(space: &P, at: Addr) -> Result<i64, Ending>
     ensures tested { Tested (P.memory space.now) (reads at 2 ∷ []) result }
     ensures value { IfOk result (λ z. z ≡ signed_half_at (P.memory space.now) (P.bytes space.now) at) }
@@ -18,7 +19,10 @@ pub fn half_at<P: Space>(space: &P, at: Addr) -> Result<i64, Ending>
     ensures high { IfOk result (λ z. z <ℤ pos 32768) }
 {
     match test_read(space, at, 2) {
-        Ok(()) => Ok(signed_half(half_of(space, at, 0, 2))),
+        Ok(()) => {
+            let half = u16::from_be_bytes([byte_of(space, at, 0, 2), byte_of(space, at, 1, 2)]);
+            Ok(i64::from(half.cast_signed()))
+        }
         Err(e) => Err(e),
     }
 }
