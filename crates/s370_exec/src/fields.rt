@@ -6,13 +6,15 @@ ghost use Rattle.s370_exec.specs.Meaning.{effect};
 
 use crate::instruction::{Told, onward};
 use s370_decode::{Decoded, Op};
-use s370_fixed::{load_multiple, load_multiple_own, store_multiple, store_multiple_own};
 use s370_logic::{
     compare_fields, compare_fields_own, compare_immediate, insert_character, move_immediate,
     store_character, test_under_mask,
 };
 use s370_state::{Cpu, Ending, Next, Space};
-use s370_storage::{move_characters, move_characters_own};
+use s370_storage::{
+    load_multiple, load_multiple_own, move_characters, move_characters_own, store_multiple,
+    store_multiple_own,
+};
 
 /// STM.
 #[inline(never)]

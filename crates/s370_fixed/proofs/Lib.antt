@@ -1,4 +1,4 @@
 mod Wide
 mod Powers
-mod Registers
+mod Halves
 mod LowWords

@@ -1,15 +1,15 @@
 -- What the claim of the program says by this crate's clauses.
-use Rattle.std.specs.Prelude.{ℕ, ◌%◌, ◌-◌, nat_lt, ◌==◌, if◌then◌else◌, Bool, ℤ, pos, negsuc, zero, suc, ◌+◌, ◌*◌, List, slice_index, slice_set, ◌&&◌, ◌*ℤ◌, ◌^◌, Option, Some, None, neg_ℤ, ◌+ℤ◌, ◌-ℤ◌}
+use Rattle.std.specs.Prelude.{ℕ, ◌%◌, ◌-◌, nat_lt, ◌==◌, if◌then◌else◌, Bool, ℤ, pos, negsuc, ◌+◌, ◌*◌, ◌&&◌, ◌*ℤ◌, ◌^◌, Option, Some, None, neg_ℤ, ◌+ℤ◌, ◌-ℤ◌}
 use Rattle.std.specs.Int.{cast_signed, w16, cast_unsigned, w64, int_div_euclid, is_negative}
 use Rattle.cov_base.specs.Meaning.{Machine, Memory}
-use Rattle.s370_state.specs.Meaning.{Outcome, Completes, Program, with_reg, Row, Overflows, reading, with_cc, reg, pair, with_pair, with_regs, at_once, storing, needing, on_data, from_register, from_word, to_storage, is_even, with_bytes, number, field_at, store_field, number_at, store_number, signed, order_code}
+use Rattle.s370_state.specs.Meaning.{Outcome, Completes, Program, with_reg, Row, Overflows, reading, with_cc, reg, pair, with_pair, with_regs, at_once, storing, needing, on_data, from_register, from_word, to_storage, is_even, with_bytes, number, field_at, store_field, number_at, signed, order_code}
 use Rattle.s370_state.specs.declared.packed.Field.{Field}
-use Rattle.s370_decode.specs.Meaning.{r1, r2, ex, e2, shift_distance}
+use Rattle.s370_decode.specs.Meaning.{r1, ex, shift_distance}
 use Rattle.s370_decode.specs.declared.code.Code.{Code}
 use Rattle.std.specs.Int.RustNames.{int_div, int_rem, unsigned_abs}
 use Rattle.std.specs.Ordering.{int_cmp}
 use Rattle.s370_decode.specs.declared.op.Op.{Op}
-use Rattle.s370_decode.specs.declared.op.Op.TheVariants.{LR, L, LH, LTR, LCR, LPR, LNR, LA, ST, STH, LM, STM, AR, A, AH, SR, S, SH, CR, C, CH, MR, M, MH, DR, D, SLA, SRA, SLDA, SRDA, CVB, CVD}
+use Rattle.s370_decode.specs.declared.op.Op.TheVariants.{LR, L, LH, LTR, LCR, LPR, LNR, LA, ST, STH, AR, A, AH, SR, S, SH, CR, C, CH, MR, M, MH, DR, D, SLA, SRA, SLDA, SRDA, CVB, CVD}
 
 -- Numbers of which a register keeps 32 bits, and halfwords.
 
@@ -48,22 +48,6 @@ sign_code (negsuc n) = 1
 -- the field's number goes to register r; one that is no word is code 9
 unfoldable pub converted : Machine → ℕ → Field → Outcome
 converted s r f = if is_word (number f) then Completes (with_reg s r (low_word (number f))) else Program 9
-
--- Loads and stores of several registers (Principles of Operation, "General Instructions").
-
--- the number of registers from R1 to R3, 15 followed by 0
-abbrev pub many : Code → ℕ
-many c = (r2 c + 16 - r1 c) % 16 + 1
-
--- the registers after n words from a on were loaded into r and on
-unfoldable pub loaded : Memory → List ℕ → List ℕ → ℕ → ℕ → ℕ → List ℕ
-loaded m bytes regs r a zero = regs
-loaded m bytes regs r a (suc n) = slice_set (loaded m bytes regs r a n) ((r + n) % 16) (number_at m bytes (a + 4 * n) 4)
-
--- the bytes after the words of n registers, r and on, were stored from a on
-unfoldable pub stored : List ℕ → List ℕ → ℕ → ℕ → ℕ → List ℕ
-stored bytes regs r a zero = bytes
-stored bytes regs r a (suc n) = store_number (stored bytes regs r a n) (a + 4 * n) 4 (slice_index regs ((r + n) % 16))
 
 -- The second operand of an operation, and the shapes of outcomes that operations share.
 
@@ -145,8 +129,6 @@ fixed_row LNR c m s = Some (from_register s c (λ v. results s c (neg_ℤ (pos (
 fixed_row LA c m s = Some (at_once (loads s c (ex s.cpu c)))
 fixed_row ST c m s = Some (to_storage s (ex s.cpu c) 4 (reg s (r1 c)))
 fixed_row STH c m s = Some (to_storage s (ex s.cpu c) 2 (reg s (r1 c)))
-fixed_row LM c m s = Some (reading (e2 s.cpu c) (4 * many c) (Completes (with_regs s (loaded m s.bytes s.cpu.regs (r1 c) (e2 s.cpu c) (many c)))))
-fixed_row STM c m s = Some (storing (e2 s.cpu c) (4 * many c) (Completes (with_bytes s (stored s.bytes s.cpu.regs (r1 c) (e2 s.cpu c) (many c)))))
 fixed_row AR c m s = Some (from_register s c (λ v. results s c (first s c +ℤ signed v)))
 fixed_row A c m s = Some (from_word m s c (λ v. results s c (first s c +ℤ signed v)))
 fixed_row AH c m s = Some (from_half m s c (λ z. results s c (first s c +ℤ z)))

@@ -1,9 +1,9 @@
-//! Signed fixed-point operations and loads: the effect of each on registers, condition code and private storage.
+//! Signed fixed-point operations, and loads and stores of one register: the effect of each on registers, condition code and
+//! private storage.
 #![tactic(auto)]
 
 mod conversions;
 mod loads;
-mod multiple;
 mod operands;
 mod products;
 mod shifts;
@@ -15,7 +15,6 @@ pub use loads::{
     load_address, load_and_test, load_complement, load_half, load_register, load_word, store_half,
     store_word,
 };
-pub use multiple::{load_multiple, load_multiple_own, store_multiple, store_multiple_own};
 pub use sums::{
     add_half, add_register, add_word, compare_half, compare_register,
     compare_word, subtract_half, subtract_register, subtract_word,

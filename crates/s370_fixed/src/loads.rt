@@ -109,7 +109,7 @@ pub fn store_word<P: Space>(cpu: &mut Cpu, space: &mut P, it: &Decoded) -> Next
 
 /// STH: stores bits 16-31 of R1 in a halfword.
 #[inline(always)]
-#[tactic(auto, using(s370_state::proofs::Laws::passes, s370_state::proofs::Laws::refuses, crate::proofs::Registers::half_stored))]
+#[tactic(auto, using(s370_state::proofs::Laws::passes, s370_state::proofs::Laws::refuses, crate::proofs::Halves::half_stored))]
 pub fn store_half<P: Space>(cpu: &mut Cpu, space: &mut P, it: &Decoded) -> Next
     ensures { Performs P.memory P.bytes (fixed_row Op.STH it.now.code) cpu.old space.old cpu.new space.new result }
 {

@@ -9,7 +9,6 @@ use crate::loads::{
     load_address, load_and_test, load_complement, load_half, load_negative, load_positive,
     load_register, load_word, store_half, store_word,
 };
-use crate::multiple::{load_multiple, store_multiple};
 use crate::products::{
     divide_register, divide_word, multiply_half, multiply_register, multiply_word,
 };
@@ -24,7 +23,7 @@ use crate::sums::{
 use s370_decode::{Decoded, Group, Op};
 use s370_state::{Cpu, Next, Space};
 
-/// Performs an operation of signed numbers and loads: LR L LH LTR LCR LPR LNR LA ST STH LM STM, AR A AH SR S SH CR C CH,
+/// Performs an operation of signed numbers and loads: LR L LH LTR LCR LPR LNR LA ST STH, AR A AH SR S SH CR C CH,
 /// MR M MH DR D, SLA SRA SLDA SRDA, CVB and CVD (Principles of Operation, "General Instructions"). All tests are made before anything is changed. The task ends with code 6 where R1 of a pair is odd,
 /// 5 where an operand is inaccessible, 4 where a stored one is not private, Touched by a touch byte that is read, 7 by
 /// a bad digit or sign of CVB, and 9 by a divide or CVB whose result doesn't fit, all without a change; and with
@@ -45,8 +44,6 @@ pub fn fixed<P: Space>(cpu: &mut Cpu, space: &mut P, it: &Decoded) -> Next
         Op::LA => load_address(cpu, space, it),
         Op::ST => store_word(cpu, space, it),
         Op::STH => store_half(cpu, space, it),
-        Op::LM => load_multiple(cpu, space, it),
-        Op::STM => store_multiple(cpu, space, it),
         Op::AR => add_register(cpu, space, it),
         Op::A => add_word(cpu, space, it),
         Op::AH => add_half(cpu, space, it),

@@ -1,7 +1,7 @@
 -- What the claim of the program says by this crate's clauses.
 use Rattle.std.specs.Prelude.{ℕ, zero, suc, ◌+◌, ◌-◌, ◌*◌, ◌/◌, ◌%◌, Option, Some, List, slice_set, Bool, if◌then◌else◌, None, min, max, ◌&&◌, not, nat_lt, ◌==◌, slice_index, true, nat_le, [], ◌∷◌, ◌++◌}
 use Rattle.cov_base.specs.Meaning.{Machine, CpuView, Memory, byte_at, wrap}
-use Rattle.s370_state.specs.Meaning.{Row, Completes, replacing, with_bytes, Outcome, at_once, comparing, needing, is_even, with_cc, with_regs, Use, reads, stores, with_address, order_code}
+use Rattle.s370_state.specs.Meaning.{Row, Completes, reading, storing, number_at, store_number, replacing, with_bytes, Outcome, at_once, comparing, needing, is_even, with_cc, with_regs, Use, reads, stores, with_address, order_code}
 use Rattle.s370_decode.specs.Meaning.{i2, e1, e2, r1, r2}
 use Rattle.s370_decode.specs.declared.code.Code.{Code}
 use Rattle.s370_storage.specs.declared.moves.Part.{Part}
@@ -11,7 +11,23 @@ use Rattle.std.specs.Ordering.{nat_cmp}
 use Rattle.s370_storage.specs.declared.long.Long.{Long}
 use Rattle.s370_storage.specs.declared.packing.Fields.{Fields}
 use Rattle.s370_decode.specs.declared.op.Op.{Op}
-use Rattle.s370_decode.specs.declared.op.Op.TheVariants.{MVC, MVN, MVZ, MVCIN, TR, TRT, MVCL, CLCL, PACK, UNPK, MVO}
+use Rattle.s370_decode.specs.declared.op.Op.TheVariants.{LM, STM, MVC, MVN, MVZ, MVCIN, TR, TRT, MVCL, CLCL, PACK, UNPK, MVO}
+
+-- Loads and stores of several registers (Principles of Operation, "General Instructions").
+
+-- the number of registers from R1 to R3, 15 followed by 0
+abbrev pub many : Code → ℕ
+many c = (r2 c + 16 - r1 c) % 16 + 1
+
+-- the registers after n words from a on were loaded into r and on
+unfoldable pub loaded : Memory → List ℕ → List ℕ → ℕ → ℕ → ℕ → List ℕ
+loaded m bytes regs r a zero = regs
+loaded m bytes regs r a (suc n) = slice_set (loaded m bytes regs r a n) ((r + n) % 16) (number_at m bytes (a + 4 * n) 4)
+
+-- the bytes after the words of n registers, r and on, were stored from a on
+unfoldable pub stored : List ℕ → List ℕ → ℕ → ℕ → ℕ → List ℕ
+stored bytes regs r a zero = bytes
+stored bytes regs r a (suc n) = store_number (stored bytes regs r a n) (a + 4 * n) 4 (slice_index regs ((r + n) % 16))
 
 -- Moves within storage (Principles of Operation, "General Instructions").
 
@@ -242,6 +258,8 @@ search_uses m bytes a t n = reads a n ∷ functions m bytes a t (looked_up n (se
 -- The row of each operation on fields in storage (Principles of Operation, "General Instructions").
 
 abbrev pub storage_row : Op → Code → Memory → Machine → Option Row
+storage_row LM c m s = Some (reading (e2 s.cpu c) (4 * many c) (Completes (with_regs s (loaded m s.bytes s.cpu.regs (r1 c) (e2 s.cpu c) (many c)))))
+storage_row STM c m s = Some (storing (e2 s.cpu c) (4 * many c) (Completes (with_bytes s (stored s.bytes s.cpu.regs (r1 c) (e2 s.cpu c) (many c)))))
 storage_row MVC c m s = moves Byte c m s
 storage_row MVN c m s = moves Numeric c m s
 storage_row MVZ c m s = moves Zone c m s

@@ -1,8 +1,8 @@
 use Rattle.std.proofs.Common.{◌≡◌, ◌+◌, ◌-◌, ◌≤◌, ◌∙◌, arith}
 use Rattle.s370_state.proofs.Laws.{passes}
-use Rattle.s370_fixed.specs.Meaning.{stored}
-use Rattle.s370_fixed.proofs.Registers.{row_stored}
-use Rattle.s370_fixed.proofs.multiple.store_multiple_own.Goals as goal
+use Rattle.s370_storage.specs.Meaning.{stored}
+use Rattle.s370_storage.proofs.Registers.{row_stored}
+use Rattle.s370_storage.proofs.multiple.store_multiple_own.Goals as goal
 
 pub returns : goal.returns
 returns g c =

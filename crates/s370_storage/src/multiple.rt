@@ -6,7 +6,7 @@ ghost use Rattle.cov_base.specs.Meaning.{can_reach, can_store};
 ghost use Rattle.s370_state.specs.Fields.{AreBytes};
 ghost use Rattle.s370_state.specs.Meaning.{number_at};
 ghost use Rattle.s370_state.specs.Row.{Attempts, Performs};
-ghost use Rattle.s370_fixed.specs.Meaning.{many, loaded, stored, fixed_row};
+ghost use Rattle.s370_storage.specs.Meaning.{many, loaded, stored, storage_row};
 
 use cov_base::Addr;
 use s370_decode::{Decoded, Op};
@@ -87,7 +87,7 @@ fn store_words<P: Space>(cpu: &Cpu, space: &mut P, r: u8, at: Addr, n: u8)
 /// false, and nothing is done.
 #[inline(always)]
 pub fn load_multiple_own<P: Space>(cpu: &mut Cpu, space: &mut P, it: &Decoded) -> bool
-    ensures { Attempts P.memory P.bytes (fixed_row Op.LM it.now.code) cpu.old space.old cpu.new space.new result }
+    ensures { Attempts P.memory P.bytes (storage_row Op.LM it.now.code) cpu.old space.old cpu.new space.new result }
 {
     let (r, n) = (it.first, count(it));
     let at = cpu.second_based(it);
@@ -110,7 +110,7 @@ pub fn load_multiple_own<P: Space>(cpu: &mut Cpu, space: &mut P, it: &Decoded) -
 /// false, and nothing is done.
 #[inline(always)]
 pub fn store_multiple_own<P: Space>(cpu: &mut Cpu, space: &mut P, it: &Decoded) -> bool
-    ensures { Attempts P.memory P.bytes (fixed_row Op.STM it.now.code) cpu.old space.old cpu.new space.new result }
+    ensures { Attempts P.memory P.bytes (storage_row Op.STM it.now.code) cpu.old space.old cpu.new space.new result }
 {
     let (r, q) = (it.first, it.second);
     let at = cpu.second_based(it);
@@ -127,7 +127,7 @@ pub fn store_multiple_own<P: Space>(cpu: &mut Cpu, space: &mut P, it: &Decoded) 
 
 /// LM: loads the registers from R1 to R3 from as many words.
 pub fn load_multiple<P: Space>(cpu: &mut Cpu, space: &mut P, it: &Decoded) -> Next
-    ensures { Performs P.memory P.bytes (fixed_row Op.LM it.now.code) cpu.old space.old cpu.new space.new result }
+    ensures { Performs P.memory P.bytes (storage_row Op.LM it.now.code) cpu.old space.old cpu.new space.new result }
 {
     let n = count(it);
     let at = cpu.second_based(it);
@@ -140,7 +140,7 @@ pub fn load_multiple<P: Space>(cpu: &mut Cpu, space: &mut P, it: &Decoded) -> Ne
 
 /// STM: stores the registers from R1 to R3 in as many words.
 pub fn store_multiple<P: Space>(cpu: &mut Cpu, space: &mut P, it: &Decoded) -> Next
-    ensures { Performs P.memory P.bytes (fixed_row Op.STM it.now.code) cpu.old space.old cpu.new space.new result }
+    ensures { Performs P.memory P.bytes (storage_row Op.STM it.now.code) cpu.old space.old cpu.new space.new result }
 {
     let n = count(it);
     let at = cpu.second_based(it);

@@ -1,10 +1,10 @@
--- The recursions of several registers, one register on, and halfwords by their bytes.
-use Rattle.std.proofs.Common.{◌≡◌, ℕ, zero, suc, ◌+◌, ◌*◌, ◌/◌, ◌%◌, ◌<◌, ◌≤◌, ◌∙◌, arith, List, slice_index, slice_set, refl, sym, add-one, zero-add, add-zero, add_assoc}
-use Rattle.cov_base.specs.Meaning.{Memory, byte_at, wrap}
+-- The recursions of several registers, one register on.
+use Rattle.std.proofs.Common.{◌≡◌, ℕ, zero, suc, ◌+◌, ◌*◌, ◌%◌, ◌<◌, ◌≤◌, ◌∙◌, arith, List, slice_index, slice_set, refl, sym, add-one, add_assoc}
+use Rattle.cov_base.specs.Meaning.{Memory}
 use Rattle.s370_state.specs.Fields.{AreBytes, words_stored}
 use Rattle.s370_state.specs.Meaning.{number_at, store_number}
 use Rattle.s370_state.proofs.Laws.{word_of_bytes, no_words, more_words}
-use Rattle.s370_fixed.specs.Meaning.{loaded, stored}
+use Rattle.s370_storage.specs.Meaning.{loaded, stored}
 
 pub loaded_none : (m : Memory) (bytes regs : List ℕ) (r a : ℕ) → loaded m bytes regs r a 0 ≡ regs
 unfolding loaded
@@ -32,14 +32,6 @@ stored_none bytes regs r a = refl
 pub stored_more : (bytes regs : List ℕ) (r a n : ℕ) → stored bytes regs r a (n + 1) ≡ store_number (stored bytes regs r a n) (a + 4 * n) 4 (slice_index regs ((r + n) % 16))
 unfolding stored
 stored_more bytes regs r a n = rw add-one refl
-
-pub half_of_bytes : (m : Memory) (bytes : List ℕ) (a : ℕ) → number_at m bytes a 2 ≡ byte_at m bytes (wrap a) * 256 + byte_at m bytes (wrap (a + 1))
-unfolding number_at
-half_of_bytes m bytes a = rw (zero-add, add-zero)
-
-pub half_stored : (bytes : List ℕ) (a v : ℕ) → store_number bytes a 2 v ≡ slice_set (slice_set bytes (wrap (a + 1)) (v % 256)) (wrap a) (v / 256 % 256)
-unfolding store_number
-half_stored bytes a v = rw add-zero refl
 
 -- registers in a row
 pub row_stored : (bytes regs row : List ℕ) (r a n k : ℕ) → k ≤ n → r + n ≤ 16 → ((i : ℕ) → i < n → slice_index row i ≡ slice_index regs (r + i)) → words_stored bytes a row k ≡ stored bytes regs r a k

@@ -1,6 +1,6 @@
 use Rattle.std.proofs.Common.{◌≡◌}
-use Rattle.s370_fixed.specs.Meaning.{stored}
-use Rattle.s370_fixed.proofs.multiple.store_words.Given as goal
+use Rattle.s370_storage.specs.Meaning.{stored}
+use Rattle.s370_storage.proofs.multiple.store_words.Given as goal
 
 abbrev pub invariant-loop-i : goal.invariant-loop-i
 invariant-loop-i g l = record {
