@@ -46,10 +46,10 @@ fn move_halves<P: Space>(part: Part, space: &mut P, a: Addr, b: Addr, n: u32)
     }
 }
 
-/// Moves that part of L+1 bytes.
+/// MVC, MVN, MVZ: moves that part of L+1 bytes, left to right.
 #[inline(always)]
 #[tactic(auto, using(s370_state::proofs::Laws::passes, s370_state::proofs::Laws::refuses, crate::proofs::Steps::moved_copied))]
-fn move_parts<P: Space>(part: Part, cpu: &Cpu, space: &mut P, it: &Decoded) -> Next
+pub fn move_parts<P: Space>(part: Part, cpu: &Cpu, space: &mut P, it: &Decoded) -> Next
     ensures { Performs P.memory P.bytes (moves part it.now.code) cpu.now space.old cpu.now space.new result }
 {
     let a = cpu.first_based(it);
@@ -86,20 +86,6 @@ pub fn move_characters<P: Space>(cpu: &mut Cpu, space: &mut P, it: &Decoded) -> 
     ensures { Performs P.memory P.bytes (storage_row Op.MVC it.now.code) cpu.old space.old cpu.new space.new result }
 {
     move_parts(Part::Byte, cpu, space, it)
-}
-
-/// MVN: moves the right halves of bytes, left to right.
-pub fn move_numerics<P: Space>(cpu: &mut Cpu, space: &mut P, it: &Decoded) -> Next
-    ensures { Performs P.memory P.bytes (storage_row Op.MVN it.now.code) cpu.old space.old cpu.new space.new result }
-{
-    move_parts(Part::Numeric, cpu, space, it)
-}
-
-/// MVZ: moves the left halves of bytes, left to right.
-pub fn move_zones<P: Space>(cpu: &mut Cpu, space: &mut P, it: &Decoded) -> Next
-    ensures { Performs P.memory P.bytes (storage_row Op.MVZ it.now.code) cpu.old space.old cpu.new space.new result }
-{
-    move_parts(Part::Zone, cpu, space, it)
 }
 
 /// The address n bytes to the left.

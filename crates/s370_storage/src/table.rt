@@ -5,7 +5,7 @@ ghost use Rattle.s370_state.specs.Row.{Performs};
 ghost use Rattle.s370_storage.specs.Meaning.{storage_row};
 
 use crate::long::{compare_long, move_long};
-use crate::moves::{move_characters, move_inverse, move_numerics, move_zones};
+use crate::moves::{Part, move_characters, move_inverse, move_parts};
 use crate::multiple::{load_multiple, store_multiple};
 use crate::packing::{move_with_offset, pack, unpack};
 use crate::translate::{translate, translate_and_test};
@@ -26,8 +26,8 @@ pub fn storage<P: Space>(cpu: &mut Cpu, space: &mut P, it: &Decoded) -> Next
         Op::LM => load_multiple(cpu, space, it),
         Op::STM => store_multiple(cpu, space, it),
         Op::MVC => move_characters(cpu, space, it),
-        Op::MVN => move_numerics(cpu, space, it),
-        Op::MVZ => move_zones(cpu, space, it),
+        Op::MVN => move_parts(Part::Numeric, cpu, space, it),
+        Op::MVZ => move_parts(Part::Zone, cpu, space, it),
         Op::MVCIN => move_inverse(cpu, space, it),
         Op::TR => translate(cpu, space, it),
         Op::TRT => translate_and_test(cpu, space, it),
