@@ -22,9 +22,11 @@ abs_of (pos n) h l = omega (arith, ints)
 abs_of (negsuc n) h l = omega (arith, ints)
 
 pub left_fits : (x : ℤ) (n : ℕ) → neg_ℤ (pos 9223372036854775808) ≤ℤ x → x <ℤ pos 9223372036854775808 → n < 64 → FitsSigned w128 (left_by x n)
+unfolding left_by
 left_fits x n low high h = fits_signed_mul w128 x (pos (2 ^ n)) 9223372036854775808 9223372036854775808 (abs_of x low high) (power_most n h) (lit< tt)
 
 -- a shift that copies the sign bit divides, and rounds down
 pub right_is : (x : ℤ) (n : ℕ) → int_shr x n ≡ right_by x n
+unfolding right_by
 right_is (pos a) n = refl
 right_is (negsuc a) n = refl

@@ -79,9 +79,13 @@ signed_pair s c = cast_signed w64 (pair s.cpu (r1 c))
 abbrev pub to_pair : Machine → Code → ℕ → Machine
 to_pair s c v = with_regs s (with_pair s.cpu.regs (r1 c) v)
 
--- the signed product of register R1+1 and the operand goes to the pair as 64 bits
+-- a signed product as 64 bits
+unfoldable pub product : ℤ → ℤ → ℕ
+product x y = cast_unsigned w64 (x *ℤ y)
+
+-- the product of register R1+1 and the operand goes to the pair
 abbrev pub multiplies : Machine → Code → ℕ → Outcome
-multiplies s c v = Completes (to_pair s c (cast_unsigned w64 (signed (reg s (r1 c + 1)) *ℤ signed v)))
+multiplies s c v = Completes (to_pair s c (product (signed (reg s (r1 c + 1))) (signed v)))
 
 -- the divisor isn't 0, and the quotient is a word
 unfoldable pub divides : ℤ → ℤ → Bool
@@ -94,10 +98,10 @@ divided s r p d = if divides p d then Completes (with_reg (with_reg s r (low_wor
 -- Shifts (Principles of Operation, "General Instructions"). They multiply a signed number by a power of two, or divide by it and
 -- round down.
 
-abbrev pub left_by : ℤ → ℕ → ℤ
+unfoldable pub left_by : ℤ → ℕ → ℤ
 left_by x n = x *ℤ pos (2 ^ n)
 
-abbrev pub right_by : ℤ → ℕ → ℤ
+unfoldable pub right_by : ℤ → ℕ → ℤ
 right_by x n = int_div_euclid x (pos (2 ^ n))
 
 -- the sign bit of x, whose value is `sign`, stays before the low bits of the product z; where z fits, this is z

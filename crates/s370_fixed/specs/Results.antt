@@ -1,9 +1,9 @@
 -- What operations leave in the processor.
-use Rattle.std.specs.Prelude.{ℕ, ℤ, List, slice_index, slice_set}
-use Rattle.std.specs.Int.{cast_signed, cast_unsigned, w64}
+use Rattle.std.specs.Prelude.{ℕ, ◌+◌, ℤ, List, slice_index, slice_set}
+use Rattle.std.specs.Int.{cast_signed, w64}
 use Rattle.cov_base.specs.Meaning.{CpuView, Machine, Memory}
 use Rattle.s370_state.specs.Meaning.{Outcome, signed, pair, with_pair, number_at}
-use Rattle.s370_fixed.specs.Meaning.{low_word, is_word, result_code, signed_half, divided}
+use Rattle.s370_fixed.specs.Meaning.{low_word, is_word, result_code, signed_half, divided, product}
 
 -- register r as a signed number
 abbrev pub signed_in : CpuView → ℕ → ℤ
@@ -17,9 +17,9 @@ signed_half_at m bytes a = signed_half (number_at m bytes a 2)
 abbrev pub with_low_word : CpuView → ℕ → ℤ → CpuView
 with_low_word cpu r z = record cpu { regs = slice_set cpu.regs r (low_word z) }
 
--- the pair r has the 64 bits of a number
-abbrev pub with_both_words : CpuView → ℕ → ℤ → CpuView
-with_both_words cpu r z = record cpu { regs = with_pair cpu.regs r (cast_unsigned w64 z) }
+-- the pair r has the product of its second register and a number
+abbrev pub with_product : CpuView → ℕ → ℤ → CpuView
+with_product cpu r z = record cpu { regs = with_pair cpu.regs r (product (signed_in cpu (r + 1)) z) }
 
 -- register r has the low word of a signed result, with its condition code
 abbrev pub with_result : CpuView → ℕ → ℤ → CpuView

@@ -10,8 +10,7 @@ ghost use Rattle.s370_fixed.specs.Meaning.{converted, fixed_row};
 use crate::words::{is_word, low_word};
 use s370_decode::{Decoded, Op};
 use s370_state::{
-    Cpu, Ending, Field, Next, Space, field_at, number, put_field, signed, test_read,
-    test_store,
+    Cpu, Ending, Field, Next, Space, field_at, number, put_field, signed, test_read, test_store,
 };
 
 /// The length code of a doubleword.

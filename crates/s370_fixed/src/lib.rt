@@ -16,7 +16,7 @@ pub use loads::{
     store_word,
 };
 pub use sums::{
-    add_half, add_register, add_word, compare_half, compare_register,
-    compare_word, subtract_half, subtract_register, subtract_word,
+    add_half, add_register, add_word, compare_half, compare_register, compare_word, subtract_half,
+    subtract_register, subtract_word,
 };
 pub use table::fixed;

@@ -1,5 +1,5 @@
 //! Multiplication and division.
-#![tactic(auto, using(s370_state::proofs::Laws::at_once, s370_state::proofs::Laws::passes, s370_state::proofs::Laws::refuses, s370_state::proofs::Laws::ill_formed, s370_state::proofs::Laws::well_at_once, s370_state::proofs::Laws::well_passes, s370_state::proofs::Laws::well_refuses))]
+#![tactic(auto, using(s370_state::proofs::Laws::ill_formed, s370_state::proofs::Laws::well_at_once, s370_state::proofs::Laws::well_passes, s370_state::proofs::Laws::well_refuses))]
 
 ghost use Rattle.std.specs.Prelude.{◌≡◌, ◌+◌, ◌*◌, ◌%◌, ◌<◌, ◌≤◌, ℤ, pos, neg_ℤ, ◌*ℤ◌, ◌≤ℤ◌, ◌<ℤ◌, true, false, IfSome, IfNone, if◌then◌else◌, slice_set, slice_index};
 ghost use Rattle.std.specs.Int.{cast_signed, cast_unsigned, w64};
@@ -8,7 +8,7 @@ ghost use Rattle.s370_state.specs.Meaning.{machine_of, finish, pair, with_pair, 
 ghost use Rattle.s370_state.specs.Row.{Performs};
 ghost use Rattle.s370_state.specs.Parts.{Follows};
 ghost use Rattle.s370_fixed.specs.Meaning.{is_word, divides, fixed_row};
-ghost use Rattle.s370_fixed.specs.Results.{signed_in, with_low_word, with_both_words, pair_divided};
+ghost use Rattle.s370_fixed.specs.Results.{signed_in, with_low_word, with_product, pair_divided};
 
 use crate::operands::{half_at, load};
 use crate::words::{is_word, low_word};
@@ -16,12 +16,12 @@ use s370_decode::{Decoded, Op};
 use s370_state::{Cpu, Ending, Next, Space, read_word, signed};
 
 /// The product of the pair's second register and a signed word goes to the pair.
-#[tactic(auto, using(crate::proofs::Wide::product_fits))]
+#[tactic(auto, unfolding(crate::specs::Meaning::product))]
 fn multiply(cpu: &mut Cpu, r: u8, z: i64) -> Next
     requires r { r < 15 }
     requires low { neg_ℤ (pos 2147483648) ≤ℤ z }
     requires high { z <ℤ pos 2147483648 }
-    ensures cpu { cpu.new ≡ with_both_words cpu.old r (signed_in cpu.old (r + 1) *ℤ z) }
+    ensures cpu { cpu.new ≡ with_product cpu.old r z }
     ensures next { result ≡ Next.On }
 {
     let product = signed(cpu.reg(r + 1)) * z;
@@ -30,7 +30,7 @@ fn multiply(cpu: &mut Cpu, r: u8, z: i64) -> Next
 }
 
 /// The low word of the product of the register and a signed word goes to the register.
-#[tactic(auto, using(crate::proofs::Wide::product_fits))]
+#[tactic(auto)]
 fn multiply_low(cpu: &mut Cpu, r: u8, z: i64) -> Next
     requires r { r < 16 }
     requires low { neg_ℤ (pos 2147483648) ≤ℤ z }
@@ -104,6 +104,7 @@ pub fn multiply_word<P: Space>(cpu: &mut Cpu, space: &mut P, it: &Decoded) -> Ne
 }
 
 /// MH: multiplies R1 by a halfword, extended by its sign; R1 keeps the low word of the product.
+#[tactic(auto, using(s370_state::proofs::Laws::passes, s370_state::proofs::Laws::refuses))]
 pub fn multiply_half<P: Space>(cpu: &mut Cpu, space: &mut P, it: &Decoded) -> Next
     ensures { Performs P.memory P.bytes (fixed_row Op.MH it.now.code) cpu.old space.old cpu.new space.new result }
 {

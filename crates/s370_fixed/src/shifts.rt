@@ -1,5 +1,5 @@
 //! Signed shifts of a register or a pair.
-#![tactic(auto, using(s370_state::proofs::Laws::at_once, s370_state::proofs::Laws::passes, s370_state::proofs::Laws::refuses, s370_state::proofs::Laws::ill_formed, s370_state::proofs::Laws::well_at_once, s370_state::proofs::Laws::well_passes, s370_state::proofs::Laws::well_refuses))]
+#![tactic(auto, using(s370_state::proofs::Laws::at_once, s370_state::proofs::Laws::ill_formed, s370_state::proofs::Laws::well_at_once))]
 
 ghost use Rattle.std.specs.Prelude.{◌≡◌, ◌+◌, ◌-◌, ◌*◌, ◌/◌, ◌%◌, ◌^◌, ◌<◌, ◌≤◌, if◌then◌else◌};
 ghost use Rattle.s370_state.specs.Meaning.{next_after, signed};
@@ -27,7 +27,7 @@ fn distance(cpu: &Cpu, it: &Decoded) -> u32
 }
 
 /// The number times 2^n.
-#[tactic(auto, using(crate::proofs::Powers::power_below, crate::proofs::Powers::power_is, crate::proofs::Powers::left_fits))]
+#[tactic(auto, using(crate::proofs::Powers::power_below, crate::proofs::Powers::power_is, crate::proofs::Powers::left_fits), unfolding(crate::specs::Meaning::left_by))]
 fn left_by(x: i64, n: u32) -> i128
     requires { n < 64 }
     ensures { result ≡ left_by x n }

@@ -12,23 +12,20 @@ use crate::loads::{
 use crate::products::{
     divide_register, divide_word, multiply_half, multiply_register, multiply_word,
 };
-use crate::shifts::{
-    shift_left, shift_left_double, shift_right,
-    shift_right_double,
-};
+use crate::shifts::{shift_left, shift_left_double, shift_right, shift_right_double};
 use crate::sums::{
-    add_half, add_register, add_word, compare_half,
-    compare_register, compare_word, subtract_half, subtract_register, subtract_word,
+    add_half, add_register, add_word, compare_half, compare_register, compare_word, subtract_half,
+    subtract_register, subtract_word,
 };
 use s370_decode::{Decoded, Group, Op};
 use s370_state::{Cpu, Next, Space};
 
-/// Performs an operation of signed numbers and loads: LR L LH LTR LCR LPR LNR LA ST STH, AR A AH SR S SH CR C CH,
-/// MR M MH DR D, SLA SRA SLDA SRDA, CVB and CVD (Principles of Operation, "General Instructions"). All tests are made before anything is changed. The task ends with code 6 where R1 of a pair is odd,
-/// 5 where an operand is inaccessible, 4 where a stored one is not private, Touched by a touch byte that is read, 7 by
-/// a bad digit or sign of CVB, and 9 by a divide or CVB whose result doesn't fit, all without a change; and with
-/// code 8, under the mask's first bit, after an overflow has completed. The instruction address is left as it is.
-/// Takes no memory.
+/// Performs an operation of signed numbers and loads: LR L LH LTR LCR LPR LNR LA ST STH, AR A AH SR S SH CR C CH, MR M MH
+/// DR D, SLA SRA SLDA SRDA, CVB and CVD (Principles of Operation, "General Instructions"). All tests are made before
+/// anything is changed. The task ends with code 6 where R1 of a pair is odd, 5 where an operand is inaccessible, 4 where a
+/// stored one is not private, Touched by a touch byte that is read, 7 by a bad digit or sign of CVB, and 9 by a divide or
+/// CVB whose result doesn't fit, all without a change; and with code 8, under the mask's first bit, after an overflow has
+/// completed. The instruction address is left as it is. Takes no memory.
 pub fn fixed<P: Space>(cpu: &mut Cpu, space: &mut P, it: &Decoded) -> Next
     requires { group_of it.now.op ≡ Group.Fixed }
     ensures { Performs P.memory P.bytes (fixed_row it.now.op it.now.code) cpu.old space.old cpu.new space.new result }

@@ -1,4 +1,5 @@
-//! Logic, tests and numbers without signs: the effect of each operation on registers, condition code, program mask and private storage.
+//! Logic, tests and numbers without signs: the effect of each operation on registers, condition code, program mask and private
+//! storage.
 #![tactic(auto)]
 
 mod bitwise;
