@@ -1,5 +1,5 @@
 -- The slots in which the tasks of a job stand.
-use Rattle.std.specs.Prelude.{◌≡◌, ℕ, ◌-◌, ◌<◌, ◌≤◌, Bool, true, false, nat_eq, Option, None, List, length, get_or, map, All}
+use Rattle.std.specs.Prelude.{◌≡◌, ℕ, ◌-◌, ◌<◌, ◌≤◌, Bool, true, false, nat_eq, Option, None, List, [], length, get_or, map, All, vec_capacity}
 use Rattle.cov_base.specs.Meaning.{FactSet}
 use Rattle.module_area.specs.Meaning.{FinalsView, set_at}
 use Rattle.module_area.specs.declared.places.Place.{Place}
@@ -8,6 +8,7 @@ use Rattle.job_run.specs.Meaning.{no_finals}
 use Rattle.job_run.specs.Tasks.{Ends, HasExtra}
 use Rattle.job_run.specs.declared.outcome.Done.{Done}
 use Rattle.job_run.specs.declared.slots.Slot.{Slot}
+use Rattle.job_run.specs.declared.slots.Room.{Room}
 
 abbrev pub dones : {P E : Type 0} → List (Slot P E) → List Done
 dones slots = map (λ s. s.done) slots
@@ -17,6 +18,14 @@ extras_of slots = map (λ s. s.extra) slots
 
 abbrev pub AreEmpty : {P E : Type 0} → List (Slot P E) → Type 0
 AreEmpty slots = All (λ s. s.pass ≡ None) slots
+
+-- the room is empty, and enough for so many tasks and their extras
+pub record HasRoom {E : Type 0} (count : ℕ) (room : Room E) : Type 0 where
+  pub tasks : room.tasks.items ≡ []
+  pub extras : room.extras.items ≡ []
+  pub finals : room.finals.items ≡ []
+  pub tasks_room : count ≤ vec_capacity room.tasks
+  pub extras_room : count ≤ vec_capacity room.extras
 
 abbrev pub in_phase : JobView → ℕ → ℕ → Bool
 in_phase j phase t = nat_eq (task_of j t).phase phase

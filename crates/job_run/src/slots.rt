@@ -1,15 +1,15 @@
 //! The tasks of a job with the passes that their threads work with.
-ghost use Rattle.std.specs.Prelude.{◌≡◌, ◌+◌, ◌<◌, ◌≤◌, nat_eq, if◌then◌else◌, [], length, map, All, IsSome, IfOk, slice_index_or, slice_set, vec_capacity};
+ghost use Rattle.std.specs.Prelude.{◌≡◌, ◌+◌, ◌<◌, ◌≤◌, nat_eq, if◌then◌else◌, [], ◌∷◌, ◌++◌, length, map, All, IsSome, IfOk, slice_index_or, slice_set, vec_capacity};
 ghost use Rattle.std.specs.declared.option.Option.TheVariants.{Some, None};
 ghost use Rattle.brk_table.specs.Places.{IsIn};
 ghost use Rattle.session_book.specs.Meaning.{task_of};
-ghost use Rattle.job_run.specs.Slots.{AreEmpty, IsRange, dones, extras_of};
+ghost use Rattle.job_run.specs.Slots.{AreEmpty, HasRoom, IsRange, dones, extras_of};
 ghost use Rattle.job_run.specs.Tasks.{HasNotRun, AreNew};
 
 use crate::outcome::Done;
 use brk_table::Tables;
 use cov_base::NoMemory;
-use module_area::Control;
+use module_area::{Control, Finals};
 use phase_plan::{Begun, begin};
 use session_book::Job;
 use std::alloc::Global;
@@ -116,6 +116,29 @@ pub fn make_slots<'a, P: Drop, E: Drop>(
     Ok(slots)
 }
 
+/// Room for what is told of a job's tasks and of the areas of its phases, which is taken before the first phase runs. It is one
+/// value, so that it is let go in one place.
+#[derive(Drop)]
+pub struct Room<'a, E> {
+    pub tasks: Vec<Done<'a>>,
+    pub extras: Vec<E>,
+    pub finals: Vec<Finals>,
+}
+
+/// The room for a job.
+pub fn make_room<'a, E: Drop>(alloc: Global, job: &Job) -> Result<Room<'a, E>, NoMemory>
+    ensures { IfOk result (HasRoom (length job.now.tasks)) }
+{
+    let tasks = Vec::with_capacity(alloc, job.task_count())?;
+    let extras = Vec::with_capacity(alloc, job.task_count())?;
+    let finals = Vec::with_capacity(alloc, job.phase_count() as usize)?;
+    Ok(Room {
+        tasks,
+        extras,
+        finals,
+    })
+}
+
 /// Gives the slot's task its sessions, and the slot what its runner keeps of the task.
 pub fn equip<'a, P: Drop, E: Drop>(slot: &mut Slot<'a, P, E>, control: Control, extra: E)
     ensures control { slot.new.done.task.bench.control ≡ control }
@@ -151,11 +174,19 @@ pub fn take_at<'a, P: Drop, E: Drop>(slots: &mut [Slot<'a, P, E>], t: usize) -> 
     take(&mut slots[t])
 }
 
-/// The slot's task and its extra.
-fn taken_apart<'a, P: Drop, E: Drop>(slot: Slot<'a, P, E>) -> (Done<'a>, E)
-    requires { IsSome slot.extra }
-    ensures done { result.0 ≡ slot.entry.done }
-    ensures extra { Some result.1 ≡ slot.entry.extra }
+/// Moves the slot's task and its extra behind those of others, in lists that have room for them.
+fn put_parts<'a, P: Drop, E: Drop>(
+    slot: Slot<'a, P, E>,
+    tasks: &mut Vec<Done<'a>>,
+    extras: &mut Vec<E>,
+)
+    requires some { IsSome slot.extra }
+    requires tasks_room { length tasks.old.items < vec_capacity tasks.old }
+    requires extras_room { length extras.old.items < vec_capacity extras.old }
+    ensures tasks { tasks.new.items ≡ tasks.old.items ++ slot.entry.done ∷ [] }
+    ensures extras { map Some extras.new.items ≡ map Some extras.old.items ++ slot.entry.extra ∷ [] }
+    ensures tasks_room { vec_capacity tasks.old ≤ vec_capacity tasks.new }
+    ensures extras_room { vec_capacity extras.old ≤ vec_capacity extras.new }
 {
     let Slot {
         done,
@@ -164,7 +195,12 @@ fn taken_apart<'a, P: Drop, E: Drop>(slot: Slot<'a, P, E>) -> (Done<'a>, E)
         apart: _,
     } = slot;
     let Some(extra) = extra else { unreachable!() };
-    (done, extra)
+    let Ok(()) = tasks.push(done) else {
+        unreachable!()
+    };
+    let Ok(()) = extras.push(extra) else {
+        unreachable!()
+    };
 }
 
 /// The tasks of the slots, moved into a list that has room for them.
@@ -204,13 +240,7 @@ pub fn parts_of<'a, P: Drop, E: Drop>(
     ensures extras { map Some result.1.items ≡ extras_of slots.entry.items }
 {
     for slot in slots {
-        let (done, extra) = taken_apart(slot);
-        let Ok(()) = tasks.push(done) else {
-            unreachable!()
-        };
-        let Ok(()) = extras.push(extra) else {
-            unreachable!()
-        };
+        put_parts(slot, &mut tasks, &mut extras);
     }
     (tasks, extras)
 }

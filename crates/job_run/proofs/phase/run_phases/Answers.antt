@@ -42,9 +42,9 @@ returns-clause-extras g c =
 pub loop-phase-init : goal.loop-phase-init
 loop-phase-init g c = record {
   tasks = c.requires.tasks;
-  extras = HaveAllExtras-start g.R.Runner.ends c.args.job.now c.args.tables.now.places c.in_ok-finals.finals.items c.args.slots.now;
-  count = ap (λ (fs : List FinalsView). length fs) c.in_ok-finals.ensures.items;
+  extras = HaveAllExtras-start g.R.Runner.ends c.args.job.now c.args.tables.now.places c.args.finals.now.items c.args.slots.now;
+  count = ap (λ (fs : List FinalsView). length fs) c.requires.none;
   empty = c.requires.empty;
   made = omega arith;
-  areas = rw c.in_ok-finals.ensures.items (HasRunTo-start (g.R.Runner.course c.args.runner.now) c.args.job.now c.args.tables.now.places (g.A.Areas.ledger c.args.areas.now) (g.A.Areas.finals c.args.areas.now));
+  areas = rw c.requires.none (HasRunTo-start (g.R.Runner.course c.args.runner.now) c.args.job.now c.args.tables.now.places (g.A.Areas.ledger c.args.areas.now) (g.A.Areas.finals c.args.areas.now));
 }

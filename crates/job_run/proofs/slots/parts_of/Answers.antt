@@ -1,5 +1,5 @@
 use Rattle.std.proofs.Common.{rules, ◌≡◌, suc, ◌++◌, Some, Option, [], ◌∷◌, All, IsSome, List, length, map, sym, ◌∙◌, ap, subst, arith}
-use Rattle.std.proofs.lemmas.List.{append_assoc, append-nil, map-append, nil_from_length}
+use Rattle.std.proofs.lemmas.List.{append_assoc, append-nil, length-append, length-map, nil_from_length}
 use Rattle.job_run.specs.declared.slots.Slot.{Slot}
 use Rattle.job_run.specs.declared.outcome.Done.{Done}
 use Rattle.job_run.specs.Slots.{dones, extras_of}
@@ -10,8 +10,8 @@ use Rattle.job_run.proofs.slots.parts_of.Goals as goal
 moved_one : {X : Type 0} (xs ys zs all : List X) (x : X) → xs ++ ys ≡ all → ys ≡ x ∷ zs → (xs ++ x ∷ []) ++ zs ≡ all
 moved_one xs ys zs all x before first = append_assoc xs (x ∷ []) zs ∙ (ap (λ l. xs ++ l) (sym first) ∙ before)
 
-pub taken_apart-done-requires : goal.taken_apart-done-requires
-taken_apart-done-requires g c =
+pub put_parts-requires-clause-some : goal.put_parts-requires-clause-some
+put_parts-requires-clause-some g c =
     let all = subst (λ (ss : List (Slot _ _)). All (λ s. IsSome s.extra) ss) c.in-Some.ensures.steps.0 c.loop-slot.invariant.some in
     all 0 c.in-Some.slot (omega arith)
 
@@ -25,15 +25,21 @@ loop-slot-preserved g c =
     record {
       can_next = tt;
       is_finite = tt;
-      moved = subst (λ (ds : List Done). ds ++ dones rest ≡ dones c.into_iter-slot-iterator.result.rest.items) (sym c.in-Ok.ensures.items)
-          (subst (λ (d : Done). (c.loop-slot.tasks.items ++ d ∷ []) ++ dones rest ≡ dones c.into_iter-slot-iterator.result.rest.items) (sym c.taken_apart-done.ensures.done)
-          (moved_one c.loop-slot.tasks.items (dones c.loop-slot.slot-iterator.rest.items) (dones rest) _ c.in-Some.slot.done i.moved (ap (λ (ss : List (Slot _ _)). dones ss) first)));
-      taken = subst (λ (es : List _). map Some es ++ extras_of rest ≡ extras_of c.into_iter-slot-iterator.result.rest.items) (sym c.in-Ok-push.ensures.items)
-          (ap (λ (es : List (Option _)). es ++ extras_of rest) (map-append Some c.loop-slot.extras.items (c.taken_apart-done.result.1 ∷ []))
-          ∙ moved_one (map Some c.loop-slot.extras.items) (extras_of c.loop-slot.slot-iterator.rest.items) (extras_of rest) _ (Some c.taken_apart-done.result.1) i.taken
-          (ap (λ (ss : List (Slot _ _)). extras_of ss) first ∙ ap (λ (e : Option _). e ∷ extras_of rest) (sym c.taken_apart-done.ensures.extra)));
-      tasks_room = search rules;
-      extras_room = search rules;
+      moved = subst (λ (ds : List Done). ds ++ dones rest ≡ dones c.into_iter-slot-iterator.result.rest.items) (sym c.put_parts.ensures.tasks)
+          (moved_one c.loop-slot.tasks.items (dones c.loop-slot.slot-iterator.rest.items) (dones rest) _ c.in-Some.slot.done i.moved (ap (λ (ss : List (Slot _ _)). dones ss) first));
+      taken = ap (λ (es : List (Option _)). es ++ extras_of rest) c.put_parts.ensures.extras
+          ∙ moved_one (map Some c.loop-slot.extras.items) (extras_of c.loop-slot.slot-iterator.rest.items) (extras_of rest) _ c.in-Some.slot.extra i.taken (ap (λ (ss : List (Slot _ _)). extras_of ss) first);
+      tasks_room = omega (arith, i.tasks_room, size, c.put_parts.ensures.tasks_room, ap (λ (ds : List Done). length ds) c.put_parts.ensures.tasks, length-append c.loop-slot.tasks.items (c.in-Some.slot.done ∷ []));
+      extras_room = omega (
+        arith,
+        i.extras_room,
+        size,
+        c.put_parts.ensures.extras_room,
+        ap (λ (es : List (Option _)). length es) c.put_parts.ensures.extras,
+        length-append (map Some c.loop-slot.extras.items) (c.in-Some.slot.extra ∷ []),
+        length-map c.loop-slot.extras.items Some,
+        length-map c.put_parts.new.extras.items Some,
+      );
       some = λ k d l. all (suc k) d (omega (arith, l));
     }
 
