@@ -21,30 +21,24 @@ use s370_exec::{
 use s370_state::{Ending, Next};
 use space_map::TaskSpace;
 
-/// The place that begins at the address, if one does, and the first halfword there.
-#[derive(Clone, Copy)]
-struct First {
-    place: Option<PlaceNo>,
-    half: u16,
-}
-
-/// The first halfword of an instruction: at a place the original, which the tables have. Code 6 exactly at an odd address,
-/// else code 5 exactly where the halfword is inaccessible.
-fn first_at(tables: &Tables, space: &TaskSpace<'_>, at: Addr) -> Result<First, Ending>
+/// The place that begins at the address, if one does, and the first halfword there: at a place the original, which the tables
+/// have. Code 6 exactly at an odd address, else code 5 exactly where the halfword is inaccessible.
+fn first_at(
+    tables: &Tables,
+    space: &TaskSpace<'_>,
+    at: Addr,
+) -> Result<(Option<PlaceNo>, u16), Ending>
     requires shown { IsShown (memory_of_space space.now) tables.now }
     ensures refused { IfErr result (λ e. first_tests (memory_of_space space.now) at ≡ Some e) }
     ensures passed { IfOk result (λ _. first_tests (memory_of_space space.now) at ≡ None) }
-    ensures half { IfOk result (λ f. f.half ≡ half_at (memory_of_space space.now) space.now.bytes at) }
-    ensures placed { IfOk result (λ f. IsPlaced tables.now.places at f.place) }
+    ensures half { IfOk result (λ f. f.1 ≡ half_at (memory_of_space space.now) space.now.bytes at) }
+    ensures placed { IfOk result (λ f. IsPlaced tables.now.places at f.0) }
 {
     if let Some(place) = tables.at(at) {
-        return Ok(First {
-            place: Some(place),
-            half: tables.place(place).original,
-        });
+        return Ok((Some(place), tables.place(place).original));
     }
     match fetch_first(space, at) {
-        Ok(half) => Ok(First { place: None, half }),
+        Ok(half) => Ok((None, half)),
         Err(e) => Err(e),
     }
 }
@@ -66,17 +60,17 @@ fn step_subject<O: Observer>(
     ensures steps { StepsOn O.Observer ex.now observer.now tables.now pass.old bench.old done pass.new bench.new result }
 {
     let at = subject_address(&bench.cpu, ex);
-    let first = match first_at(tables, &bench.space, at) {
+    let (place, half) = match first_at(tables, &bench.space, at) {
         Ok(first) => first,
         Err(e) => return Next::Ended(e),
     };
     let sight = Sight {
         done,
         at,
-        place: first.place,
+        place,
         subject: true,
     };
-    let subject = match fetch_subject(&bench.cpu, &bench.space, ex, at, first.half) {
+    let subject = match fetch_subject(&bench.cpu, &bench.space, ex, at, half) {
         Ok(code) => code,
         Err(e) => {
             observer.refused(pass, tables, sight);

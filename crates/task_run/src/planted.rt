@@ -12,7 +12,7 @@ use s370_state::Cpu;
 /// The cells of a phase's area, and the plan that they were made for. A visit at a place fetches the place's cell; where that
 /// answers the breakpoint and the instruction is begun, what the instruction does is marked for the breakpoint's session.
 /// SVC 4 opens the next session of the task's control where none is open, and SVC 5 closes the open one.
-#[derive_where(Clone, Copy)]
+#[derive(Drop)]
 pub struct Planted<'a, C> {
     pub cells: &'a C,
     pub plan: &'a Plan,

@@ -33,12 +33,12 @@ unread : (g : given.Over) (c : goal.After-refused g) →
     let s = stands c.args.bench.now c.args.done in
     subject_step (memory_at c.args.bench.now) s c.args.ex.now ≡ ended s c.in-Err-fetch_subject.e (visit s c.subject_address-at.result false false true ∷ [])
 unread g c =
-    subject_step-unread _ (stands c.args.bench.now c.args.done) c.args.ex.now c.subject_address-at.result c.in-Ok.first.half c.in-Err-fetch_subject.e
+    subject_step-unread _ (stands c.args.bench.now c.args.done) c.args.ex.now c.subject_address-at.result c.in-Ok.first.1 c.in-Err-fetch_subject.e
     c.subject_address-at.ensures c.in-Ok.ensures.passed c.in-Ok.ensures.half c.in-Err-fetch_subject.ensures.refused
 
 called_unread : (g : given.Over) (c : goal.After-refused g) → subject_call (memory_at c.args.bench.now) (stands c.args.bench.now c.args.done) c.args.ex.now ≡ None
 called_unread g c =
-    subject_call-unread _ (stands c.args.bench.now c.args.done) c.args.ex.now c.subject_address-at.result c.in-Ok.first.half c.in-Err-fetch_subject.e
+    subject_call-unread _ (stands c.args.bench.now c.args.done) c.args.ex.now c.subject_address-at.result c.in-Ok.first.1 c.in-Err-fetch_subject.e
     c.subject_address-at.ensures c.in-Ok.ensures.passed c.in-Ok.ensures.half c.in-Err-fetch_subject.ensures.refused
 
 pub returns-in-Err-fetch_subject-clause-steps : goal.returns-in-Err-fetch_subject-clause-steps
@@ -60,14 +60,14 @@ begun : (g : given.Over) (c : goal.After-execute g) →
     ≡ stepped s (effect_of c.execute.new.cpu c.execute.new.space.bytes c.execute.new.io c.execute.result)
     (visit s c.subject_address-at.result true (goes (op_of (first_half x)) c.args.bench.now.cpu x) true ∷ [])
 begun g c =
-    subject_step-begun _ (stands c.args.bench.now c.args.done) c.args.ex.now c.subject_address-at.result c.in-Ok.first.half
+    subject_step-begun _ (stands c.args.bench.now c.args.done) c.args.ex.now c.subject_address-at.result c.in-Ok.first.1
     c.in-Ok-fetch_subject.code (effect_of c.execute.new.cpu c.execute.new.space.bytes c.execute.new.io c.execute.result)
     c.subject_address-at.ensures c.in-Ok.ensures.passed c.in-Ok.ensures.half c.in-Ok-fetch_subject.ensures.passed c.in-Ok-fetch_subject.ensures.code
     (rw c.of.ensures at c.execute.ensures.effect)
 
 called : (g : given.Over) (c : goal.After-execute g) → subject_call (memory_at c.args.bench.now) (stands c.args.bench.now c.args.done) c.args.ex.now ≡ call_at c.first_half.result
 called g c =
-    subject_call-begun _ (stands c.args.bench.now c.args.done) c.args.ex.now c.subject_address-at.result c.in-Ok.first.half c.first_half.result c.in-Ok-fetch_subject.code
+    subject_call-begun _ (stands c.args.bench.now c.args.done) c.args.ex.now c.subject_address-at.result c.in-Ok.first.1 c.first_half.result c.in-Ok-fetch_subject.code
     c.subject_address-at.ensures c.in-Ok.ensures.passed c.in-Ok.ensures.half c.in-Ok-fetch_subject.ensures.passed c.in-Ok-fetch_subject.ensures.code c.first_half.ensures
 
 pub returns-clause-steps : goal.returns-clause-steps
