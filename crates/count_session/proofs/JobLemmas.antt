@@ -1,7 +1,7 @@
 -- What a job's phases come to.
 use Rattle.std.proofs.Common.{◌≡◌, ℕ, ◌-◌, ◌<◌, ◌≤◌, Bool, true, false, ◌&&◌, nat_eq, if◌then◌else◌, List, [], length, get_or, refl, sym, ◌∙◌, ap, subst, arith, eq-eqb}
 use Rattle.std.specs.List.{list_any}
-use Rattle.std.proofs.lemmas.List.{length-map}
+use Rattle.std.proofs.lemmas.List.{get_or-map, length-map}
 use Rattle.cov_base.specs.declared.facts.Fact.{Fact}
 use Rattle.module_area.specs.Meaning.{place_of, window_at}
 use Rattle.module_area.specs.declared.places.Place.{Place}
@@ -11,14 +11,13 @@ use Rattle.phase_plan.specs.Meaning.{traces_from, plan_view}
 use Rattle.session_book.specs.JobView.{IsJob}
 use Rattle.session_book.specs.Sessions.{AreWhole}
 use Rattle.job_run.specs.Meaning.{trace_by}
-use Rattle.job_run.specs.declared.outcome.Done.{Done}
 use Rattle.job_run.proofs.Laws.{window_at-session, phase_in, all_ended}
 use Rattle.count_session.specs.Meaning.{count_of_all, session_count}
 use Rattle.count_session.specs.Job.{IsCountedJob, count_of}
 use Rattle.count_session.specs.Phases.{AreCounted}
 use Rattle.count_session.specs.Slots.{CountSlot}
 use Rattle.job_run.specs.Slots.{dones}
-use Rattle.job_run.specs.Tasks.{AreRun}
+use Rattle.job_run.specs.Tasks.{AreRun, done_result, no_result, results_of}
 use Rattle.count_session.specs.Tallied.{count_in}
 use Rattle.count_session.specs.declared.counts.PlaceCount.{PlaceCount}
 
@@ -40,9 +39,9 @@ is_count j places counts job whole a s p f some most l = by_module (list_any (na
         same_if true x y h = h refl
         same_if false x y h = refl
 
-pub counted_job : (j : JobView) (places : List Place) (slots : List CountSlot) (tasks : List Done) (counts : List (List PlaceCount)) → IsJob j → AreWhole j → AreCounted j places (length j.phases) counts → AreRun (course_of j.services) j places (length j.phases) slots → tasks ≡ dones slots →
-    IsCountedJob j places tasks (record { job = j; places = places; phases = counts })
-counted_job j places slots tasks counts job whole a ended moved = subst (λ (ds : List Done). IsCountedJob j places ds (record { job = j; places = places; phases = counts })) (sym moved) record {
+pub counted_job : (j : JobView) (places : List Place) (slots : List CountSlot) (counts : List (List PlaceCount)) → IsJob j → AreWhole j → AreCounted j places (length j.phases) counts → AreRun (course_of j.services) j places (length j.phases) slots →
+    IsCountedJob j places (dones slots) (record { job = j; places = places; phases = counts })
+counted_job j places slots counts job whole a ended = record {
   count = length-map slots (λ (s : CountSlot). s.done) ∙ ended.count;
   are_results = λ t l. (all_ended (course_of j.services) j places slots t job ended l).0;
   filled = λ t l. (all_ended (course_of j.services) j places slots t job ended l).1;
@@ -50,3 +49,9 @@ counted_job j places slots tasks counts job whole a ended moved = subst (λ (ds 
   size = refl;
   are_counts = λ s p f some most l. is_count j places counts job whole a s p f some most l;
 }
+
+-- the result of a slot's task
+pub result_at : (slots : List CountSlot) (t : ℕ) (s : CountSlot) → t < length slots → s ≡ get_or slots t s → done_result s.done ≡ results_of (dones slots) t
+result_at slots t s l e =
+    let there : t < length (dones slots) = subst (λ (n : ℕ). t < n) (sym (length-map slots (λ (x : CountSlot). x.done))) l in
+    sym (get_or-map done_result (dones slots) t s.done no_result there ∙ ap done_result (get_or-map (λ (x : CountSlot). x.done) slots t s s.done l ∙ ap (λ (x : CountSlot). x.done) (sym e)))

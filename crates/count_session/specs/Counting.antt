@@ -16,9 +16,6 @@ use Rattle.session_book.specs.declared.services.Service.{Service}
 use Rattle.task_run.specs.Ran.{run_from}
 use Rattle.task_run.specs.declared.tasks.Task.{Task}
 use Rattle.task_services.specs.Meaning.{course_of}
-use Rattle.job_run.specs.Meaning.{result_of_run}
-use Rattle.job_run.specs.Tasks.{done_result, own_run}
-use Rattle.job_run.specs.declared.outcome.Done.{Done}
 
 -- where the place is planted
 abbrev pub planted_count : PlanView → CountNotes → ℕ → Fact → List Visit → ℕ
@@ -55,9 +52,3 @@ pub record RanCounted (services : List Service) (cells : CountCells) (p q : Coun
   pub ending : result ≡ (run_from (course_of services) (plan_in cells) old).ending
   pub state : stands new.bench new.done ≡ (run_from (course_of services) (plan_in cells) old).state
   pub adds : Adds (plan_in cells) (notes_of cells p) (notes_of cells q) (visits_of (run_from (course_of services) (plan_in cells) old).turns)
-
--- so a task of a job with these services, whose storage is still there
-pub record HasRunCounted (services : List Service) (cells : CountCells) (p q : CountPass) (old new : Done) : Type 0 where
-  pub result : done_result new ≡ result_of_run (own_run (course_of services) (plan_in cells) old)
-  pub filled : length new.task.bench.space.bytes ≡ (memory_at old.task.bench).private
-  pub adds : Adds (plan_in cells) (notes_of cells p) (notes_of cells q) (visits_of (own_run (course_of services) (plan_in cells) old).turns)

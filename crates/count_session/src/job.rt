@@ -4,7 +4,7 @@ ghost use Rattle.std.specs.List.{list_any};
 ghost use Rattle.brk_table.specs.Kept.{AreCodes};
 ghost use Rattle.session_book.specs.JobView.{IsJob};
 ghost use Rattle.session_book.specs.Sessions.{AreWhole};
-ghost use Rattle.job_run.specs.Slots.{AreEmpty};
+ghost use Rattle.job_run.specs.Slots.{AreEmpty, dones};
 ghost use Rattle.count_session.specs.Job.{CountsView, IsCountedJob, count_of};
 ghost use Rattle.count_session.specs.Phases.{AreCounted, HaveRun};
 
@@ -14,7 +14,7 @@ use crate::phase::count_phase;
 use brk_table::Tables;
 use cov_base::{Fact, NoMemory, PlaceNo, SessNo, TaskNo};
 use cov_outside::Gate;
-use job_run::{Done, make_slots, tasks_of};
+use job_run::make_slots;
 use s370_state::{Cpu, Ending};
 use session_book::{FactCounts, Job, Results, Session};
 use std::alloc::Global;
@@ -63,23 +63,11 @@ impl<'a> JobCounts<'a> {
     }
 }
 
-/// What a counted job has come to: its tasks, and its sessions' counts.
+/// What a counted job has come to: its tasks, in their slots, and its sessions' counts.
 #[derive(Drop)]
 pub struct Counted<'a> {
-    pub tasks: Vec<Done<'a>>,
+    pub slots: Vec<CountSlot<'a>>,
     pub counts: JobCounts<'a>,
-}
-
-impl<'a> Counted<'a> {
-    /// The same of its counts.
-    pub fn get(&self, s: SessNo, place: PlaceNo, fact: Fact) -> u64
-        requires some { 0 < s.0 }
-        requires session { s.0 ≤ length self.now.counts.job.sessions }
-        requires place { place.0 < length self.now.counts.places }
-        ensures { result ≡ count_of self.now.counts s.0 place.0 fact }
-    {
-        self.counts.get(s, place, fact)
-    }
 }
 
 impl<'a> FactCounts for Counted<'a> {
@@ -92,35 +80,36 @@ impl<'a> FactCounts for Counted<'a> {
     ghost count_of = { λ o s p f. count_of o.counts s p f };
 
     fn count(&self, s: SessNo, p: PlaceNo, fact: Fact) -> u64 {
-        self.get(s, p, fact)
+        self.counts.get(s, p, fact)
     }
 }
 
 impl<'a> Results for Counted<'a> {
+    ghost use Rattle.job_run.specs.Slots.{dones};
     ghost use Rattle.job_run.specs.Tasks.{results_of};
 
-    ghost tasks = { λ o. length o.tasks.items };
+    ghost tasks = { λ o. length o.slots.items };
 
-    ghost result_of = { λ o t. results_of o.tasks.items t };
+    ghost result_of = { λ o t. results_of (dones o.slots.items) t };
 
     fn ending(&self, t: TaskNo) -> Option<Ending> {
-        self.tasks[t.0 as usize].ending
+        self.slots[t.0 as usize].done.ending
     }
 
     fn done(&self, t: TaskNo) -> u32 {
-        self.tasks[t.0 as usize].task.done
+        self.slots[t.0 as usize].done.task.done
     }
 
     fn cpu(&self, t: TaskNo) -> &Cpu {
-        &self.tasks[t.0 as usize].task.bench.cpu
+        &self.slots[t.0 as usize].done.task.bench.cpu
     }
 
     fn output(&self, t: TaskNo) -> &[u8] {
-        self.tasks[t.0 as usize].task.bench.io.output()
+        self.slots[t.0 as usize].done.task.bench.io.output()
     }
 
     fn row(&self, t: TaskNo, n: u32) -> &[u8] {
-        let space = &self.tasks[t.0 as usize].task.bench.space;
+        let space = &self.slots[t.0 as usize].done.task.bench.space;
         space.row(n)
     }
 }
@@ -164,13 +153,12 @@ pub fn count_job<'a, T: Threads + Wait + Sync, G: Gate + Sync>(
 ) -> Result<Counted<'a>, NoMemory>
     requires tables { AreCodes job.now.images tables.now }
     requires whole { AreWhole job.now }
-    ensures { IfOk result (λ c. IsCountedJob job.now tables.now.places c.tasks.items c.counts) }
+    ensures { IfOk result (λ c. IsCountedJob job.now tables.now.places (dones c.slots.items) c.counts) }
 {
-    let tasks = Vec::with_capacity(alloc, job.task_count())?;
     let mut slots = make_slots(alloc, job, tables)?;
     let phases = count_phases(rt, alloc, gate, job, tables, &mut slots)?;
     Ok(Counted {
-        tasks: tasks_of(slots, tasks),
+        slots,
         counts: JobCounts {
             job,
             tables,

@@ -17,5 +17,5 @@ mod words;
 pub use cells::CountCells;
 pub use counts::{Counts, PlaceCount};
 pub use job::{Counted, JobCounts, count_job};
-pub use pass::CountPass;
+pub use pass::{CountPass, CountSlot};
 pub use run::run_counted;

@@ -13,4 +13,4 @@ pub struct CountPass {
 }
 
 /// A task's slot, which keeps nothing beside the task and its pass.
-pub(crate) type CountSlot<'a> = Slot<'a, CountPass, ()>;
+pub type CountSlot<'a> = Slot<'a, CountPass, ()>;

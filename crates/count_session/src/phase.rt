@@ -2,10 +2,7 @@
 ghost use Rattle.std.specs.Prelude.{◌≡◌, ◌+◌, ◌<◌, true, false, length, IfOk};
 ghost use Rattle.brk_table.specs.Kept.{AreCodes};
 ghost use Rattle.session_book.specs.JobView.{IsJob};
-ghost use Rattle.task_run.specs.Steps.{memory_at};
-ghost use Rattle.task_run.specs.First.{IsOver};
 ghost use Rattle.job_run.specs.Slots.{AreEmpty};
-ghost use Rattle.count_session.specs.Counting.{HasRunCounted};
 ghost use Rattle.count_session.specs.Notes.{root_notes, OnlyPlants, PlantsAt, HasPlanted};
 ghost use Rattle.count_session.specs.Passes.{IsPassOf, notes_of, plan_in};
 ghost use Rattle.count_session.specs.Phases.{HaveRun, IsCounted};
@@ -57,25 +54,6 @@ fn plant_all(cells: &CountCells, root: &mut CountPass, plan: &Plan)
     }
 }
 
-/// Runs the task of the job, with its pass.
-fn run_one<'a>(
-    cells: &CountCells,
-    pass: &mut CountPass,
-    job: &Job,
-    tables: &Tables,
-    done: &mut Done<'a>,
-)
-    requires area { IsPassOf cells.now pass.old }
-    requires over { IsOver (plan_in cells.now) (memory_at done.old.task.bench) tables.now }
-    requires task { (notes_of cells.now pass.old).root ≡ false }
-    requires nothing { (notes_of cells.now pass.old).adds ≡ 0 }
-    ensures area { IsPassOf cells.now pass.new }
-    ensures ran { HasRunCounted job.now.services cells.now pass.old pass.new done.old done.new }
-{
-    let ending = run_counted(cells, pass, tables, job.services(), &mut done.task);
-    done.ending = Some(ending);
-}
-
 /// Counts with the cells of an area that was made for a phase of the job.
 #[derive(Drop)]
 pub(crate) struct CountCrew<'a> {
@@ -120,7 +98,9 @@ impl<'a> Crew for CountCrew<'a> {
     }
 
     fn run(&self, task: TaskNo, pass: &mut CountPass, extra: &mut Option<()>, done: &mut Done<'_>) {
-        run_one(self.cells, pass, self.job, self.tables, done);
+        let services = self.job.services();
+        let ending = run_counted(self.cells, pass, self.tables, services, &mut done.task);
+        done.ending = Some(ending);
     }
 
     fn join(&self, root: &mut CountPass, task: TaskNo, pass: CountPass) {
