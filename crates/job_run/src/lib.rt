@@ -10,4 +10,4 @@ mod slots;
 pub use crew::{Crew, run_crew};
 pub use outcome::{Done, Outcome, Sets};
 pub use phase::{run_job, run_job_with};
-pub use slots::{Slot, make_slots, tasks_of};
+pub use slots::{Slot, make_slots};

@@ -203,29 +203,6 @@ fn put_parts<'a, P: Drop, E: Drop>(
     };
 }
 
-/// The tasks of the slots, moved into a list that has room for them.
-pub fn tasks_of<'a, P: Drop, E: Drop>(
-    slots: Vec<Slot<'a, P, E>>,
-    mut ended: Vec<Done<'a>>,
-) -> Vec<Done<'a>>
-    requires empty { ended.items ≡ [] }
-    requires room { length slots.items ≤ vec_capacity ended }
-    ensures { result.items ≡ dones slots.entry.items }
-{
-    for slot in slots {
-        let Slot {
-            done,
-            pass: _,
-            extra: _,
-            apart: _,
-        } = slot;
-        let Ok(()) = ended.push(done) else {
-            unreachable!()
-        };
-    }
-    ended
-}
-
 /// The tasks of the slots and their extras, moved into lists that have room for them.
 pub fn parts_of<'a, P: Drop, E: Drop>(
     slots: Vec<Slot<'a, P, E>>,
