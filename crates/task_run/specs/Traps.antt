@@ -1,16 +1,26 @@
 -- What a trap leaves in the notes.
-use Rattle.std.specs.Prelude.{◌≡◌, ℕ, ◌+◌, ◌/◌, Bool, true, false, if◌then◌else◌}
+use Rattle.std.specs.Prelude.{◌≡◌, ℕ, ◌+◌, ◌/◌, ◌%◌, ◌<◌, ◌^◌, Bool, true, false, if◌then◌else◌, Some, length}
 use Rattle.cov_base.specs.Meaning.{CpuView, FactSet, with_fact, is_full, fact_of}
 use Rattle.cov_base.specs.declared.facts.Fact.{Fact}
 use Rattle.cov_base.specs.declared.facts.Kind.TheVariants.{Conditional}
 use Rattle.module_area.specs.declared.cells.Cell.{Cell}
 use Rattle.module_area.specs.Meaning.{PlanView, kind_at}
-use Rattle.module_area.specs.Notes.{Notes, after_mark, after_lift, IsFound}
+use Rattle.module_area.specs.Notes.{Notes, after_mark, after_lift, calls, is_working, IsFound}
 use Rattle.s370_branch.specs.Meaning.{goes}
 use Rattle.s370_decode.specs.Meaning.{first_half, op_of}
 use Rattle.s370_decode.specs.declared.code.Code.{Code}
 use Rattle.task_run.specs.declared.observer.Known.{Known}
 use Rattle.task_run.specs.declared.observer.Known.TheVariants.{Nothing}
+
+-- The pass is one of the area, with room for more calls, and its task has not ended: it has just fetched this cell at the place,
+-- a breakpoint.
+pub record IsTrapped (is_pass : Type 0) (plan : PlanView) (n : Notes) (p : ℕ) (c : Cell) : Type 0 where
+  pub area : is_pass
+  pub room : calls n < 2 ^ 61 + 2 ^ 16
+  pub working : is_working n ≡ true
+  pub exists : p < length plan.places
+  pub pending : n.pending ≡ Some (p, c.tag)
+  pub planted : c.tag % 2 ≡ 1
 
 -- the fact is marked, and a lift tried exactly where the set with it is full
 abbrev pub settled : PlanView → Notes → ℕ → ℕ → Fact → FactSet → Bool → Notes

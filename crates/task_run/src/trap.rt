@@ -1,13 +1,11 @@
 //! What a trap does.
-ghost use Rattle.std.specs.Prelude.{◌≡◌, ◌+◌, ◌-◌, ◌*◌, ◌/◌, ◌%◌, ◌<◌, ◌^◌, length, true};
-ghost use Rattle.std.specs.declared.option.Option.TheVariants.{Some};
+ghost use Rattle.std.specs.Prelude.{◌≡◌, ◌+◌, ◌-◌, ◌*◌, ◌/◌, ◌%◌, ◌<◌, length, true};
 ghost use Rattle.cov_base.specs.FactKind.{is_of_kind};
 ghost use Rattle.cov_base.specs.Meaning.{kind_of};
 ghost use Rattle.module_area.specs.Meaning.{kind_at};
-ghost use Rattle.module_area.specs.Notes.{calls, is_working};
 ghost use Rattle.s370_decode.specs.Meaning.{first_half, op_of};
 ghost use Rattle.task_run.specs.Sights.{IsKnown};
-ghost use Rattle.task_run.specs.Traps.{Settles, SettlesAt, SettlesWent, Traps};
+ghost use Rattle.task_run.specs.Traps.{IsTrapped, Settles, SettlesAt, SettlesWent, Traps};
 
 use crate::observer::Known;
 use brk_table::Tables;
@@ -37,13 +35,8 @@ pub(crate) fn settle<C: Cells>(
     cell: Cell,
     fact: Fact,
 )
-    requires area { C.is_pass cells.now pass.old }
+    requires trap { IsTrapped (C.is_pass cells.now pass.old) (C.plan cells.now) (C.notes pass.old) place.0 cell }
     requires plan { kind ≡ kind_at (C.plan cells.now) place.0 }
-    requires room { calls (C.notes pass.old) < 2 ^ 61 + 2 ^ 16 }
-    requires working { is_working (C.notes pass.old) ≡ true }
-    requires place { place.0 < length (C.plan cells.now).places }
-    requires pending { (C.notes pass.old).pending ≡ Some (place.0, cell.tag) }
-    requires planted { cell.tag % 2 ≡ 1 }
     requires fact { is_of_kind kind fact ≡ true }
     ensures area { C.is_pass cells.now pass.new }
     ensures settles { Settles (C.plan cells.now) (C.notes pass.old) (C.notes pass.new) (cell.tag / 2 + 1) place.0 fact }
@@ -66,12 +59,7 @@ pub(crate) fn settle_apart<C: Cells>(
     place: PlaceNo,
     cell: Cell,
 )
-    requires area { C.is_pass cells.now pass.old }
-    requires room { calls (C.notes pass.old) < 2 ^ 61 + 2 ^ 16 }
-    requires working { is_working (C.notes pass.old) ≡ true }
-    requires place { place.0 < length (C.plan cells.now).places }
-    requires pending { (C.notes pass.old).pending ≡ Some (place.0, cell.tag) }
-    requires planted { cell.tag % 2 ≡ 1 }
+    requires trap { IsTrapped (C.is_pass cells.now pass.old) (C.plan cells.now) (C.notes pass.old) place.0 cell }
     requires exists { place.0 < length tables.now.places }
     requires same { (C.plan cells.now).places ≡ tables.now.places }
     ensures area { C.is_pass cells.now pass.new }
@@ -96,12 +84,7 @@ fn mark_again<C: Cells>(
     cell: Cell,
     went: bool,
 ) -> bool
-    requires area { C.is_pass cells.now pass.old }
-    requires room { calls (C.notes pass.old) < 2 ^ 61 + 2 ^ 16 }
-    requires working { is_working (C.notes pass.old) ≡ true }
-    requires place { place.0 < length (C.plan cells.now).places }
-    requires pending { (C.notes pass.old).pending ≡ Some (place.0, cell.tag) }
-    requires planted { cell.tag % 2 ≡ 1 }
+    requires trap { IsTrapped (C.is_pass cells.now pass.old) (C.plan cells.now) (C.notes pass.old) place.0 cell }
     requires kind { kind_at (C.plan cells.now) place.0 ≡ Kind.Conditional }
     ensures area { C.is_pass cells.now pass.new }
     ensures settles { SettlesWent (C.plan cells.now) (C.notes pass.old) (C.notes pass.new) cell place.0 went result }
@@ -125,12 +108,7 @@ fn condition_again<C: Cells>(
     place: PlaceNo,
     cell: Cell,
 ) -> Known
-    requires area { C.is_pass cells.now pass.old }
-    requires room { calls (C.notes pass.old) < 2 ^ 61 + 2 ^ 16 }
-    requires working { is_working (C.notes pass.old) ≡ true }
-    requires place { place.0 < length (C.plan cells.now).places }
-    requires pending { (C.notes pass.old).pending ≡ Some (place.0, cell.tag) }
-    requires planted { cell.tag % 2 ≡ 1 }
+    requires trap { IsTrapped (C.is_pass cells.now pass.old) (C.plan cells.now) (C.notes pass.old) place.0 cell }
     requires kind { kind_at (C.plan cells.now) place.0 ≡ kind_of (first_half it.now.code) }
     requires op { op_of (first_half it.now.code) ≡ Op.BC }
     ensures area { C.is_pass cells.now pass.new }
@@ -161,12 +139,7 @@ fn count_again<C: Cells>(
     place: PlaceNo,
     cell: Cell,
 ) -> Known
-    requires area { C.is_pass cells.now pass.old }
-    requires room { calls (C.notes pass.old) < 2 ^ 61 + 2 ^ 16 }
-    requires working { is_working (C.notes pass.old) ≡ true }
-    requires place { place.0 < length (C.plan cells.now).places }
-    requires pending { (C.notes pass.old).pending ≡ Some (place.0, cell.tag) }
-    requires planted { cell.tag % 2 ≡ 1 }
+    requires trap { IsTrapped (C.is_pass cells.now pass.old) (C.plan cells.now) (C.notes pass.old) place.0 cell }
     requires kind { kind_at (C.plan cells.now) place.0 ≡ kind_of (first_half it.now.code) }
     requires op { op_of (first_half it.now.code) ≡ Op.BCT }
     ensures area { C.is_pass cells.now pass.new }
@@ -196,12 +169,7 @@ pub(crate) fn settle_again<C: Cells>(
     place: PlaceNo,
     cell: Cell,
 ) -> Known
-    requires area { C.is_pass cells.now pass.old }
-    requires room { calls (C.notes pass.old) < 2 ^ 61 + 2 ^ 16 }
-    requires working { is_working (C.notes pass.old) ≡ true }
-    requires place { place.0 < length (C.plan cells.now).places }
-    requires pending { (C.notes pass.old).pending ≡ Some (place.0, cell.tag) }
-    requires planted { cell.tag % 2 ≡ 1 }
+    requires trap { IsTrapped (C.is_pass cells.now pass.old) (C.plan cells.now) (C.notes pass.old) place.0 cell }
     requires kind { kind_at (C.plan cells.now) place.0 ≡ kind_of (first_half it.now.code) }
     ensures area { C.is_pass cells.now pass.new }
     ensures traps { Traps (C.plan cells.now) (C.notes pass.old) (C.notes pass.new) cell place.0 it.now.code cpu.now result }
