@@ -78,7 +78,7 @@ fn note_at(tables: &Tables, found: &mut [Found], place: PlaceNo, went: bool, fir
 }
 
 /// Notes the first visits of one task: its pass has for each place those that were found so far, also of other tasks.
-#[derive(Clone, Copy)]
+#[derive(Drop)]
 pub(crate) struct FirstVisits {
     // the task's index in the job
     pub(crate) task: u16,

@@ -23,9 +23,9 @@ fn add_task(
     requires size { length found.old.items ≡ length tables.now.places }
     ensures noted { OnOk result (NotesTask job.now tables.now.places t found.old.items found.new.items) }
 {
-    let visits = FirstVisits { task: t };
     let card = job.card(t as usize);
     let mut bench = begin_alone(alloc, job, tables, t as usize)?;
+    let visits = FirstVisits { task: t };
     run_alone(&visits, found, tables, &[], &mut bench, card.budget);
     Ok(())
 }

@@ -100,7 +100,9 @@ fn run_phase<'a, T: Threads + Sync, A: Areas, G: Gate + Sync, R: Runner<A::C> + 
     let plan = plan_of(alloc, job, tables, phase)?;
     // the proof reads the rules that a plan keeps off this look at one
     let _ = &plan.windows;
-    run_planned(rt, alloc, areas, gate, runner, job, tables, &plan, phase, slots)
+    run_planned(
+        rt, alloc, areas, gate, runner, job, tables, &plan, phase, slots,
+    )
 }
 
 /// Runs the job's phases one after the other, and adds the sets that each one's area ended with.
