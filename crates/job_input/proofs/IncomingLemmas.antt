@@ -8,11 +8,9 @@ use Rattle.job_text.specs.Meaning.{lines_of, IsBadAt, IsRefusal}
 use Rattle.job_text.specs.Pieces.{IsEnded}
 use Rattle.job_text.specs.declared.grammar.Grammar.{Grammar}
 use Rattle.job_text.specs.Refusals.{IsRead, AnswersOnly}
-use Rattle.job_text.specs.Taken.{IsFed, grammar_of, told, has_ended, fed_size}
+use Rattle.job_text.specs.Taken.{Stage, Reading, Failed, IsFed, grammar_of, told, has_ended, fed_size}
 use Rattle.job_text.specs.declared.jobs.JobFault.{JobFault}
 use Rattle.job_text.specs.declared.jobs.ReadJob.{ReadJob}
-use Rattle.job_text.specs.declared.reader.Stage.{Stage}
-use Rattle.job_text.specs.declared.reader.Stage.TheVariants as stage
 use Rattle.job_text.proofs.Laws.{used_all, read_longer, only_longer, fault_longer, bad_behind}
 use Rattle.job_input.specs.Incoming.{SpellJob, HasCome}
 use Rattle.job_input.specs.declared.form.Form.{Form}
@@ -33,8 +31,8 @@ come_nothing i fed grammar reading over none = record {
 }
 
 pub told_reading : (s : Stage) (e : JobFault) → told s ≡ Some e → has_ended s ≡ false
-told_reading (stage.Reading p) e h = absurd cc
-told_reading (stage.Failed g f) e h = refl
+told_reading (Reading p) e h = absurd cc
+told_reading (Failed g f) e h = refl
 
 same_grammar : (i j : Incoming) → grammar_of j.reader ≡ grammar_of i.reader → grammar_of i.reader ≡ i.form.grammar → j.form ≡ i.form → grammar_of j.reader ≡ j.form.grammar
 same_grammar i j same was form = same ∙ (was ∙ ap (λ (f : Form). f.grammar) (sym form))

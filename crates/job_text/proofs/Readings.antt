@@ -1,5 +1,5 @@
 -- What the lines say that a reader has taken.
-use Rattle.std.proofs.Common.{◌≡◌, ℕ, ◌+◌, ◌-◌, ◌<◌, ◌≤◌, true, false, Some, List, [], ◌∷◌, ◌++◌, length, take, drop, refl, ap, subst, sym, ◌∙◌, arith, append_assoc, append-nil, length-append, length-take, inl, inr}
+use Rattle.std.proofs.Common.{◌≡◌, ℕ, ◌+◌, ◌-◌, ◌<◌, ◌≤◌, Bool, true, false, Some, List, [], ◌∷◌, ◌++◌, length, take, drop, refl, ap, subst, sym, ◌∙◌, arith, append_assoc, append-nil, length-append, length-take, inl, inr}
 use Rattle.std.proofs.Math.Seq.{take-length, drop-length}
 use Rattle.std.proofs.lemmas.Bool.{cases_lt, true_from_ne_false}
 use Rattle.std.proofs.lemmas.List.{take-take}
@@ -8,7 +8,7 @@ use Rattle.session_book.specs.Meaning.{JobView}
 use Rattle.job_text.specs.Meaning.{Present, bound, LineView, lines_of, keeps, IsWithin, Passes, GoesOn, IsBadAt, IsOverAt, IsRefusal, Spells}
 use Rattle.job_text.specs.Lines.{ended_lines, span}
 use Rattle.job_text.specs.Pieces.{fault_line, IsTold, IsOpen, IsEnded, used_of}
-use Rattle.job_text.specs.Refusals.{IsRead}
+use Rattle.job_text.specs.Refusals.{IsRead, IsRefused}
 use Rattle.job_text.specs.Steps.{State, start, plain, is_done, step, run}
 use Rattle.job_text.specs.Taken.{IsNext, IsFaultOf, HasRun, has_lf, HasTaken, size_of}
 use Rattle.job_text.specs.declared.grammar.Grammar.{Grammar}
@@ -252,7 +252,7 @@ line_told bytes line rest p e partial h reading f =
     }
 
 -- by the last line, which lacks its LF
-pub last_refuted : (bytes : List ℕ) (p : Pieces) (e : JobFault) → 0 < length p.cut.items → HasTaken bytes p → is_done p.taken.reader.part ≡ false → IsFaultOf (step Present p.taken.reader (open_line p.cut.items)) (p.taken.lines + 1) e → Refuted p.taken.grammar (lines_of bytes) e (length (lines_of bytes))
+last_refuted : (bytes : List ℕ) (p : Pieces) (e : JobFault) → 0 < length p.cut.items → HasTaken bytes p → is_done p.taken.reader.part ≡ false → IsFaultOf (step Present p.taken.reader (open_line p.cut.items)) (p.taken.lines + 1) e → Refuted p.taken.grammar (lines_of bytes) e (length (lines_of bytes))
 last_refuted bytes p e some h reading f =
     let l : LineView = open_line p.cut.items in
     let last : lines_of p.cut.items ≡ l ∷ [] = line_partial p.cut.items h.partial ∙ whole_some p.cut.items some in
@@ -260,6 +260,19 @@ last_refuted bytes p e some h reading f =
     let x : Refuted p.taken.grammar (lines_of h.front ++ l ∷ []) e (length (lines_of h.front) + 1) = refuted h.front l [] p.taken e h.ran reading f in
     let one : length (lines_of h.front ++ l ∷ []) ≡ length (lines_of h.front) + 1 = omega (arith, length-append (lines_of h.front) (l ∷ [])) in
     rw (lines, one) x
+
+pub last_refused : (bytes : List ℕ) (p : Pieces) (e : JobFault) → 0 < length p.cut.items → HasTaken bytes p → IsFaultOf (step Present p.taken.reader (open_line p.cut.items)) (p.taken.lines + 1) e → IsRefused p.taken.grammar (lines_of bytes) e
+last_refused bytes p e some h f =
+    let x : Refuted p.taken.grammar (lines_of bytes) e (length (lines_of bytes)) = last_refuted bytes p e some h (not_true (is_done p.taken.reader.part) (λ done. some_cut p.cut.items some (h.end done))) f in
+    record { refusal = x.refusal; only = x.only }
+  where
+    not_true : (b : Bool) → (b ≡ true → ⊥) → b ≡ false
+    not_true true h = absurd (h refl)
+    not_true false h = refl
+
+    some_cut : (s : List ℕ) → 0 < length s → s ≡ [] → ⊥
+    some_cut [] h e = omega arith
+    some_cut (x ∷ xs) h e = absurd cc
 
 -- the input ends early
 pub early_refuted : (bytes : List ℕ) (t : Taken) (e : JobFault) → HasRun bytes t → is_done t.reader.part ≡ false → e ≡ fault.BadJob (t.lines + 1) → IsRefusal t.grammar (lines_of bytes) e × ((n : ℕ) (job : JobView) → n ≤ length (lines_of bytes) → Spells t.grammar Present (take n (lines_of bytes)) job → IsWithin job → e ≡ fault.NoMemory)

@@ -1,7 +1,7 @@
 -- The job that was read, and that first lines that spell one have no other answer.
 use Rattle.std.specs.Prelude.{◌≡◌, ℕ, ◌≤◌, Result, Ok, Err, List, ◌++◌, length, take, drop}
 use Rattle.session_book.specs.Meaning.{JobView}
-use Rattle.job_text.specs.Meaning.{LineView, lines_of, Present, Spells, IsWithin}
+use Rattle.job_text.specs.Meaning.{LineView, lines_of, Present, Spells, IsWithin, IsRefusal}
 use Rattle.job_text.specs.declared.grammar.Grammar.{Grammar}
 use Rattle.job_text.specs.declared.jobs.ReadJob.{ReadJob}
 use Rattle.job_text.specs.declared.jobs.JobFault.{JobFault}
@@ -24,3 +24,8 @@ IsOnly n job (Err e) = e ≡ fault.NoMemory
 -- where first lines spell a job within the limits, the answer is that job
 abbrev pub AnswersOnly : Grammar → List LineView → Result ReadJob JobFault → Type 0
 AnswersOnly g lines answer = (n : ℕ) (job : JobView) → n ≤ length lines → Spells g Present (take n lines) job → IsWithin job → IsOnly n job answer
+
+-- the fault is that of reading these lines, and where first lines spell a job within the limits it is want of memory
+pub record IsRefused (g : Grammar) (lines : List LineView) (e : JobFault) : Type 0 where
+  pub refusal : IsRefusal g lines e
+  pub only : AnswersOnly g lines (Err e)

@@ -11,8 +11,6 @@ use Rattle.job_text.specs.declared.jobs.JobFault.{JobFault}
 use Rattle.job_text.specs.declared.jobs.JobFault.TheVariants as fault
 use Rattle.job_text.specs.declared.taken.Taken.{Taken}
 use Rattle.job_text.specs.declared.pieces.Pieces.{Pieces}
-use Rattle.job_text.specs.declared.reader.Stage.{Stage}
-use Rattle.job_text.specs.declared.reader.Stage.TheVariants as stage
 
 -- the line was taken
 pub record IsNext (a b : Taken) (l : LineView) : Type 0 where
@@ -53,31 +51,45 @@ pub record HasTaken (bytes : List ℕ) (p : Pieces) : Type 0 where
 abbrev pub size_of : Pieces → ℕ
 size_of p = p.taken.bytes + length p.cut.items
 
+-- How far a reader has come.
+pub data Stage : Type 0 where
+  Reading : Pieces → Stage
+  -- the grammar of the job, and the fault that was told
+  Failed : Grammar → JobFault → Stage
+
+abbrev pub stage_of : Pieces → Option (Grammar × JobFault) → Stage
+stage_of p None = Reading p
+stage_of p (Some (g, e)) = Failed g e
+
 -- A reader was fed these bytes, those behind the job left out.
 abbrev pub IsFed : List ℕ → Stage → Type 0
-IsFed bytes (stage.Reading p) = HasTaken bytes p
-IsFed bytes (stage.Failed g e) = IsTold g bytes e
+IsFed bytes (Reading p) = HasTaken bytes p
+IsFed bytes (Failed g e) = IsTold g bytes e
 
 abbrev pub grammar_of : Stage → Grammar
-grammar_of (stage.Reading p) = p.taken.grammar
-grammar_of (stage.Failed g e) = g
+grammar_of (Reading p) = p.taken.grammar
+grammar_of (Failed g e) = g
 
 -- the fault that it has told
 abbrev pub told : Stage → Option JobFault
-told (stage.Reading p) = None
-told (stage.Failed g e) = Some e
+told (Reading p) = None
+told (Failed g e) = Some e
 
 -- it was fed a whole job, with the LF of ENDJOB's line
 abbrev pub has_ended : Stage → Bool
-has_ended (stage.Reading p) = is_done p.taken.reader.part
-has_ended (stage.Failed g e) = false
+has_ended (Reading p) = is_done p.taken.reader.part
+has_ended (Failed g e) = false
 
 -- how many bytes it was fed, where it has told no fault
 abbrev pub fed_size : Stage → ℕ
-fed_size (stage.Reading p) = size_of p
-fed_size (stage.Failed g e) = 0
+fed_size (Reading p) = size_of p
+fed_size (Failed g e) = 0
 
 pub record WasFed (s : Stage) : Type 0 where
   pub bytes : List ℕ
   pub fed : IsFed bytes s
   pub small : fed_size s ≤ INPUT_LIMIT
+
+-- this is so of the grammar and of the bytes that were fed
+abbrev pub Finds : Pieces → Option (Grammar × JobFault) → (Grammar → List ℕ → Type 0) → Type 0
+Finds p failed Is = (bytes : List ℕ) → IsFed bytes (stage_of p failed) → Is (grammar_of (stage_of p failed)) bytes

@@ -27,17 +27,13 @@ fn has_module(job: &Draft, name: &Name) -> bool
     job.names.modules.has(name)
 }
 
-fn is_clear(image: &Image, base: u32, size: u32) -> bool
-    ensures { result ≡ adding.is_clear base size image.now }
-{
-    u128::from(image.base.get()) + image.bytes.len() as u128 <= u128::from(base)
-        || u64::from(base) + u64::from(size) <= u64::from(image.base.get())
-}
-
 fn all_clear(images: &[Image], base: u32, size: u32) -> bool
     ensures { result ≡ list_all (adding.is_clear base size) images.now }
 {
-    images.iter().all(|image| is_clear(image, base, size))
+    images.iter().all(|image| {
+        u128::from(image.base.get()) + image.bytes.len() as u128 <= u128::from(base)
+            || u64::from(base) + u64::from(size) <= u64::from(image.base.get())
+    })
 }
 
 /// Whether a module of this name and place may come.
@@ -187,37 +183,43 @@ fn add_task(names: &mut JobNames, name: Name) -> Result<(), NoMemory>
     Ok(())
 }
 
-fn put_module(job: &mut Draft, image: Image, listing: Option<ListingLines>) -> Result<(), NoMemory>
+fn put_module(
+    job: &mut Draft,
+    image: Image,
+    listing: Option<ListingLines>,
+) -> Result<(), LineRefused>
     requires new { adding.has_module job.old image.name ≡ false }
     requires room { length job.old.images + 1 ≤ MODULE_LIMIT }
     requires phases { length job.old.phases ≤ PHASE_LIMIT }
     ensures value { IfOk result (λ _. job.new ≡ adding.with_module job.old image listing) }
+    ensures err { IfErr result (parts.IsOut (Some (adding.with_module job.old image listing))) }
     ensures room { machine.HasRoom kind.Modules job.new }
 {
     let name = image.name;
     let count = job.images.len();
     job.listings.push(listing)?;
     job.images.push(image)?;
-    if let Err(shortage) = add_module(&mut job.names, name) {
+    if add_module(&mut job.names, name).is_err() {
         job.images.truncate(count);
-        return Err(shortage);
+        return Err(LineRefused::NoMemory);
     }
     Ok(())
 }
 
-fn put_task(job: &mut Draft, mut task: TaskCard) -> Result<(), NoMemory>
+fn put_task(job: &mut Draft, mut task: TaskCard) -> Result<(), LineRefused>
     requires new { adding.has_task job.old task.name ≡ false }
     requires room { machine.HasRoom kind.Modules job.old }
     ensures value { IfOk result (λ _. job.new ≡ adding.with_task job.old task) }
+    ensures err { IfErr result (parts.IsOut (Some (adding.with_task job.old task))) }
     ensures room { machine.HasRoom kind.Modules job.new }
 {
     task.phase = this_phase(job);
     let name = task.name;
     let count = job.tasks.len();
     job.tasks.push(task)?;
-    if let Err(shortage) = add_task(&mut job.names, name) {
+    if add_task(&mut job.names, name).is_err() {
         job.tasks.truncate(count);
-        return Err(shortage);
+        return Err(LineRefused::NoMemory);
     }
     Ok(())
 }
@@ -283,18 +285,19 @@ fn may_have(job: &Draft, by: &Option<Name>) -> bool
     }
 }
 
-fn put_session(job: &mut Draft, session: SessionDraft) -> Result<(), NoMemory>
+fn put_session(job: &mut Draft, session: SessionDraft) -> Result<(), LineRefused>
     requires new { list_any (λ s. bytes_eq s.name session.name) job.old.sessions ≡ false }
     requires room { machine.HasRoom kind.Modules job.old }
     ensures value { IfOk result (λ _. job.new ≡ adding.with_draft job.old session) }
+    ensures err { IfErr result (parts.IsOut (Some (adding.with_draft job.old session))) }
     ensures room { machine.HasRoom kind.Modules job.new }
 {
     let name = session.name;
     let count = job.sessions.len();
     job.sessions.push(session)?;
-    if let Err(shortage) = add_session(&mut job.names, name) {
+    if add_session(&mut job.names, name).is_err() {
         job.sessions.truncate(count);
-        return Err(shortage);
+        return Err(LineRefused::NoMemory);
     }
     Ok(())
 }
@@ -325,7 +328,7 @@ pub(crate) fn with_session(
                 modules,
                 by,
             };
-            Ok(put_session(job, session)?)
+            put_session(job, session)
         }
     }
 }
@@ -339,18 +342,12 @@ pub(crate) fn closed_module(part: Part, job: &mut Draft) -> Result<(), LineRefus
 {
     match part {
         Part::Modules => Ok(()),
-        Part::Texts { image, left } => {
-            if left != 0 {
-                return Err(LineRefused::Bad);
-            }
-            Ok(put_module(job, image, None)?)
-        }
-        Part::Listed { image, left, lines } => {
-            if left != 0 {
-                return Err(LineRefused::Bad);
-            }
-            Ok(put_module(job, image, Some(lines))?)
-        }
+        Part::Texts { image, left: 0 } => put_module(job, image, None),
+        Part::Listed {
+            image,
+            left: 0,
+            lines,
+        } => put_module(job, image, Some(lines)),
         _ => Err(LineRefused::Bad),
     }
 }
@@ -377,7 +374,7 @@ pub(crate) fn closed_task(part: Part, job: &mut Draft) -> Result<(), LineRefused
 {
     match part {
         Part::Sessions => Ok(()),
-        Part::Task(task) => Ok(put_task(job, task.task)?),
+        Part::Task(task) => put_task(job, task.task),
         _ => Err(LineRefused::Bad),
     }
 }

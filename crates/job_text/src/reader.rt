@@ -5,39 +5,35 @@ ghost use Rattle.session_book.specs.Meaning.{JobView};
 ghost use Rattle.job_text.specs.Meaning.{Present, lines_of, IsWithin, IsRefusal, Spells};
 ghost use Rattle.job_text.specs.Pieces.{IsTold, Feeds, used_of, used_count, is_end};
 ghost use Rattle.job_text.specs.Refusals.{IsRead, AnswersOnly};
-ghost use Rattle.job_text.specs.Taken.{IsFed, grammar_of, told, has_ended, fed_size};
+ghost use Rattle.job_text.specs.Taken.{Finds, IsFed, WasFed, stage_of, grammar_of, told, has_ended, fed_size};
 
 use crate::grammar::Grammar;
 use crate::jobs::{JobFault, ReadJob};
 use crate::pieces::{Fed, Pieces};
+use crate::steps::LineReader;
 use crate::taken::Taken;
 use cov_base::NoMemory;
 use std::alloc::Global;
 use std::marker::Model;
 
-/// How far a reader has come.
-#[derive(Drop)]
-pub(crate) enum Stage {
-    Reading(Pieces),
-    Failed { grammar: Grammar, fault: JobFault },
-}
-
 /// Reads a job from pieces of bytes as they come.
 #[derive(Drop)]
 pub struct JobReader {
-    stage: Stage,
+    pieces: Pieces,
+    /// The fault that was told, with the grammar of the job; what was read is of no use then.
+    failed: Option<(Grammar, JobFault)>,
 }
 
 impl Model for JobReader {
-    ghost use Rattle.job_text.specs.declared.reader.Stage.{Stage};
+    ghost use Rattle.job_text.specs.Taken.{Stage, stage_of};
 
     ghost Value = { Stage };
 
     ghost use Rattle.job_text.specs.Taken.{WasFed};
 
-    ghost view = { λ r. r.stage };
+    ghost view = { λ r. stage_of r.pieces r.failed };
 
-    ghost invariant = { λ r. WasFed r.stage };
+    ghost invariant = { λ r. WasFed (stage_of r.pieces r.failed) };
 }
 
 impl JobReader {
@@ -50,10 +46,16 @@ impl JobReader {
         ensures size { IfOk result (λ r. fed_size r ≡ 0) }
     {
         Ok(JobReader {
-            stage: Stage::Reading(Pieces {
-                taken: Taken::new(alloc, grammar),
+            pieces: Pieces {
+                taken: Taken {
+                    grammar,
+                    reader: LineReader::new(alloc, grammar),
+                    lines: 0,
+                    bytes: 0,
+                },
                 cut: Vec::new(alloc),
-            }),
+            },
+            failed: None,
         })
     }
 
@@ -77,14 +79,14 @@ impl JobReader {
         ensures ended { IfOk result (λ f. has_ended self.new ≡ is_end f) }
         ensures size { fed_size self.new ≤ fed_size self.old + length piece.now }
     {
-        match &mut self.stage {
-            Stage::Failed { grammar: _, fault } => Err(*fault),
-            Stage::Reading(pieces) => {
-                let grammar = pieces.taken.grammar;
-                match pieces.feed(alloc, piece) {
+        match self.failed {
+            Some((_, fault)) => Err(fault),
+            None => {
+                let grammar = self.pieces.taken.grammar;
+                match self.pieces.feed(alloc, piece) {
                     Ok(fed) => Ok(fed),
                     Err(fault) => {
-                        self.stage = Stage::Failed { grammar, fault };
+                        self.failed = Some((grammar, fault));
                         Err(fault)
                     }
                 }
@@ -96,9 +98,9 @@ impl JobReader {
     pub fn has_ended(&self) -> bool
         ensures { result ≡ has_ended self.now }
     {
-        match &self.stage {
-            Stage::Reading(pieces) => pieces.taken.reader.is_done(),
-            Stage::Failed { .. } => false,
+        match self.failed {
+            Some(_) => false,
+            None => self.pieces.taken.reader.is_done(),
         }
     }
 
@@ -110,9 +112,26 @@ impl JobReader {
         ensures fault { (bytes : List ℕ) → IsFed bytes self → IfErr result (IsRefusal (grammar_of self) (lines_of bytes)) }
         ensures same { (e : JobFault) → told self ≡ Some e → result ≡ Err e }
     {
-        match self.stage {
-            Stage::Failed { grammar: _, fault } => Err(fault),
-            Stage::Reading(pieces) => pieces.finish(alloc),
-        }
+        let JobReader { mut pieces, failed } = self;
+        finished(alloc, &mut pieces, failed)
+    }
+}
+
+/// The fault that was told, else the job of what was taken, which is taken out.
+fn finished(
+    alloc: Global,
+    pieces: &mut Pieces,
+    failed: Option<(Grammar, JobFault)>,
+) -> Result<ReadJob, JobFault>
+    requires { WasFed (stage_of pieces.old failed) }
+    ensures job { Finds pieces.old failed (λ g bytes. IfOk result (IsRead g bytes)) }
+    ensures whole { Finds pieces.old failed (λ _ bytes. IfOk result (λ r. r.end ≡ length bytes)) }
+    ensures only { Finds pieces.old failed (λ g bytes. AnswersOnly g (lines_of bytes) result) }
+    ensures fault { Finds pieces.old failed (λ g bytes. IfErr result (IsRefusal g (lines_of bytes))) }
+    ensures same { (e : JobFault) → told (stage_of pieces.old failed) ≡ Some e → result ≡ Err e }
+{
+    match failed {
+        Some((_, fault)) => Err(fault),
+        None => pieces.finish(alloc),
     }
 }

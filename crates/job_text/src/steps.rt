@@ -29,6 +29,7 @@ use cov_base::{
 };
 use listing_lines::ListingLines;
 use module_area::Image;
+use names::NameList;
 use session_book::{Job, Service};
 use std::alloc::Global;
 use std::marker::Model;
@@ -59,16 +60,7 @@ impl LineReader {
     {
         LineReader {
             part: Part::Start,
-            job: Draft {
-                grammar,
-                images: Vec::new(alloc),
-                listings: Vec::new(alloc),
-                services: Vec::new(alloc),
-                phases: Vec::new(alloc),
-                sessions: Vec::new(alloc),
-                tasks: Vec::new(alloc),
-                names: JobNames::new(alloc),
-            },
+            job: no_job(alloc, grammar),
         }
     }
 
@@ -349,12 +341,14 @@ impl LineReader {
         }
     }
 
-    /// The job that was read.
-    pub(crate) fn finish(self, alloc: Global) -> Result<Job, NoMemory>
-        requires { IsJob (bound self.job) }
-        ensures { IfOk result (λ job. job ≡ bound self.job) }
+    /// The job that was read, which is taken out.
+    pub(crate) fn finish(&mut self, alloc: Global) -> Result<Job, NoMemory>
+        requires done { machine.is_done self.old.part ≡ true }
+        requires job { IsJob (bound self.old.job) }
+        ensures { IfOk result (λ job. job ≡ bound self.old.job) }
     {
-        bound_job(alloc, self.job)
+        let none = no_job(alloc, self.job.grammar);
+        bound_job(alloc, mem::replace(&mut self.job, none))
     }
 
     /// Whether ENDJOB was read.
@@ -365,6 +359,27 @@ impl LineReader {
             Part::Done => true,
             _ => false,
         }
+    }
+}
+
+/// No job.
+fn no_job(alloc: Global, grammar: Grammar) -> Draft
+    ensures { result ≡ says.no_job grammar }
+{
+    Draft {
+        grammar,
+        images: Vec::new(alloc),
+        listings: Vec::new(alloc),
+        services: Vec::new(alloc),
+        phases: Vec::new(alloc),
+        sessions: Vec::new(alloc),
+        tasks: Vec::new(alloc),
+        names: JobNames {
+            modules: NameList::new(alloc),
+            phases: NameList::new(alloc),
+            sessions: NameList::new(alloc),
+            tasks: NameList::new(alloc),
+        },
     }
 }
 

@@ -3,7 +3,7 @@ ghost use Rattle.std.specs.Prelude.{◌≡◌, ◌+◌, ◌<◌, ◌≤◌, ◌^
 ghost use Rattle.session_book.specs.Meaning.{JobView};
 ghost use Rattle.job_text.specs.Meaning.{Present, as_line, lines_of, IsWithin, IsRefusal, Spells};
 ghost use Rattle.job_text.specs.Refusals.{IsRead, AnswersOnly};
-ghost use Rattle.job_text.specs.Steps.{start, step};
+ghost use Rattle.job_text.specs.Steps.{step};
 ghost use Rattle.job_text.specs.Taken.{IsNext, IsFaultAt, HasRun};
 
 use crate::grammar::Grammar;
@@ -22,21 +22,6 @@ pub(crate) struct Taken {
 }
 
 impl Taken {
-    /// No line.
-    pub(crate) fn new(alloc: Global, grammar: Grammar) -> Taken
-        ensures grammar { result.grammar ≡ grammar }
-        ensures reader { result.reader ≡ start grammar }
-        ensures lines { result.lines ≡ 0 }
-        ensures bytes { result.bytes ≡ 0 }
-    {
-        Taken {
-            grammar,
-            reader: LineReader::new(alloc, grammar),
-            lines: 0,
-            bytes: 0,
-        }
-    }
-
     /// Takes the next line; `ended` where an LF ended it.
     pub(crate) fn line(&mut self, alloc: Global, bytes: &[u8], ended: bool) -> Result<(), JobFault>
         requires few { self.old.lines + 1 < 2 ^ 32 }
@@ -62,14 +47,14 @@ impl Taken {
         }
     }
 
-    /// The job that all lines of an input spell.
-    pub(crate) fn finish(self, alloc: Global) -> Result<ReadJob, JobFault>
-        requires ran { (bytes : List ℕ) × HasRun bytes self }
-        requires room { self.bytes + 1 < 2 ^ 32 }
-        ensures job { (bytes : List ℕ) → HasRun bytes self → IfOk result (IsRead self.grammar bytes) }
-        ensures whole { (bytes : List ℕ) → HasRun bytes self → IfOk result (λ r. r.end ≡ length bytes) }
-        ensures only { (bytes : List ℕ) → HasRun bytes self → AnswersOnly self.grammar (lines_of bytes) result }
-        ensures fault { (bytes : List ℕ) → HasRun bytes self → IfErr result (IsRefusal self.grammar (lines_of bytes)) }
+    /// The job that all lines of an input spell, which is taken out.
+    pub(crate) fn finish(&mut self, alloc: Global) -> Result<ReadJob, JobFault>
+        requires ran { (bytes : List ℕ) × HasRun bytes self.old }
+        requires room { self.old.bytes + 1 < 2 ^ 32 }
+        ensures job { (b : List ℕ) → HasRun b self.old → IfOk result (IsRead self.old.grammar b) }
+        ensures whole { (b : List ℕ) → HasRun b self.old → IfOk result (λ r. r.end ≡ length b) }
+        ensures only { (b : List ℕ) → HasRun b self.old → AnswersOnly self.old.grammar (lines_of b) result }
+        ensures fault { (b : List ℕ) → HasRun b self.old → IfErr result (IsRefusal self.old.grammar (lines_of b)) }
     {
         if self.reader.is_done() {
             return Ok(ReadJob {

@@ -38,16 +38,10 @@ pub(crate) fn is(word: &[u8], text: &[u8]) -> bool
     word == text
 }
 
-fn is_digit(b: u8) -> bool
-    ensures { result ≡ is_digit_byte b }
-{
-    b >= b'0' && b <= b'9'
-}
-
 fn all_digits(word: &[u8]) -> bool
     ensures { result ≡ list_all is_digit_byte word.now }
 {
-    word.iter().all(|b| is_digit(*b))
+    word.iter().all(|b| *b >= b'0' && *b <= b'9')
 }
 
 fn is_number(word: &[u8]) -> bool
