@@ -1,12 +1,14 @@
 -- The first word of a line, and the others.
-use Rattle.std.proofs.Common.{◌≡◌, ℕ, ◌+◌, ◌<◌, ◌≤◌, Bool, true, false, not, cond, nat_eq, nat_lt, Some, None, List, [], ◌∷◌, length, take, drop, get_or, arith, suc, zero, refl, map, ◌++◌, ◌-◌, append_assoc, sym}
+use Rattle.std.proofs.Common.{◌≡◌, ℕ, ◌+◌, ◌<◌, ◌≤◌, Bool, true, false, not, cond, if◌then◌else◌, Option, nat_eq, nat_lt, Some, None, List, [], ◌∷◌, length, take, drop, get_or, arith, suc, zero, refl, map, ◌++◌, ◌-◌, append_assoc, sym, ap, ◌∙◌}
 use Rattle.std.proofs.lemmas.List.{map-append}
 use Rattle.std.proofs.Math.Seq.{take-length}
 use Rattle.std.proofs.lemmas.Bool.Decides.{nat_tests}
 use Rattle.std.specs.List.{position, position_or_len}
 use Rattle.std.proofs.lemmas.Option.{cond_some}
 use Rattle.cov_base.specs.Meaning.{words, name_at}
-use Rattle.job_text.specs.Meaning.{names_at, names_on, as_controlled, controlled_card, long_card}
+use Rattle.std.specs.Prelude.{codes}
+use Rattle.std.specs.Str.{bytes_eq}
+use Rattle.job_text.specs.Meaning.{CardView, End, names_at, names_on, as_session, as_controlled, controlled_card, session_card, short_card, pair_card, module_card, task_card, long_card, card_of}
 
 abbrev pub end_of : List ℕ → ℕ
 end_of s = position_or_len (λ b. nat_eq b 32) s
@@ -91,3 +93,62 @@ controlled_parted f name (t ∷ []) d h = absurd (omega arith)
 controlled_parted f name (t ∷ m ∷ more) d h =
     let less : length (t ∷ m ∷ more) - 1 ≡ length (m ∷ more) = omega arith in
     rw (less, take-length more) refl
+
+-- the card of words that stand in a slice, by how many they are
+
+module _ {X : Type 0} (f : X → List ℕ) (d : X) where
+  pub session_none : (name : List ℕ) (ws : List X) → length ws < 1 → None ≡ session_card name (map f ws)
+  session_none name [] h = refl
+  session_none name (w ∷ ws) h = absurd (omega arith)
+
+  pub session_parted : (name : List ℕ) (ws : List X) → 1 ≤ length ws →
+      session_card name (map f ws) ≡ (if bytes_eq (f (get_or ws 0 d)) (codes "BY") then controlled_card name (map f (take (length ws - 1) (drop 1 ws))) else as_session (name_at name) (names_at (map f ws)))
+  session_parted name [] h = absurd (omega arith)
+  session_parted name (w ∷ ws) h =
+      let less : length (w ∷ ws) - 1 ≡ length ws = omega arith in
+      rw (less, take-length ws) refl
+
+  pub long_of_one : (key a : List ℕ) (ws : List X) → length ws ≡ 1 → long_card key a (map f ws) ≡ pair_card key a (f (get_or ws 0 d))
+  long_of_one key a [] h = absurd (omega arith)
+  long_of_one key a (b ∷ []) h = refl
+  long_of_one key a (b ∷ c ∷ ws) h = absurd (omega arith)
+
+  pub long_of_two : (key a : List ℕ) (ws : List X) → length ws ≡ 2 → long_card key a (map f ws) ≡ module_card key a (f (get_or ws 0 d)) (f (get_or ws 1 d))
+  long_of_two key a [] h = absurd (omega arith)
+  long_of_two key a (b ∷ []) h = absurd (omega arith)
+  long_of_two key a (b ∷ c ∷ []) h = refl
+  long_of_two key a (b ∷ c ∷ e ∷ ws) h = absurd (omega arith)
+
+  pub long_of_four : (key a : List ℕ) (ws : List X) → length ws ≡ 4 →
+      long_card key a (map f ws) ≡ task_card key a (f (get_or ws 0 d)) (f (get_or ws 1 d)) (f (get_or ws 2 d)) (f (get_or ws 3 d))
+  long_of_four key a [] h = absurd (omega arith)
+  long_of_four key a (b ∷ []) h = absurd (omega arith)
+  long_of_four key a (b ∷ c ∷ []) h = absurd (omega arith)
+  long_of_four key a (b ∷ c ∷ e ∷ []) h = absurd (omega arith)
+  long_of_four key a (b ∷ c ∷ e ∷ g ∷ []) h = refl
+  long_of_four key a (b ∷ c ∷ e ∷ g ∷ i ∷ ws) h = absurd (omega arith)
+
+  pub card_of_none : (ws : List X) → length ws < 1 → None ≡ card_of (map f ws)
+  card_of_none [] h = refl
+  card_of_none (w ∷ ws) h = absurd (omega arith)
+
+  pub card_of_one : (ws : List X) → 1 ≤ length ws → length ws < 2 → card_of (map f ws) ≡ (if bytes_eq (f (get_or ws 0 d)) (codes "ENDJOB") then Some End else None)
+  card_of_one [] h k = absurd (omega arith)
+  card_of_one (w ∷ []) h k = refl
+  card_of_one (w ∷ v ∷ ws) h k = absurd (omega arith)
+
+  pub card_of_two : (ws : List X) → 2 ≤ length ws → length ws < 3 → card_of (map f ws) ≡ short_card (f (get_or ws 0 d)) (f (get_or ws 1 d))
+  card_of_two [] h k = absurd (omega arith)
+  card_of_two (w ∷ []) h k = absurd (omega arith)
+  card_of_two (w ∷ v ∷ []) h k = refl
+  card_of_two (w ∷ v ∷ u ∷ ws) h k = absurd (omega arith)
+
+  pub card_of_more : (ws : List X) → 3 ≤ length ws → card_of (map f ws) ≡ (if bytes_eq (f (get_or ws 0 d)) (codes "SESSION") then session_card (f (get_or ws 1 d)) (map f (take (length ws - 2) (drop 2 ws)))
+      else long_card (f (get_or ws 0 d)) (f (get_or ws 1 d)) (map f (take (length ws - 2) (drop 2 ws))))
+  card_of_more [] h = absurd (omega arith)
+  card_of_more (w ∷ []) h = absurd (omega arith)
+  card_of_more (w ∷ v ∷ []) h = absurd (omega arith)
+  card_of_more (w ∷ v ∷ u ∷ ws) h =
+      let less : length (w ∷ v ∷ u ∷ ws) - 2 ≡ length (u ∷ ws) = omega arith in
+      let same : take (length (w ∷ v ∷ u ∷ ws) - 2) (drop 2 (w ∷ v ∷ u ∷ ws)) ≡ u ∷ ws = ap (λ n. take n (u ∷ ws)) less ∙ take-length (u ∷ ws) in
+      rw same refl

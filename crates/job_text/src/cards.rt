@@ -16,16 +16,16 @@ fn short_card(alloc: Global, key: &[u8], a: &[u8]) -> Result<Option<Card>, Alloc
     ensures { IfOk result (λ o. option_map view o ≡ spell.short_card key.now a.now) }
 {
     if is(key, b"TEXT") {
-        return Ok(bytes_of(alloc, a)?.map(|v| Card::Text(v)));
+        return Ok(bytes_of(alloc, a)?.map(Card::Text));
     }
     if is(key, b"LISTING") {
-        return Ok(number_of(a).map(|n| Card::Listing(n)));
+        return Ok(number_of(a).map(Card::Listing));
     }
     if is(key, b"PHASE") {
-        return Ok(Name::read(a).map(|n| Card::Phase(n)));
+        return Ok(Name::read(a).map(Card::Phase));
     }
     if is(key, b"INPUT") {
-        return Ok(bytes_of(alloc, a)?.map(|v| Card::Input(v)));
+        return Ok(bytes_of(alloc, a)?.map(Card::Input));
     }
     if is(key, b"COVERJOB") && is(a, b"1") {
         return Ok(Some(Card::Cover));
