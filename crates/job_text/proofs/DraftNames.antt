@@ -8,7 +8,6 @@ use Rattle.cov_base.specs.Meaning.{ImageView}
 use Rattle.names.specs.Lists.{index_of, has, added}
 use Rattle.names.proofs.Laws.{index_of-map, has-map, none_named, one_named}
 use Rattle.session_book.specs.Meaning.{TaskView, no_task}
-use Rattle.job_text.specs.Names as naming
 use Rattle.job_text.specs.Names.{task_names}
 use Rattle.job_text.specs.declared.job_names.JobNames.{JobNames}
 use Rattle.job_text.specs.Meaning.{SessionDraft, DraftView, controller_named, has_module, has_task}
@@ -38,24 +37,24 @@ one_more name xs x new = rw (has-map name xs (name x), new, map_push name xs x) 
 
 module _ (d : Inside) (h : HasNames d) where
   pub with_module_named : (i : ImageView) → has_module (draft_view d) i.name ≡ false →
-      naming.with_module d.names i.name ≡ names_in (record (draft_view d) { images = d.images.items ++ i ∷ [] })
-  with_module_named i new =
-      ap (λ (x : JobNames). naming.with_module x i.name) h ∙ ap (λ (ns : List (List ℕ)). record (names_in (draft_view d)) { modules = ns }) (one_more (λ (x : ImageView). x.name) d.images.items i new)
+      (ns : List (List ℕ)) → ns ≡ added d.names.modules i.name → record d.names { modules = ns } ≡ names_in (record (draft_view d) { images = d.images.items ++ i ∷ [] })
+  with_module_named i new ns e =
+      ap (λ (x : List (List ℕ)). record d.names { modules = x }) e ∙ (ap (λ (x : JobNames). record x { modules = added x.modules i.name }) h ∙ ap (λ (x : List (List ℕ)). record (names_in (draft_view d)) { modules = x }) (one_more (λ (x : ImageView). x.name) d.images.items i new))
 
   pub with_phase_named : (n : List ℕ) → has d.phases.items n ≡ false →
-      naming.with_phase d.names n ≡ names_in (record (draft_view d) { phases = d.phases.items ++ n ∷ [] })
-  with_phase_named n new =
-      ap (λ (x : JobNames). naming.with_phase x n) h ∙ ap (λ (ns : List (List ℕ)). record (names_in (draft_view d)) { phases = ns }) (rw new refl)
+      (ns : List (List ℕ)) → ns ≡ added d.names.phases n → record d.names { phases = ns } ≡ names_in (record (draft_view d) { phases = d.phases.items ++ n ∷ [] })
+  with_phase_named n new ns e =
+      ap (λ (x : List (List ℕ)). record d.names { phases = x }) e ∙ (ap (λ (x : JobNames). record x { phases = added x.phases n }) h ∙ ap (λ (x : List (List ℕ)). record (names_in (draft_view d)) { phases = x }) (rw new refl))
 
   pub with_session_named : (s : SessionDraft) → list_any (λ x. bytes_eq x.name s.name) d.sessions.items ≡ false →
-      naming.with_session d.names s.name ≡ names_in (record (draft_view d) { sessions = d.sessions.items ++ s ∷ [] })
-  with_session_named s new =
-      ap (λ (x : JobNames). naming.with_session x s.name) h ∙ ap (λ (ns : List (List ℕ)). record (names_in (draft_view d)) { sessions = ns }) (one_more (λ (x : SessionDraft). x.name) d.sessions.items s new)
+      (ns : List (List ℕ)) → ns ≡ added d.names.sessions s.name → record d.names { sessions = ns } ≡ names_in (record (draft_view d) { sessions = d.sessions.items ++ s ∷ [] })
+  with_session_named s new ns e =
+      ap (λ (x : List (List ℕ)). record d.names { sessions = x }) e ∙ (ap (λ (x : JobNames). record x { sessions = added x.sessions s.name }) h ∙ ap (λ (x : List (List ℕ)). record (names_in (draft_view d)) { sessions = x }) (one_more (λ (x : SessionDraft). x.name) d.sessions.items s new))
 
   pub with_task_named : (t : TaskView) → has_task (draft_view d) t.name ≡ false →
-      naming.with_task d.names t.name ≡ names_in (record (draft_view d) { tasks = d.tasks.items ++ t ∷ [] })
-  with_task_named t new =
-      ap (λ (x : JobNames). naming.with_task x t.name) h ∙ ap (λ (ns : List (List ℕ)). record (names_in (draft_view d)) { tasks = ns }) (one_more (λ (x : TaskView). x.name) d.tasks.items t new)
+      (ns : List (List ℕ)) → ns ≡ added d.names.tasks t.name → record d.names { tasks = ns } ≡ names_in (record (draft_view d) { tasks = d.tasks.items ++ t ∷ [] })
+  with_task_named t new ns e =
+      ap (λ (x : List (List ℕ)). record d.names { tasks = x }) e ∙ (ap (λ (x : JobNames). record x { tasks = added x.tasks t.name }) h ∙ ap (λ (x : List (List ℕ)). record (names_in (draft_view d)) { tasks = x }) (one_more (λ (x : TaskView). x.name) d.tasks.items t new))
 
 -- the task of a phase that a name finds among all tasks
 

@@ -3,7 +3,6 @@ ghost use Rattle.std.specs.Prelude.{◌≡◌, ◌+◌, ◌≤◌, ◌<◌, ◌&
 ghost use Rattle.std.specs.List.{list_any, list_all};
 ghost use Rattle.std.specs.Str.{bytes_eq};
 ghost use Rattle.cov_base.specs.declared.limits.TheConstants.{MODULE_LIMIT, PHASE_LIMIT};
-ghost use Rattle.job_text.specs.Names as naming;
 ghost use Rattle.job_text.specs.Meaning.{Present};
 ghost use Rattle.job_text.specs.Meaning as adding;
 ghost use Rattle.job_text.specs.Steps as machine;
@@ -12,7 +11,6 @@ ghost use Rattle.job_text.specs.declared.parts.Part.TheVariants as kind;
 
 use crate::binding::are_met;
 use crate::grammar::Grammar;
-use crate::job_names::JobNames;
 use crate::parts::{Draft, Part, SessionDraft};
 use crate::refused::LineRefused;
 use cov_base::{Name, NoMemory};
@@ -151,38 +149,6 @@ fn indices(
     Ok(Some(used))
 }
 
-fn add_module(names: &mut JobNames, name: Name) -> Result<(), NoMemory>
-    ensures names { IfOk result (λ _. names.new ≡ naming.with_module names.old name) }
-    ensures kept { IfErr result (λ _. names.new ≡ names.old) }
-{
-    names.modules.add(name)?;
-    Ok(())
-}
-
-fn add_phase(names: &mut JobNames, name: Name) -> Result<(), NoMemory>
-    ensures names { IfOk result (λ _. names.new ≡ naming.with_phase names.old name) }
-    ensures kept { IfErr result (λ _. names.new ≡ names.old) }
-{
-    names.phases.add(name)?;
-    Ok(())
-}
-
-fn add_session(names: &mut JobNames, name: Name) -> Result<(), NoMemory>
-    ensures names { IfOk result (λ _. names.new ≡ naming.with_session names.old name) }
-    ensures kept { IfErr result (λ _. names.new ≡ names.old) }
-{
-    names.sessions.add(name)?;
-    Ok(())
-}
-
-fn add_task(names: &mut JobNames, name: Name) -> Result<(), NoMemory>
-    ensures names { IfOk result (λ _. names.new ≡ naming.with_task names.old name) }
-    ensures kept { IfErr result (λ _. names.new ≡ names.old) }
-{
-    names.tasks.add(name)?;
-    Ok(())
-}
-
 fn put_module(
     job: &mut Draft,
     image: Image,
@@ -199,11 +165,13 @@ fn put_module(
     let count = job.images.len();
     job.listings.push(listing)?;
     job.images.push(image)?;
-    if add_module(&mut job.names, name).is_err() {
-        job.images.truncate(count);
-        return Err(LineRefused::NoMemory);
+    match job.names.modules.add(name) {
+        Ok(_) => Ok(()),
+        Err(_) => {
+            job.images.truncate(count);
+            Err(LineRefused::NoMemory)
+        }
     }
-    Ok(())
 }
 
 fn put_task(job: &mut Draft, mut task: TaskCard) -> Result<(), LineRefused>
@@ -217,11 +185,13 @@ fn put_task(job: &mut Draft, mut task: TaskCard) -> Result<(), LineRefused>
     let name = task.name;
     let count = job.tasks.len();
     job.tasks.push(task)?;
-    if add_task(&mut job.names, name).is_err() {
-        job.tasks.truncate(count);
-        return Err(LineRefused::NoMemory);
+    match job.names.tasks.add(name) {
+        Ok(_) => Ok(()),
+        Err(_) => {
+            job.tasks.truncate(count);
+            Err(LineRefused::NoMemory)
+        }
     }
-    Ok(())
 }
 
 fn are_below(services: &[Service], number: u8) -> bool
@@ -268,11 +238,13 @@ pub(crate) fn put_phase(job: &mut Draft, name: Name) -> Result<(), NoMemory>
 {
     let count = job.phases.len();
     job.phases.push(name)?;
-    if let Err(shortage) = add_phase(&mut job.names, name) {
-        job.phases.truncate(count);
-        return Err(shortage);
+    match job.names.phases.add(name) {
+        Ok(_) => Ok(()),
+        Err(shortage) => {
+            job.phases.truncate(count);
+            Err(shortage)
+        }
     }
-    Ok(())
 }
 
 /// Whether a session may have this controller.
@@ -295,11 +267,13 @@ fn put_session(job: &mut Draft, session: SessionDraft) -> Result<(), LineRefused
     let name = session.name;
     let count = job.sessions.len();
     job.sessions.push(session)?;
-    if add_session(&mut job.names, name).is_err() {
-        job.sessions.truncate(count);
-        return Err(LineRefused::NoMemory);
+    match job.names.sessions.add(name) {
+        Ok(_) => Ok(()),
+        Err(_) => {
+            job.sessions.truncate(count);
+            Err(LineRefused::NoMemory)
+        }
     }
-    Ok(())
 }
 
 /// Adds a session; bad where a session has the name, it may not have the controller, or a module isn't free.

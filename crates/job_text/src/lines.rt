@@ -11,11 +11,11 @@ pub struct FirstLine<'a> {
     pub rest: &'a [u8],
 }
 
-/// Where the first LF stands.
-pub(crate) fn first_end(text: &[u8]) -> Option<usize>
-    ensures { result ≡ position (λ b. nat_eq b 10) text.now }
+/// Where the byte first stands.
+pub(crate) fn first_of(byte: u8, text: &[u8]) -> Option<usize>
+    ensures { result ≡ position (λ b. nat_eq b byte) text.now }
 {
-    text.iter().position(|b| *b == b'\n')
+    text.iter().position(|b| *b == byte)
 }
 
 /// Takes the first line off a text that isn't empty. Each LF ends a line; what follows the last LF is a line where it
@@ -26,7 +26,7 @@ pub fn first_line(text: &[u8]) -> FirstLine<'_>
     ensures less { length result.rest.now < length text.now }
     ensures size { span (as_line result.bytes.now result.ended) + length result.rest.now ≡ length text.now }
 {
-    match first_end(text) {
+    match first_of(b'\n', text) {
         Some(at) => {
             let (bytes, more) = text.split_at(at);
             FirstLine {

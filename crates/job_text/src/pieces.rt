@@ -9,7 +9,7 @@ ghost use Rattle.job_text.specs.Steps.{is_done, step};
 ghost use Rattle.job_text.specs.Taken.{IsNext, IsFaultAt, HasRun, HasTaken, size_of};
 
 use crate::jobs::{JobFault, ReadJob};
-use crate::lines::first_end;
+use crate::lines::first_of;
 use crate::taken::Taken;
 use std::alloc::Global;
 
@@ -60,7 +60,7 @@ impl Pieces {
         ensures fault { (b : List ℕ) → HasTaken b self.old → IfErr result (IsTold self.old.taken.grammar (b ++ piece.now)) }
     {
         let mut used = 0;
-        while let Some(size) = first_end(&piece[used..]) {
+        while let Some(size) = first_of(b'\n', &piece[used..]) {
             self.ended_line(alloc, &piece[used..used + size])?;
             used += size + 1;
             if self.taken.reader.is_done() {

@@ -2,7 +2,8 @@
 ghost use Rattle.std.specs.Prelude.{◌≡◌};
 ghost use Rattle.job_text.specs.Meaning as spell;
 
-use crate::words::{first_blank, is};
+use crate::lines::first_of;
+use crate::words::is;
 use cov_base::{Name, TaskNo};
 use session_book::Job;
 
@@ -67,7 +68,7 @@ fn task_item(job: &Job, key: &[u8], name: &[u8]) -> Option<Item>
 pub fn item_of(job: &Job, line: &[u8]) -> Option<Item>
     ensures { result ≡ spell.item_at job.now line.now }
 {
-    match first_blank(line) {
+    match first_of(b' ', line) {
         None => {
             if is(line, b"ENDSCHED") {
                 Some(Item::End)

@@ -1,20 +1,15 @@
 //! The words of a card, and the numbers, bytes and addresses that they spell.
-ghost use Rattle.std.specs.Prelude.{◌≡◌, ◌+◌, ◌*◌, ◌<◌, map, IfOk, option_map, nat_eq, position};
+ghost use Rattle.std.specs.Prelude.{◌≡◌, ◌+◌, ◌*◌, ◌<◌, map, IfOk, option_map};
 ghost use Rattle.std.specs.Str.{bytes_eq};
 ghost use Rattle.std.specs.List.{list_all};
 ghost use Rattle.cov_base.specs.Meaning.{is_digit_byte};
 ghost use Rattle.cov_base.specs.Meaning as text;
 ghost use Rattle.job_text.specs.Meaning as spell;
 
+use crate::lines::first_of;
 use cov_base::{Addr, Name};
 use hex::{FromHex, FromHexError};
 use std::alloc::{AllocError, Global};
-
-pub(crate) fn first_blank(rest: &[u8]) -> Option<usize>
-    ensures { result ≡ position (λ b. nat_eq b 32) rest.now }
-{
-    rest.iter().position(|b| *b == b' ')
-}
 
 /// The parts of the card between its blanks.
 pub(crate) fn split(alloc: Global, line: &[u8]) -> Result<Vec<&[u8]>, AllocError>
@@ -22,7 +17,7 @@ pub(crate) fn split(alloc: Global, line: &[u8]) -> Result<Vec<&[u8]>, AllocError
 {
     let mut words = Vec::new(alloc);
     let mut rest = line;
-    while let Some(at) = first_blank(rest) {
+    while let Some(at) = first_of(b' ', rest) {
         let (word, more) = rest.split_at(at);
         words.push(word)?;
         rest = &more[1..];

@@ -1,14 +1,12 @@
-use Rattle.std.proofs.Common.{◌≡◌, ℕ, List, [], ◌∷◌, ◌++◌, false, ap, sym, ◌∙◌, subst, rules}
+use Rattle.std.proofs.Common.{◌≡◌, ℕ, List, [], ◌∷◌, ◌++◌, false, ap, sym, ◌∙◌, subst}
 use Rattle.names.specs.Lists.{has}
-use Rattle.job_text.specs.Names as naming
 use Rattle.job_text.specs.Meaning.{DraftView}
 use Rattle.job_text.specs.DraftInside.{names_in, draft_view}
 use Rattle.job_text.proofs.DraftNames.{with_phase_named}
 use Rattle.job_text.proofs.drafts.put_phase.Goals as goal
 
-pub invariant_of-job-in_default : goal.invariant_of-job-in_default
-invariant_of-job-in_default c =
+pub invariant_of-job-in-Ok : goal.invariant_of-job-in-Ok
+invariant_of-job-in-Ok c =
     let new : has c.job.inside.phases.items c.args.name ≡ false = subst (λ (j : DraftView). has j.phases c.args.name ≡ false) (sym c.job.view_is) c.requires.new in
-    let named : c.add_phase.new.names ≡ naming.with_phase c.job.inside.names c.args.name = search rules in
-    let items : c.push.new.self.items ≡ c.job.inside.phases.items ++ c.args.name ∷ [] = search rules in
-    named ∙ (with_phase_named c.job.inside c.job.invariant c.args.name new ∙ sym (ap (λ (ps : List (List ℕ)). names_in (record (draft_view c.job.inside) { phases = ps })) items))
+    let items : c.push.new.self.items ≡ c.job.inside.phases.items ++ c.args.name ∷ [] = c.in_ok-push.ensures.items in
+    with_phase_named c.job.inside c.job.invariant c.args.name new c.add.new.self c.in-Ok.ensures.names ∙ sym (ap (λ (ps : List (List ℕ)). names_in (record (draft_view c.job.inside) { phases = ps })) items)
