@@ -1,5 +1,5 @@
 -- The first word of a line, and the others.
-use Rattle.std.proofs.Common.{◌≡◌, ℕ, ◌+◌, ◌<◌, ◌≤◌, Bool, true, false, not, cond, if◌then◌else◌, Option, nat_eq, nat_lt, Some, None, List, [], ◌∷◌, length, take, drop, get_or, arith, suc, zero, refl, map, ◌++◌, ◌-◌, append_assoc, sym, ap, ◌∙◌}
+use Rattle.std.proofs.Common.{◌≡◌, ℕ, ◌+◌, ◌<◌, ◌≤◌, Bool, true, false, not, cond, if◌then◌else◌, Option, nat_eq, nat_lt, Some, None, List, [], ◌∷◌, length, take, drop, get_or, arith, suc, zero, refl, map, ◌++◌, ◌-◌, append_assoc, sym, ap, ◌∙◌, drop-cons, add-one}
 use Rattle.std.proofs.lemmas.List.{map-append}
 use Rattle.std.proofs.Math.Seq.{take-length}
 use Rattle.std.proofs.lemmas.Bool.Decides.{nat_tests}
@@ -8,7 +8,7 @@ use Rattle.std.proofs.lemmas.Option.{cond_some}
 use Rattle.cov_base.specs.Meaning.{words, name_at}
 use Rattle.std.specs.Prelude.{codes}
 use Rattle.std.specs.Str.{bytes_eq}
-use Rattle.job_text.specs.Meaning.{CardView, End, names_at, names_on, as_session, as_controlled, controlled_card, session_card, short_card, pair_card, module_card, task_card, long_card, card_of}
+use Rattle.job_text.specs.Meaning.{CardView, End, names_at, names_on, put_name, as_session, as_controlled, controlled_card, session_card, short_card, pair_card, module_card, task_card, long_card, card_of}
 
 abbrev pub end_of : List ℕ → ℕ
 end_of s = position_or_len (λ b. nat_eq b 32) s
@@ -93,6 +93,17 @@ controlled_parted f name (t ∷ []) d h = absurd (omega arith)
 controlled_parted f name (t ∷ m ∷ more) d h =
     let less : length (t ∷ m ∷ more) - 1 ≡ length (m ∷ more) = omega arith in
     rw (less, take-length more) refl
+
+-- one name more, or a word that is none
+module _ {X : Type 0} (f : X → List ℕ) (d : X) (ws : List X) (i : ℕ) (ns : List (List ℕ)) (all : Option (List (List ℕ))) where
+  names_step : i < length ws → names_on (Some ns) (map f (drop i ws)) ≡ names_on (put_name ns (name_at (f (get_or ws i d)))) (map f (drop (i + 1) ws))
+  names_step h = rw (drop-cons ws i d, add-one) refl
+
+  pub names_stop : i < length ws → name_at (f (get_or ws i d)) ≡ None → names_on (Some ns) (map f (drop i ws)) ≡ all → None ≡ all
+  names_stop h e was = sym (names_none (map f (drop (i + 1) ws))) ∙ (rw (names_step h, e) at was)
+
+  pub names_more : (new : List (List ℕ)) (n : List ℕ) → i < length ws → name_at (f (get_or ws i d)) ≡ Some n → new ≡ ns ++ n ∷ [] → names_on (Some ns) (map f (drop i ws)) ≡ all → names_on (Some new) (map f (drop (i + 1) ws)) ≡ all
+  names_more new n h e is was = rw is (rw (names_step h, e) at was)
 
 -- the card of words that stand in a slice, by how many they are
 
