@@ -19,8 +19,8 @@ use Rattle.job_answers.specs.Calls.{AtLine, IsChecked, IsReplayed, ToEnd}
 use Rattle.refusals.specs.Told.{IsTold, Told, Wanting}
 use Rattle.job_answers.specs.Answers.{IsStopped, NotWhole, NoJob}
 use Rattle.coverage_commands.specs.Changes.{no_change}
-use Rattle.command_words.specs.declared.words.Command.{Command}
-use Rattle.command_words.specs.declared.words.Command.TheVariants.{Run, Exits, Early, Count, Marks, Trial, Table, Ends, Replay, Combine, Show, Prove, Verify, Unknown}
+use Rattle.job_input.specs.declared.words.Command.{Command}
+use Rattle.job_input.specs.declared.words.Command.TheVariants.{Run, Exits, Early, Count, Marks, Trial, Table, Ends, Replay, Combine, Show, Prove, Verify, Unknown}
 use Rattle.schedule_play.specs.Meaning.{Play}
 use Rattle.task_run.specs.Meaning.{Course}
 use Rattle.job_run.specs.Meaning.{Account}

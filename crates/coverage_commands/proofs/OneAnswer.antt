@@ -8,8 +8,8 @@ use Rattle.job_answers.specs.declared.asked.Wanted.{Wanted}
 use Rattle.refusals.specs.Meaning.{RefusalView, refusal}
 use Rattle.job_answers.proofs.Laws.{not_both, ready_or_refused, one_refusal, one_marks, one_united, one_shown, one_verdict, one_played}
 use Rattle.coverage_commands.proofs.ReadyLemmas.{one_ready, one_rest, one_number}
-use Rattle.command_words.specs.declared.words.Command.{Command}
-use Rattle.command_words.specs.declared.words.Command.TheVariants.{Run, Exits, Early, Count, Marks, Trial, Table, Ends, Replay, Combine, Show, Prove, Verify, Unknown}
+use Rattle.job_input.specs.declared.words.Command.{Command}
+use Rattle.job_input.specs.declared.words.Command.TheVariants.{Run, Exits, Early, Count, Marks, Trial, Table, Ends, Replay, Combine, Show, Prove, Verify, Unknown}
 
 abbrev asked_name : List ℕ → Bool → Wanted
 asked_name name whole = record { name = name; whole = whole }

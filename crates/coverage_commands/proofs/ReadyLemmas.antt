@@ -1,15 +1,14 @@
 -- Jobs that are ready for a command: of the same bytes they are one.
 use Rattle.std.proofs.Common.{◌≡◌, ℕ, true, Some, List, drop, sym, ◌∙◌, ap, subst}
-use Rattle.job_input.proofs.Laws.{one_bytes, one_job}
-use Rattle.job_tables.specs.Meaning.{Match}
-use Rattle.job_tables.proofs.Laws.{one_places, one_tables}
+use Rattle.job_input.proofs.Laws.{one_bytes, one_job, one_places, one_tables}
+use Rattle.job_input.specs.Meaning.{Match}
 use Rattle.job_text.specs.Meaning.{lines_of}
 use Rattle.session_book.specs.Meaning.{JobView}
 use Rattle.job_answers.specs.Meaning.{ReadyView, session_number}
 use Rattle.coverage_commands.specs.Meaning.{IsReady, way_of}
 use Rattle.job_answers.specs.declared.asked.Wanted.{Wanted}
 use Rattle.job_answers.specs.declared.asked.Asked.TheVariants.{WithSession}
-use Rattle.command_words.specs.declared.words.Command.{Command}
+use Rattle.job_input.specs.declared.words.Command.{Command}
 use Rattle.job_answers.proofs.Laws.{IsSame}
 
 pub one_ready : (c : Command) (b : List ℕ) (r o : ReadyView) → IsReady c b r → IsReady c b o → IsSame r o

@@ -15,8 +15,8 @@ use Rattle.job_answers.specs.Meaning.{ReadyView, IsVerdict, OfFile}
 use Rattle.coverage_commands.specs.Meaning.{IsReady, IsAnswerOf, IsAnswer, Refused, OfFiles, OfJob, IsRunText, ComesReady, Read, Made, IsCause, Usage, Unread, Came, Finished, NoMemoryToRun, NoMemoryToMake, HoldsTrue, HasStatus, ToUsage, ToLarge, ToMatched, ToAnswer, IsComplete, IsUntouched, IsServed, Answers, way_of}
 use Rattle.refusals.specs.Meaning.{SinkChange, refusal, read_refusal, verified_line}
 use Rattle.run_reports.specs.Meaning.{AreasChange}
-use Rattle.command_words.specs.declared.words.Command.{Command}
-use Rattle.command_words.specs.declared.words.Command.TheVariants.{Run, Exits, Early, Count, Marks, Trial, Table, Ends, Replay, Combine, Show, Prove, Verify, Unknown}
+use Rattle.job_input.specs.declared.words.Command.{Command}
+use Rattle.job_input.specs.declared.words.Command.TheVariants.{Run, Exits, Early, Count, Marks, Trial, Table, Ends, Replay, Combine, Show, Prove, Verify, Unknown}
 use Rattle.job_answers.proofs.Laws.{judged_verified, own_of, not_both, ready_or_refused, status_is}
 use Rattle.coverage_commands.proofs.OneAnswer.{one_status}
 

@@ -14,10 +14,9 @@ use Rattle.refusals.specs.Meaning.{IsWritten, SinkChange, no_memory_line}
 use Rattle.run_reports.specs.Meaning.{AreasChange, Reports}
 use Rattle.coverage_commands.specs.Changes.{no_change}
 use Rattle.job_run.specs.Meaning.{Account}
-use Rattle.job_input.specs.Meaning.{SourceChange}
-use Rattle.job_tables.specs.Meaning.{job_fault, Match}
-use Rattle.job_tables.proofs.Laws.{no_listing_fault}
-use Rattle.command_words.specs.declared.words.Command.TheVariants.{Trial}
+use Rattle.job_input.specs.Meaning.{SourceChange, job_fault, Match}
+use Rattle.job_input.proofs.Laws.{no_listing_fault}
+use Rattle.job_input.specs.declared.words.Command.TheVariants.{Trial}
 use Rattle.task_run.specs.Meaning.{solo}
 use Rattle.refusals.specs.Told.{IsTold, Told, Wanting}
 

@@ -9,7 +9,7 @@ use Rattle.job_input.specs.Inputs.{IsInput}
 use Rattle.job_run.specs.Meaning.{Account}
 use Rattle.refusals.specs.Meaning.{sink_change}
 use Rattle.session_book.specs.Meaning.{JobView}
-use Rattle.command_words.specs.declared.words.Command.{Command}
+use Rattle.job_input.specs.declared.words.Command.{Command}
 use Rattle.coverage_commands.specs.Meaning.{Answers, Counts, IsServed, IsUnread, asked, way_of}
 use Rattle.run_reports.specs.Meaning.{areas_change}
 use Rattle.coverage_commands.specs.Changes.{no_change}

@@ -3,7 +3,7 @@ use Rattle.refusals.specs.Meaning.{SinkChange, sink_change, IsWritten, usage_lin
 use Rattle.job_answers.specs.Meaning.{session_number, asks_session, HasAsked, ReadyView, IsRefused, IsUnited, IsShown, IsVerdict, HasVerified, IsPlayed}
 use Rattle.run_reports.specs.Meaning.{AreasChange, areas_change, Reports, IsEarlyReport, IsMarksText}
 use Rattle.std.specs.Prelude.{ℕ, List, Bool, true, false, Some, None, ◌≡◌, ◌≤◌, length, drop, ◌≢◌, ◌<◌, ◌⊎◌, String, map, string_bytes}
-use Rattle.command_words.specs.Meaning.{command_of}
+use Rattle.job_input.specs.Meaning.{command_of, SourceChange, CameWhole, HasJob, to_end, to_go_on, input_limit, IsReadFault, source_change, Match, job_fault}
 use Rattle.cov_outside.specs.declared.streams.Sink as sink
 use Rattle.cov_outside.specs.declared.streams.Source as source
 use Rattle.module_area.specs.declared.areas.Areas as areas
@@ -13,17 +13,14 @@ use Rattle.job_answers.specs.declared.asked.Wanted.{Wanted}
 use Rattle.job_answers.specs.declared.asked.Asked.{Asked}
 use Rattle.job_answers.specs.declared.asked.Asked.TheVariants.{AnyJob, WithSession, AllWhole}
 use Rattle.refusals.specs.declared.status.Status.{Status}
-use Rattle.command_words.specs.declared.words.Command.{Command}
-use Rattle.command_words.specs.declared.words.Command.TheVariants.{Run, Exits, Early, Count, Marks, Trial, Table, Ends, Replay, Combine, Show, Prove, Verify, Unknown}
+use Rattle.job_input.specs.declared.words.Command.{Command}
+use Rattle.job_input.specs.declared.words.Command.TheVariants.{Run, Exits, Early, Count, Marks, Trial, Table, Ends, Replay, Combine, Show, Prove, Verify, Unknown}
 use Rattle.report_text.specs.Meaning.{report_of, count_text, trial_text, table_text}
-use Rattle.check_exits.specs.Meaning.{with_exits}
+use Rattle.task_services.specs.Meaning.{with_exits, course_of}
 use Rattle.task_run.specs.Meaning.{solo}
-use Rattle.task_services.specs.Meaning.{course_of}
 use Rattle.session_book.specs.Meaning.{JobView, ResultView}
 use Rattle.brk_table.specs.Meaning.{TablesView}
-use Rattle.job_input.specs.Meaning.{SourceChange, CameWhole, HasJob, to_end, to_go_on, input_limit, IsReadFault, source_change}
 use Rattle.job_input.specs.declared.form.Form.{Form}
-use Rattle.job_tables.specs.Meaning.{Match, job_fault}
 use Rattle.job_text.specs.Meaning.{lines_of}
 use Rattle.job_text.specs.declared.grammar.Grammar.{Grammar}
 use Rattle.job_text.specs.declared.grammar.Grammar.TheVariants.{Plain}

@@ -1,7 +1,7 @@
 -- Which commands run threads.
 use Rattle.std.specs.Prelude.{Bool, true, false, if◌then◌else◌}
-use Rattle.command_words.specs.declared.words.Command.{Command}
-use Rattle.command_words.specs.declared.words.Command.TheVariants.{Run, Exits, Early, Count, Marks, Trial, Unknown}
+use Rattle.job_input.specs.declared.words.Command.{Command}
+use Rattle.job_input.specs.declared.words.Command.TheVariants.{Run, Exits, Early, Count, Marks, Trial, Unknown}
 
 abbrev pub runs_threads : Command → Bool
 runs_threads (Run g) = true

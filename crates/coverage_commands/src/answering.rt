@@ -1,6 +1,6 @@
 //! The program over any source, sink and areas.
 ghost use Rattle.std.specs.Prelude.{◌≡◌, ◌<◌, ◌^◌, false, true};
-ghost use Rattle.command_words.specs.Words.{HasFewTasks};
+ghost use Rattle.job_input.specs.Words.{HasFewTasks};
 ghost use Rattle.coverage_commands.specs.Words.{runs_threads, without_threads};
 ghost use Rattle.coverage_commands.specs.Meaning.{Serves, way_of};
 ghost use Rattle.coverage_commands.specs.Calls.{Answered, AnsweredAlone, AnsweredJob, AnsweredJobAlone, ServedAlone};
@@ -10,12 +10,11 @@ use crate::combining::answer_combine;
 use crate::counting::write_counts;
 use crate::trial::answer_trial;
 use crate::ways::{asked_of, form_of};
-use check_exits::ExitRunner;
-use command_words::{Command, command_of};
 use cov_outside::{Gate, Sink, Source};
 use job_answers::{
     Ready, make_ready, write_evidence, write_job_ends, write_schedule, write_shown, write_verdict,
 };
+use job_input::{Command, command_of};
 use module_area::Areas;
 use refusals::{Status, USAGE, status_of, told};
 use report_text::table;
@@ -23,7 +22,7 @@ use run_reports::{write_drained, write_marks, write_report};
 use std::alloc::Global;
 use std::sync::Wait;
 use std::thread::Threads;
-use task_services::JobRunner;
+use task_services::{ExitRunner, JobRunner};
 
 /// Answers a command whose tasks run on threads, of a job that is ready for it.
 fn answer_tasks<T: Threads + Wait + Sync, K: Sink, A: Areas, G: Gate + Sync>(

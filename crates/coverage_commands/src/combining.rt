@@ -1,10 +1,9 @@
 //! The union of marks files.
 ghost use Rattle.coverage_commands.specs.Calls.{AnsweredAlone};
 
-use command_words::Command;
 use cov_outside::{Sink, Source};
 use job_answers::write_union;
-use job_input::read_input;
+use job_input::{Command, read_input};
 use refusals::{Status, read_refusal, told};
 use std::alloc::Global;
 

@@ -1,6 +1,6 @@
 //! The counts of a job's sessions.
 ghost use Rattle.std.specs.Prelude.{◌≡◌, None};
-ghost use Rattle.job_tables.specs.Tables.{IsReadyJob};
+ghost use Rattle.job_input.specs.Tables.{IsReadyJob};
 ghost use Rattle.job_answers.specs.Meaning.{first_controlled};
 ghost use Rattle.coverage_commands.specs.Calls.{IsCount};
 ghost use Rattle.refusals.specs.Told.{Tells};

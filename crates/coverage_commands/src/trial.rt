@@ -1,16 +1,15 @@
 //! The run of a generated job.
 ghost use Rattle.std.specs.Prelude.{◌≡◌, ◌<◌, ◌≤◌, ◌^◌, None, IfOk};
-ghost use Rattle.job_tables.specs.Meaning.{job_fault};
-ghost use Rattle.job_tables.specs.Tables.{IsReadyJob};
+ghost use Rattle.job_input.specs.Meaning.{job_fault};
+ghost use Rattle.job_input.specs.Tables.{IsReadyJob};
 ghost use Rattle.report_text.specs.Conditions.{HasFewLines};
 ghost use Rattle.coverage_commands.specs.Calls.{AnsweredUnread};
 
 use brk_table::Tables;
-use command_words::Command;
 use cov_base::NoMemory;
 use cov_outside::{Gate, Sink};
 use job_gen::trial;
-use job_tables::{TablesFault, tables_of};
+use job_input::{Command, TablesFault, tables_of};
 use module_area::Areas;
 use refusals::{NO_MEMORY, Status, status_of, told};
 use run_reports::write_trial;

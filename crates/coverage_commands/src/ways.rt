@@ -2,9 +2,8 @@
 ghost use Rattle.std.specs.Prelude.{◌≡◌};
 ghost use Rattle.coverage_commands.specs.Meaning.{way_of};
 
-use command_words::Command;
 use job_answers::{Asked, Wanted};
-use job_input::Form;
+use job_input::{Command, Form};
 use job_text::Grammar;
 
 /// The form of its input, where that has a job.

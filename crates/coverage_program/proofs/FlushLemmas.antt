@@ -3,7 +3,7 @@ use Rattle.std.proofs.Common.{inl, inr, ◌≡◌, ℕ, Option, Some, None, List
 use Rattle.std.specs.Io.KnownBytes.{Appends, Keeps}
 use Rattle.std.proofs.Math.Seq.{take-length}
 use Rattle.cov_outside.specs.Meaning.{raised}
-use Rattle.command_words.specs.declared.words.Command.{Command}
+use Rattle.job_input.specs.declared.words.Command.{Command}
 use Rattle.job_input.specs.Meaning.{SourceChange}
 use Rattle.run_reports.specs.Meaning.{AreasChange}
 use Rattle.coverage_commands.specs.Meaning.{IsServed}

@@ -9,8 +9,7 @@ use Rattle.module_area.specs.Rule.{IsPlan, AreApart}
 use Rattle.module_area.specs.Control.{after_closes, after_call}
 use Rattle.module_area.specs.Notes.{Notes, after_boundary, is_closed}
 use Rattle.module_area.specs.Tied.{IsTied}
-use Rattle.module_area.proofs.Laws.{and_left, and_right, and_both, or_left, or_right}
-use Rattle.planter.proofs.Laws.{has_here}
+use Rattle.module_area.proofs.Laws.{and_left, and_right, and_both, or_left, or_right, has_here}
 use Rattle.task_run.specs.Answered.{Turns}
 use Rattle.task_run.specs.Meaning.{is_opened}
 use Rattle.task_run.proofs.Laws.{step_known, step_over}

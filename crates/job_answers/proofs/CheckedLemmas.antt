@@ -6,12 +6,11 @@ use Rattle.evidence_check.specs.Meaning.{facts_of_modules, evidence_claims, firs
 use Rattle.evidence_check.specs.Verified.{Passes, IsVerifyFault}
 use Rattle.evidence_check.specs.declared.verifying.VerifyFault.{VerifyFault}
 use Rattle.evidence_check.specs.declared.verifying.VerifyFault.TheVariants as fault
-use Rattle.marks_file.specs.Meaning.{MarkedView, MarksView, keeps_rules, HasFile, rows, first_bad}
+use Rattle.marks_file.specs.Meaning.{MarkedView, MarksView, keeps_rules, HasFile, rows, first_bad, Difference, first_difference}
 use Rattle.session_book.specs.Meaning.{JobView}
 use Rattle.session_marks.specs.FromFile.{IsOwn}
 use Rattle.session_marks.specs.Meaning.{session_rows}
 use Rattle.session_marks.proofs.Laws.{own_same}
-use Rattle.table_combine.specs.Meaning.{Difference, first_difference}
 use Rattle.refusals.specs.Meaning.{IsWritten, SinkChange, RefusalView, refusal, bad_marks_line, other_table_line, bad_evidence_line, refuted_line, verified_line}
 use Rattle.job_answers.specs.Meaning.{judged, judged_by, NoStart, OfFile, HasVerified}
 use Rattle.job_answers.specs.Calls.{IsChecked}

@@ -1,13 +1,12 @@
 -- What the program answers of marks files, cause by cause.
 use Rattle.std.proofs.Common.{◌≡◌, ℕ, ◌<◌, ◌≤◌, true, List, length, refl, sym, ◌∙◌, ap, subst, arith}
 use Rattle.std.proofs.lemmas.List.{take_all}
-use Rattle.marks_file.specs.Meaning.{MarksView, keeps_rules, file_bytes, HasFile}
+use Rattle.marks_file.specs.Meaning.{MarksView, keeps_rules, file_bytes, HasFile, IsCombined}
 use Rattle.marks_file.specs.declared.version.Version.TheVariants.{Second}
-use Rattle.table_combine.specs.Meaning.{IsCombined}
-use Rattle.table_combine.specs.Combine.{difference_of}
-use Rattle.table_combine.specs.Files.{IsCombineFault}
-use Rattle.table_combine.specs.declared.files.CombineFault.{CombineFault}
-use Rattle.table_combine.specs.declared.files.CombineFault.TheVariants as fault
+use Rattle.marks_file.specs.Combine.{difference_of}
+use Rattle.marks_file.specs.Files.{IsCombineFault}
+use Rattle.marks_file.specs.declared.files.CombineFault.{CombineFault}
+use Rattle.marks_file.specs.declared.files.CombineFault.TheVariants as fault
 use Rattle.job_answers.specs.Meaning.{ReadyView, BeginsWith, IsUnited, United, BadFile, OtherFile, IsNoFile, Past, IsShown, Fileless, OtherShown}
 use Rattle.refusals.specs.Meaning.{IsWritten, SinkChange, RefusalView, refusal, no_memory_line, bad_marks_line, other_table_line}
 use Rattle.refusals.specs.Told.{IsTold, Told}

@@ -6,15 +6,13 @@ use Rattle.brk_table.specs.Meaning.{TablesView, first_place}
 use Rattle.evidence_check.specs.Meaning.{facts_of_modules, places_claims, modules_claims, past_places, evidence_claims, first_refuted, evidence_fields, session_first}
 use Rattle.evidence_check.specs.declared.firsts.First.{First}
 use Rattle.job_text.specs.Meaning.{lines_of}
-use Rattle.marks_file.specs.Meaning.{MarkedView, MarksView, rows, first_bad, file_fields}
-use Rattle.marks_file.proofs.Laws.{marks_found, one_end, file_found}
+use Rattle.marks_file.specs.Meaning.{MarkedView, MarksView, rows, first_bad, file_fields, Difference, first_difference}
+use Rattle.marks_file.proofs.Laws.{marks_found, one_end, file_found, one_answer}
 use Rattle.module_area.specs.declared.places.Place.{Place}
 use Rattle.schedule_play.specs.Meaning.{Play, Bad, Whole, play_of}
 use Rattle.session_book.specs.Meaning.{JobView, session_of}
 use Rattle.session_marks.specs.Meaning.{session_marks, session_rows}
 use Rattle.session_marks.proofs.Laws.{own_same}
-use Rattle.table_combine.specs.Meaning.{Difference, first_difference}
-use Rattle.table_combine.proofs.Laws.{one_answer}
 use Rattle.job_answers.specs.Meaning.{ReadyView, BeginsWith, IsNoFile, BadField, Past, IsUnited, United, BadFile, OtherFile, IsShown, Shown, Fileless, OtherShown, judged, judged_by, IsVerdict, NoStart, OfFile, IsPlayed}
 use Rattle.refusals.specs.Meaning.{RefusalView, refusal, bad_marks_line}
 use Rattle.job_answers.proofs.ReadyLemmas.{IsSame}

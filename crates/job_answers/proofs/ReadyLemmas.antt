@@ -8,11 +8,10 @@ use Rattle.listing_reader.specs.declared.lines.ListFault.{ListFault}
 use Rattle.listing_reader.specs.declared.lines.ListFault.TheVariants as list
 use Rattle.cov_outside.specs.declared.whole.ReadFault.{ReadFault}
 use Rattle.cov_outside.specs.declared.whole.ReadFault.TheVariants as read
-use Rattle.job_input.specs.Meaning.{HasJob, IsJobFault}
+use Rattle.job_input.specs.Meaning.{HasJob, IsJobFault, job_fault}
 use Rattle.job_input.proofs.Laws.{one_job}
-use Rattle.job_tables.specs.Meaning.{job_fault}
-use Rattle.job_tables.specs.declared.faults.TablesFault.{TablesFault}
-use Rattle.job_tables.specs.declared.faults.TablesFault.TheVariants as first
+use Rattle.job_input.specs.declared.table_faults.TablesFault.{TablesFault}
+use Rattle.job_input.specs.declared.table_faults.TablesFault.TheVariants as first
 use Rattle.job_text.specs.Meaning.{lines_of}
 use Rattle.job_text.specs.declared.jobs.JobFault.{JobFault}
 use Rattle.job_text.specs.declared.jobs.JobFault.TheVariants as fault

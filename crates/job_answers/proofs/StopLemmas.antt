@@ -2,14 +2,13 @@
 use Rattle.std.proofs.Common.{inl, inr, ◌≡◌, ℕ, Bool, true, not, is_some, if◌then◌else◌, Some, None, refl, ◌∙◌, ap}
 use Rattle.cov_outside.specs.declared.whole.ReadFault.TheVariants as read
 use Rattle.session_book.specs.Meaning.{JobView, session_of}
-use Rattle.job_input.specs.Meaning.{SourceChange}
+use Rattle.job_input.specs.Meaning.{SourceChange, job_fault}
 use Rattle.job_input.specs.Inputs.{IsInputFault, CameJobless}
 use Rattle.job_input.specs.declared.form.Form.{Form}
 use Rattle.job_input.specs.declared.faults.InputFault.{InputFault}
 use Rattle.job_input.specs.declared.faults.InputFault.TheVariants.{Source, Job}
-use Rattle.job_tables.specs.Meaning.{job_fault}
-use Rattle.job_tables.specs.Faults.{IsFaultOf}
-use Rattle.job_tables.specs.declared.faults.TablesFault.{TablesFault}
+use Rattle.job_input.specs.Faults.{IsFaultOf}
+use Rattle.job_input.specs.declared.table_faults.TablesFault.{TablesFault}
 use Rattle.job_text.specs.declared.jobs.JobFault.{JobFault}
 use Rattle.job_text.specs.declared.jobs.JobFault.TheVariants as fault
 use Rattle.job_answers.specs.Meaning.{Jobless, BadListing, Controlled, if_controlled, controlled_asked, HasAsked, session_number}

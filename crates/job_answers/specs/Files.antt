@@ -2,13 +2,12 @@
 use Rattle.std.specs.Prelude.{◌≡◌, ℕ, Some, List, length}
 use Rattle.brk_table.specs.Meaning.{TablesView}
 use Rattle.cov_base.specs.Meaning.{FactSet}
-use Rattle.marks_file.specs.Meaning.{MarkedView, rows}
+use Rattle.marks_file.specs.Meaning.{MarkedView, rows, Difference, first_difference}
 use Rattle.session_book.specs.Meaning.{JobView}
 use Rattle.session_marks.specs.Meaning.{session_marks, session_rows}
-use Rattle.table_combine.specs.Meaning.{Difference, first_difference}
-use Rattle.table_combine.specs.Combine.{difference_of}
-use Rattle.table_combine.specs.declared.files.CombineFault.{CombineFault}
-use Rattle.table_combine.specs.declared.files.CombineFault.TheVariants as fault
+use Rattle.marks_file.specs.Combine.{difference_of}
+use Rattle.marks_file.specs.declared.files.CombineFault.{CombineFault}
+use Rattle.marks_file.specs.declared.files.CombineFault.TheVariants as fault
 use Rattle.job_answers.specs.Meaning.{BeginsWith, IsNoFile}
 use Rattle.refusals.specs.Meaning.{RefusalView, refusal, no_memory_line, bad_marks_line, other_table_line}
 

@@ -7,18 +7,16 @@ use Rattle.job_answers.specs.declared.asked.Wanted.{Wanted}
 use Rattle.job_answers.specs.declared.asked.Asked.{Asked}
 use Rattle.job_answers.specs.declared.asked.Asked.TheVariants.{AnyJob, WithSession, AllWhole}
 use Rattle.report_text.specs.Meaning.{text_of, session_part}
-use Rattle.table_combine.specs.Meaning.{Difference, first_difference, IsCombined, IsBad, IsOtherTable}
+use Rattle.marks_file.specs.Meaning.{Difference, first_difference, IsCombined, IsBad, IsOtherTable, MarkedView, MarksView, keeps_rules, HasFile, rows, file_bytes, first_bad, file_fields}
 use Rattle.session_book.specs.Meaning.{JobView, SessionView, session_of, is_whole}
 use Rattle.brk_table.specs.Meaning.{TablesView}
-use Rattle.job_input.specs.Meaning.{HasJob, IsJobFault}
+use Rattle.job_input.specs.Meaning.{HasJob, IsJobFault, job_fault}
 use Rattle.job_input.specs.declared.form.Form.{Form}
-use Rattle.job_tables.specs.Meaning.{job_fault}
 use Rattle.job_text.specs.Meaning.{lines_of}
 use Rattle.evidence_check.specs.Meaning.{facts_of_modules, evidence_claims, first_refuted, evidence_fields, IsVerified}
-use Rattle.marks_file.specs.Meaning.{MarkedView, MarksView, keeps_rules, HasFile, rows, file_bytes, first_bad, file_fields}
 use Rattle.session_marks.specs.Meaning.{session_rows, session_marks}
 use Rattle.marks_file.specs.declared.version.Version.TheVariants.{Second}
-use Rattle.job_tables.specs.declared.faults.TablesFault.{TablesFault}
+use Rattle.job_input.specs.declared.table_faults.TablesFault.{TablesFault}
 use Rattle.job_text.specs.declared.jobs.JobFault.{JobFault}
 use Rattle.job_text.specs.declared.jobs.JobFault.TheVariants as fault
 use Rattle.schedule_play.specs.Meaning.{Play, Bad, Whole, replay_text}

@@ -3,7 +3,7 @@ use Rattle.std.specs.Prelude.{◌+◌, ◌≤◌, length}
 use Rattle.job_input.specs.Meaning.{SourceChange, input_limit}
 use Rattle.job_input.specs.Inputs.{IsInput}
 use Rattle.job_input.specs.declared.form.Form.{Form}
-use Rattle.job_tables.specs.Tables.{IsReadyJob}
+use Rattle.job_input.specs.Tables.{IsReadyJob}
 use Rattle.job_answers.specs.Asked.{HasSession}
 use Rattle.job_answers.specs.Meaning.{HasAsked, ReadyView}
 use Rattle.job_answers.specs.declared.asked.Asked.{Asked}

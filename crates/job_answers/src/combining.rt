@@ -5,12 +5,11 @@ ghost use Rattle.job_answers.specs.Meaning.{IsUnited};
 ghost use Rattle.refusals.specs.Told.{Tells};
 
 use cov_outside::Sink;
-use marks_file::write;
+use marks_file::{CombineFault, combine_files, write};
 use refusals::{
     NO_MEMORY, Refusal, Status, bad_marks, other_table, plain_refusal, status_of, told,
 };
 use std::alloc::Global;
-use table_combine::{CombineFault, combine_files};
 
 /// Why files are not united.
 fn combine_refusal(fault: CombineFault) -> Refusal

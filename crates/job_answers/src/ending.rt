@@ -1,5 +1,5 @@
 //! Where the tasks of a job end.
-ghost use Rattle.job_tables.specs.Tables.{IsReadyJob};
+ghost use Rattle.job_input.specs.Tables.{IsReadyJob};
 ghost use Rattle.job_answers.specs.Calls.{IsEnds};
 ghost use Rattle.refusals.specs.Told.{Tells};
 

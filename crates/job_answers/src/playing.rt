@@ -1,6 +1,6 @@
 //! A schedule of a job's events.
 ghost use Rattle.std.specs.Prelude.{◌+◌, ◌<◌, ◌^◌, length};
-ghost use Rattle.job_tables.specs.Tables.{IsReadyJob};
+ghost use Rattle.job_input.specs.Tables.{IsReadyJob};
 ghost use Rattle.job_answers.specs.Calls.{IsReplayed};
 ghost use Rattle.refusals.specs.Told.{Tells};
 

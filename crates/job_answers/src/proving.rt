@@ -1,7 +1,7 @@
 //! The evidence of a session's facts.
 ghost use Rattle.std.specs.Prelude.{◌≡◌, ◌<◌, ◌≤◌, None, length};
 ghost use Rattle.evidence_check.specs.Meaning.{evidence};
-ghost use Rattle.job_tables.specs.Tables.{IsReadyJob};
+ghost use Rattle.job_input.specs.Tables.{IsReadyJob};
 ghost use Rattle.session_book.specs.Meaning.{session_of};
 ghost use Rattle.refusals.specs.Told.{IsText, Tells};
 

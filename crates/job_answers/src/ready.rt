@@ -2,7 +2,7 @@
 ghost use Rattle.std.specs.Prelude.{IfOk, IfErr};
 ghost use Rattle.job_input.specs.Meaning.{source_change};
 ghost use Rattle.job_input.specs.Inputs.{IsInput};
-ghost use Rattle.job_tables.specs.Tables.{IsReadyJob};
+ghost use Rattle.job_input.specs.Tables.{IsReadyJob};
 ghost use Rattle.report_text.specs.Conditions.{HasFewLines};
 ghost use Rattle.job_answers.specs.Meaning.{HasAsked};
 ghost use Rattle.job_answers.specs.declared.asked.Asked.{Asked as AskedOf};
@@ -13,8 +13,7 @@ use crate::asked::{Asked, asked_session};
 use brk_table::Tables;
 use cov_base::SessNo;
 use cov_outside::Source;
-use job_input::{Form, Input, job_of_source};
-use job_tables::tables_of;
+use job_input::{Form, Input, job_of_source, tables_of};
 use refusals::{Refusal, input_refusal, tables_refusal};
 use session_book::Job;
 use std::alloc::Global;

@@ -1,6 +1,6 @@
 //! A session's listings, marked by a marks file.
 ghost use Rattle.std.specs.Prelude.{◌<◌, ◌≤◌, length, IfOk, IfErr};
-ghost use Rattle.job_tables.specs.Tables.{IsReadyJob};
+ghost use Rattle.job_input.specs.Tables.{IsReadyJob};
 ghost use Rattle.job_answers.specs.Meaning.{BeginsWith, IsShown, show_text};
 ghost use Rattle.job_answers.specs.Ready.{view_of};
 ghost use Rattle.refusals.specs.Meaning.{refusal};

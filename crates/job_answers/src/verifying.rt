@@ -1,6 +1,6 @@
 //! Marks and evidence of a session, checked by another run of its tasks.
 ghost use Rattle.std.specs.Prelude.{◌≡◌, ◌<◌, ◌≤◌, None, length, OnOk, IfOk, IfErr};
-ghost use Rattle.job_tables.specs.Tables.{IsReadyJob};
+ghost use Rattle.job_input.specs.Tables.{IsReadyJob};
 ghost use Rattle.job_answers.specs.Meaning.{HasVerified};
 ghost use Rattle.job_answers.specs.Checked.{verify_refusal, IsStartRefusal, IsCheckRefusal, IsPassed};
 ghost use Rattle.marks_file.specs.Meaning.{HasFile};

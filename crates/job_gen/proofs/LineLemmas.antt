@@ -11,10 +11,9 @@ use Rattle.std.proofs.lemmas.List.{length-replicate, get_or-drop}
 use Rattle.hex.specs.Hex.{hex_digit_value, is_hex_digit}
 use Rattle.annotator.specs.Meaning.{hex_digits}
 use Rattle.cov_base.specs.Meaning.{length_of}
-use Rattle.listing_lines.specs.declared.columns.Columns.{Columns}
-use Rattle.listing_lines.specs.declared.columns.Width.TheVariants.{Narrow}
-use Rattle.listing_lines.specs.Meaning.{columns_of, column}
-use Rattle.listing_reader.specs.Meaning.{all_below, fits_groups, are_blank, is_blank, is_blank_at, number_in, column_location, byte_in, code_in, are_groups, object_of, skip_blanks, word_run, has_mnemonic, is_instruction, line_of}
+use Rattle.listing_reader.specs.declared.columns.Columns.{Columns}
+use Rattle.listing_reader.specs.declared.columns.Width.TheVariants.{Narrow}
+use Rattle.listing_reader.specs.Meaning.{columns_of, column, all_below, fits_groups, are_blank, is_blank, is_blank_at, number_in, column_location, byte_in, code_in, are_groups, object_of, skip_blanks, word_run, has_mnemonic, is_instruction, line_of}
 use Rattle.listing_reader.proofs.Laws.{all_below_false, number_in_more, byte_in_two}
 use Rattle.listing_reader.specs.declared.lines.Line.TheVariants as says
 use Rattle.s370_decode.specs.Meaning.{mnemonics, is_mnemonic}

@@ -7,7 +7,7 @@ use crate::instruction::{Instruction, Operation};
 use annotator::text::{add_hex, add_number, add_text};
 use arrayvec::ArrayVec;
 use cov_base::NoMemory;
-use listing_lines::ListingLines;
+use listing_reader::ListingLines;
 use std::alloc::Global;
 
 /// The bytes of the code.

@@ -18,9 +18,8 @@ use Rattle.module_area.specs.Rule.{IsPlan, IsControlled, AreApart, has_task, is_
 use Rattle.module_area.specs.Ended.{HasSets}
 use Rattle.module_area.specs.Notes.{Notes, bearer, calls, keeps, split_notes, after_join}
 use Rattle.module_area.specs.Tied.{keeps_session_as, IsTied}
-use Rattle.module_area.proofs.Laws.{any_at, any_shown, one_controller}
+use Rattle.module_area.proofs.Laws.{any_at, any_shown, one_controller, has_here}
 use Rattle.brk_table.proofs.Laws.{is_place-there}
-use Rattle.planter.proofs.Laws.{has_here}
 use Rattle.task_run.specs.Answered.{Answered, ArePairs, IsPair}
 use Rattle.task_run.specs.Meaning.{at_places, facts_under, is_under, control_by, places_in_all, Walk, is_opened, visits_under, last_control, opened_by, closed_by, least_set, most_set, traces_but, IsBetween}
 use Rattle.task_run.proofs.Laws.{has_fact-more, closes_closed, facts_at-kind, has_fact-full_of, has_fact-union}

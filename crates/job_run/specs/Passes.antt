@@ -11,7 +11,7 @@ use Rattle.module_area.specs.Rule.{IsPlan, has_task}
 use Rattle.module_area.specs.declared.places.Place.{Place}
 use Rattle.brk_table.specs.Kept.{AreCodes}
 use Rattle.brk_table.specs.Meaning.{TablesView}
-use Rattle.planter.specs.Planted.{planted_notes}
+use Rattle.module_area.specs.Planted.{planted_notes}
 use Rattle.task_run.specs.Observed.{Observes}
 use Rattle.task_run.specs.Meaning.{Course, Walk}
 use Rattle.task_run.specs.Ran.{RanAs}

@@ -14,7 +14,7 @@ use crate::grammar::Grammar;
 use crate::parts::{Draft, Part, SessionDraft};
 use crate::refused::LineRefused;
 use cov_base::{Name, NoMemory};
-use listing_lines::ListingLines;
+use listing_reader::ListingLines;
 use module_area::Image;
 use session_book::{Service, TaskCard};
 use std::alloc::Global;

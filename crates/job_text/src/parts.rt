@@ -4,7 +4,7 @@ use crate::grammar::Grammar;
 use crate::job_names::JobNames;
 use crate::task::TaskPart;
 use cov_base::Name;
-use listing_lines::ListingLines;
+use listing_reader::ListingLines;
 use module_area::Image;
 use session_book::{Service, TaskCard};
 use std::marker::Model;

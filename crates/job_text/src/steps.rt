@@ -27,7 +27,7 @@ use cov_base::{
     Addr, BUDGET_LIMIT, LINE_LIMIT, MODULE_LIMIT, Name, NoMemory, PHASE_LIMIT, PRIVATE_LIMIT,
     ROOM_LIMIT, SESSION_LIMIT, SIZE_LIMIT, TASK_LIMIT,
 };
-use listing_lines::ListingLines;
+use listing_reader::ListingLines;
 use module_area::Image;
 use names::NameList;
 use session_book::{Job, Service};

@@ -4,9 +4,8 @@ use Rattle.std.proofs.Common.{add-zero}
 use Rattle.std.specs.Prelude.{option_map}
 use Rattle.std.specs.Option.{option_and_then}
 use Rattle.hex.specs.Hex.{hex_digit_value}
-use Rattle.listing_lines.specs.declared.columns.Columns.{Columns}
-use Rattle.listing_lines.specs.Meaning.{column}
-use Rattle.listing_reader.specs.Meaning.{all_below, number_in, byte_in}
+use Rattle.listing_reader.specs.declared.columns.Columns.{Columns}
+use Rattle.listing_reader.specs.Meaning.{column, all_below, number_in, byte_in}
 
 and_false : (b : Bool) → (b && false) ≡ false
 and_false true = refl

@@ -5,10 +5,9 @@ use Rattle.std.specs.List.{prefix_len}
 use Rattle.std.specs.Option.{option_and_then, option_map_or}
 use Rattle.std.proofs.lemmas.Bool.Decides.{nat_tests}
 use Rattle.std.proofs.lemmas.List.{drop_more}
-use Rattle.listing_lines.specs.declared.columns.Columns.{Columns}
-use Rattle.listing_lines.specs.declared.columns.Width.{Width}
-use Rattle.listing_lines.specs.Meaning.{columns_of, heading_of}
-use Rattle.listing_reader.specs.Meaning.{line_of, lines_behind, listing_of, bad_from, fault_of}
+use Rattle.listing_reader.specs.declared.columns.Columns.{Columns}
+use Rattle.listing_reader.specs.declared.columns.Width.{Width}
+use Rattle.listing_reader.specs.Meaning.{columns_of, heading_of, line_of, lines_behind, listing_of, bad_from, fault_of}
 use Rattle.listing_reader.specs.declared.lines.Line.{Line}
 use Rattle.listing_reader.specs.declared.lines.Line.TheVariants.{Text}
 use Rattle.listing_reader.specs.declared.lines.ListFault.TheVariants.{NoHeading, BadObject}

@@ -1,3 +1,4 @@
+mod BufferLemmas
 mod Digits
 mod FaultLemmas
 mod PackedLemmas

@@ -3,7 +3,7 @@ ghost use Rattle.std.specs.Prelude.{◌≡◌, ◌+◌, ◌*◌, ◌<◌, ◌≤
 ghost use Rattle.hex.specs.Hex.{hex_digit_value};
 ghost use Rattle.listing_reader.specs.Meaning.{are_blank, is_blank_at, number_in};
 
-use listing_lines::column;
+use crate::columns::column;
 
 /// The value of a hexadecimal digit of either case.
 pub fn digit(b: u8) -> Option<u8>

@@ -4,9 +4,9 @@ ghost use Rattle.cov_base.specs.Meaning.{length_of};
 ghost use Rattle.s370_decode.specs.Meaning.{first_half};
 ghost use Rattle.listing_reader.specs.Meaning.{fits_groups, are_groups, byte_in, byte_of, code_in, code_with, object_of};
 
+use crate::columns::{Columns, column};
 use crate::fields::{digit, is_blank_at};
 use cov_base::Addr;
-use listing_lines::{Columns, column};
 use s370_decode::{Code, length};
 
 fn fits_groups(line: &[u8], shift: u8, first: usize, groups: usize, k: usize) -> bool

@@ -4,8 +4,8 @@ ghost use Rattle.std.specs.Char.{to_ascii_uppercase};
 ghost use Rattle.s370_decode.specs.Meaning.{is_mnemonic};
 ghost use Rattle.listing_reader.specs.Meaning.{is_blank, skip_blanks, word_run, after_run, source_of, operation_of, has_mnemonic};
 
+use crate::columns::{Columns, column};
 use crate::fields::is_blank_at;
-use listing_lines::{Columns, column};
 
 fn first_blank(bytes: &[u8]) -> Option<usize>
     ensures { result ≡ position is_blank bytes.now }

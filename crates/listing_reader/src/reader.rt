@@ -2,17 +2,19 @@
 ghost use Rattle.std.specs.Prelude.{◌≡◌, ◌+◌, ◌≤◌, ◌<◌, length, Option, IfOk, IfErr, OnOk, replicate, drop, IfSome, true};
 ghost use Rattle.std.specs.declared.option.Option.TheVariants.{Some, None};
 ghost use Rattle.std.specs.List.{AllPass};
-ghost use Rattle.listing_lines.specs.Columns.{AreColumns};
+ghost use Rattle.listing_reader.specs.Columns.{AreColumns};
 ghost use Rattle.listing_reader.specs.Meaning.{column_location, is_instruction, line_of, lines_behind, bad_from, listing_of, fault_of};
 ghost use Rattle.listing_reader.specs.Listing.{is_sound, IsTold};
 
+use crate::buffer::ListingLines;
+use crate::columns::{Columns, columns_of};
 use crate::fields::{are_blank, is_blank_at, number_in};
+use crate::heading::heading_of;
 use crate::lines::{Line, ListFault};
 use crate::listing::Listing;
 use crate::object::object_of;
 use crate::operation::has_mnemonic;
 use cov_base::INPUT_LIMIT;
-use listing_lines::{Columns, ListingLines, columns_of, heading_of};
 use std::alloc::Global;
 
 fn location_of(line: &[u8], shift: u8, columns: Columns) -> Option<u32>

@@ -4,5 +4,8 @@ pub use Rattle.marks_file.proofs.MarksLemmas.{both-left, both-right, both, le_of
 pub use Rattle.marks_file.proofs.MarksLemmas.{kept_modules}
 pub use Rattle.marks_file.proofs.FieldLemmas.{first_none, first_some, none_left, none_right, all_good}
 pub use Rattle.marks_file.proofs.SpellLemmas.{set_read}
-pub use Rattle.marks_file.proofs.HeadingLemmas.{told_all}
-pub use Rattle.marks_file.proofs.FileLemmas.{one_table, same_marks, file_read, file_found, file_long, one_modules, marks_found, one_end}
+pub use Rattle.marks_file.proofs.FileLemmas.{one_table, same_marks, file_found, one_modules, marks_found, one_end}
+pub use Rattle.marks_file.proofs.AnswerLemmas.{one_answer}
+pub use Rattle.marks_file.proofs.DifferenceLemmas.{row_same, row_count}
+pub use Rattle.marks_file.proofs.LawLemmas.{files_turned}
+pub use Rattle.marks_file.proofs.UnionLemmas.{same_rows, joined_rows, small_number, length-unite_places, length-unite, union_is_marks}

@@ -7,4 +7,10 @@ mod ModuleLemmas
 mod ModuleLoop
 mod HeadingLemmas
 mod FileLemmas
+mod AnswerLemmas
+mod DifferenceLemmas
+mod FilesLemmas
+mod LawLemmas
+mod SameFiles
+mod UnionLemmas
 pub mod Laws

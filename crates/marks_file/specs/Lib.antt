@@ -1,3 +1,6 @@
+pub mod Combine
+pub mod FaultView
+pub mod Files
 pub mod Marks
 pub mod Meaning
 pub mod Named

@@ -15,5 +15,7 @@ pub use Rattle.module_area.proofs.PlanLemmas.{any_at, any_shown, number, no_sess
 pub use Rattle.module_area.proofs.PlanLemmas.{no_controlled, over_cases, tested_controller, controller_of, over_window, over_small}
 pub use Rattle.module_area.proofs.StepLemmas.{spent_not_root, spent_not_task, or_cases, or_left, same_fact-same, or_right, full_some}
 pub use Rattle.module_area.proofs.StepLemmas.{breakpoint_form, first_only, quiet, fetches, marks}
+pub use Rattle.module_area.proofs.TieLemmas.{has_here, may_plant, may_close, from_one, tied_close, next_at, next_kept, next_later, tied_open}
+pub use Rattle.module_area.proofs.TieLemmas.{open_kept}
 pub use Rattle.module_area.proofs.TiedLemmas.{first_tied, tied_same}
 pub use Rattle.module_area.proofs.WordLemmas.{first_cell, zero_behind, starting_count}

@@ -1,4 +1,5 @@
 pub mod Again
+pub mod Allowed
 pub mod AreasView
 pub mod Control
 pub mod Drained
@@ -8,6 +9,7 @@ pub mod Meaning
 pub mod Notes
 pub mod Parties
 pub mod PlanView
+pub mod Planted
 pub mod Rule
 pub mod Standing
 pub mod Tied

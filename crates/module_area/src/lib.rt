@@ -1,4 +1,4 @@
-//! Modules, places and plans, and the area of cells in which breakpoints stand.
+//! Modules, places and plans, the area of cells in which breakpoints stand, and what plants and closes them.
 #![tactic(auto)]
 
 mod areas;
@@ -10,6 +10,8 @@ mod images;
 mod parties;
 mod places;
 mod plan;
+mod planting;
+mod sessions;
 mod tallies;
 mod traits;
 mod words;
@@ -22,6 +24,8 @@ pub use images::{DataCard, Image, Images};
 pub use parties::{Role, View};
 pub use places::Place;
 pub use plan::{Controlled, Plan};
+pub use planting::plant_all;
+pub use sessions::{close_open, open_next};
 pub use tallies::Tally;
 pub use traits::{Cells, Drains, Forks};
 pub use words::{cell, first_words};

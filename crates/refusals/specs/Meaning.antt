@@ -6,7 +6,7 @@ use Rattle.cov_base.specs.declared.facts.Fact.TheVariants.{Ran, Went, Stayed}
 use Rattle.job_text.specs.declared.limit.Limit.{Limit}
 use Rattle.job_text.specs.declared.limit.Limit.TheVariants as limit
 use Rattle.report_text.specs.Meaning.{hex_bytes}
-use Rattle.table_combine.specs.Meaning.{Difference}
+use Rattle.marks_file.specs.Meaning.{Difference}
 use Rattle.annotator.specs.Meaning.{hex_digits}
 use Rattle.cov_outside.specs.declared.whole.ReadFault.{ReadFault}
 use Rattle.cov_outside.specs.declared.whole.ReadFault.TheVariants as read
@@ -15,8 +15,8 @@ use Rattle.listing_reader.specs.declared.lines.ListFault.{ListFault}
 use Rattle.listing_reader.specs.declared.lines.ListFault.TheVariants as list
 use Rattle.brk_table.specs.declared.faults.BuildFault.{BuildFault}
 use Rattle.brk_table.specs.declared.faults.BuildFault.TheVariants as build
-use Rattle.job_tables.specs.declared.faults.TablesFault.{TablesFault}
-use Rattle.job_tables.specs.declared.faults.TablesFault.TheVariants as first
+use Rattle.job_input.specs.declared.table_faults.TablesFault.{TablesFault}
+use Rattle.job_input.specs.declared.table_faults.TablesFault.TheVariants as first
 use Rattle.job_text.specs.declared.jobs.JobFault.{JobFault}
 use Rattle.job_text.specs.declared.jobs.JobFault.TheVariants as fault
 use Rattle.std.specs.Io.KnownBytes.{Appends}

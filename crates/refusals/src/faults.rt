@@ -3,7 +3,7 @@ ghost use Rattle.std.specs.Prelude.{◌≡◌, ◌≤◌, length, take};
 ghost use Rattle.arrayvec.specs.ArrayVec.{array_vec_len};
 ghost use Rattle.refusals.specs.Meaning.{refusal, line_text, bad_listing, list_refusal, build_refusal, tables_refusal, read_refusal, jobless_refusal, mismatch_text, bad_marks_line, other_table_line};
 ghost use Rattle.refusals.specs.Refusals.{input_refusal};
-ghost use Rattle.table_combine.specs.Combine.{difference_of};
+ghost use Rattle.marks_file.specs.Combine.{difference_of};
 
 use crate::lines::{
     NO_MEMORY, READ_FAULT, TOO_LARGE_INPUT, bad_job_line, bad_marks_line, large_job_line,
@@ -14,14 +14,13 @@ use arrayvec::ArrayVec;
 use brk_table::BuildFault;
 use cov_base::Name;
 use cov_outside::ReadFault;
-use job_input::InputFault;
-use job_tables::TablesFault;
+use job_input::{InputFault, TablesFault};
 use job_text::JobFault;
 use listing_reader::ListFault;
+use marks_file::OtherTable;
 use report_text::add_bytes;
 use s370_decode::Code;
 use std::marker::Model;
-use table_combine::OtherTable;
 
 /// A refusal: its status, and the line that tells it.
 #[derive(Drop)]

@@ -2,14 +2,14 @@
 ghost use Rattle.std.specs.Prelude.{◌≡◌, ◌<◌, ◌≤◌, ◌++◌, ◌∷◌, ◌+◌, [], decimal, length, option_map};
 ghost use Rattle.refusals.specs.Meaning.{bad_job_line, limit_name, large_job_line, bad_schedule_line, no_session_line, controlled_line, bad_marks_line, row_text, other_table_line, bad_evidence_line, fact_letter, refuted_line, verified_line};
 ghost use Rattle.arrayvec.specs.ArrayVec.{array_vec_len};
-ghost use Rattle.table_combine.specs.Combine.{difference_of};
+ghost use Rattle.marks_file.specs.Combine.{difference_of};
 
 use annotator::text::{add_number, add_text};
 use arrayvec::ArrayVec;
 use cov_base::{Fact, Name};
 use job_text::Limit;
+use marks_file::OtherTable;
 use report_text::add_bytes;
-use table_combine::OtherTable;
 
 /// For words that are no command.
 pub const USAGE: &[u8] =

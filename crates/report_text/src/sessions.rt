@@ -21,7 +21,7 @@ use arrayvec::ArrayVec;
 use brk_table::Tables;
 use cov_base::{Bits, Fact, INPUT_LIMIT, Kind, LINE_LIMIT, Mark, Name, PlaceNo, SessNo, mark_of};
 use cov_outside::{Failed, Sink};
-use listing_lines::ListingLines;
+use listing_reader::ListingLines;
 use module_area::Place;
 use session_book::{FactSets, Job};
 

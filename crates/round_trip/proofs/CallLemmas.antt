@@ -10,8 +10,8 @@ use Rattle.job_text.specs.Lines.{IsClosed}
 use Rattle.job_text.specs.Meaning.{LineView, lines_of, Spells, Present}
 use Rattle.job_text.specs.declared.grammar.Grammar.{Grammar}
 use Rattle.job_text.proofs.Laws.{closed_more}
-use Rattle.command_words.specs.declared.words.Command.{Command}
-use Rattle.command_words.specs.declared.words.Command.TheVariants.{Trial, Combine}
+use Rattle.job_input.specs.declared.words.Command.{Command}
+use Rattle.job_input.specs.declared.words.Command.TheVariants.{Trial, Combine}
 use Rattle.brk_table.specs.Meaning.{TablesView}
 use Rattle.session_book.specs.Meaning.{JobView, SessionView, ResultView}
 use Rattle.report_text.specs.Meaning.{text_of, lines_from, task_parts, session_part, report_of}

@@ -15,15 +15,14 @@ use Rattle.marks_file.specs.Meaning.{MarkedView, MarksView, keeps_rules, file_by
 use Rattle.marks_file.specs.declared.version.Version.TheVariants.{Second}
 use Rattle.marks_file.proofs.Laws.{one_modules}
 use Rattle.job_run.specs.Meaning.{set_by}
-use Rattle.job_tables.specs.Meaning.{Match}
-use Rattle.job_input.specs.Meaning.{CameWhole, input_limit}
+use Rattle.job_input.specs.Meaning.{Match, CameWhole, input_limit}
 use Rattle.job_text.specs.Lines.{IsClosed}
 use Rattle.job_text.specs.declared.grammar.Grammar.{Grammar}
 use Rattle.job_text.specs.declared.grammar.Grammar.TheVariants.{Plain}
 use Rattle.report_text.specs.Meaning.{text_of, session_part, report_of, module_lines}
 use Rattle.task_run.specs.Meaning.{Course, solo}
 use Rattle.task_services.specs.Meaning.{course_of}
-use Rattle.command_words.specs.declared.words.Command.TheVariants.{Run, Marks, Show, Prove, Verify}
+use Rattle.job_input.specs.declared.words.Command.TheVariants.{Run, Marks, Show, Prove, Verify}
 use Rattle.job_answers.specs.declared.asked.Wanted.{Wanted}
 use Rattle.run_reports.specs.Meaning.{AreasChange, IsMarksText, Reports, named_file}
 use Rattle.job_answers.specs.Meaning.{ReadyView, BeginsWith, IsShown, Shown, Fileless, OtherShown, session_number, show_text}

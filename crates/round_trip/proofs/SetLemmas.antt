@@ -14,7 +14,7 @@ use Rattle.marks_file.specs.declared.marks.MarkedPlace.{MarkedPlace}
 use Rattle.session_marks.specs.Meaning.{marked_place, marked_module, session_marks}
 use Rattle.session_marks.specs.FromFile.{AreSameAt}
 use Rattle.report_text.specs.Meaning.{sum_from, lacks, last_byte_of, line_mark, marked_listing, run_end, run_lines, module_lines, session_line, session_part}
-use Rattle.job_tables.specs.Meaning.{Match}
+use Rattle.job_input.specs.Meaning.{Match}
 use Rattle.round_trip.proofs.TableLemmas.{line_inside}
 
 -- ---- lists

@@ -11,7 +11,7 @@ use Rattle.module_area.specs.Meaning.{no_place, place_of}
 use Rattle.module_area.specs.declared.places.Place.{Place}
 use Rattle.brk_table.specs.Meaning.{TableView, TablesView, all_places, first_place, place_count, entry_of_line, place_at_line, IsEntry, IsTable}
 use Rattle.session_book.specs.Meaning.{JobView}
-use Rattle.job_tables.specs.Meaning.{AreTablesFrom, Match}
+use Rattle.job_input.specs.Meaning.{AreTablesFrom, Match}
 
 -- ---- one table
 

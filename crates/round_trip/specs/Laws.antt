@@ -1,7 +1,7 @@
 -- What the texts say together that `marks`, `prove`, `run` and `show` have of one job.
 use Rattle.std.specs.Prelude.{◌≡◌, ℕ, ◌≤◌, Some, None, List, [], ◌∷◌, ◌++◌, codes, length}
-use Rattle.command_words.specs.declared.words.Command.{Command}
-use Rattle.command_words.specs.declared.words.Command.TheVariants.{Run, Marks, Show, Prove}
+use Rattle.job_input.specs.declared.words.Command.{Command}
+use Rattle.job_input.specs.declared.words.Command.TheVariants.{Run, Marks, Show, Prove}
 use Rattle.job_input.specs.Meaning.{SourceChange, input_limit}
 use Rattle.job_text.specs.Lines.{IsClosed}
 use Rattle.job_text.specs.declared.grammar.Grammar.{Grammar}

@@ -1,6 +1,6 @@
 //! The report of a job whose controllers drain the sessions that they have closed.
 ghost use Rattle.std.specs.Prelude.{◌<◌, ◌^◌};
-ghost use Rattle.job_tables.specs.Tables.{IsReadyJob};
+ghost use Rattle.job_input.specs.Tables.{IsReadyJob};
 ghost use Rattle.run_reports.specs.Calls.{ReportedEarly};
 
 use brk_table::Tables;

@@ -1,6 +1,6 @@
 //! The run of a job's tasks over areas.
 ghost use Rattle.std.specs.Prelude.{◌<◌, ◌≤◌, ◌^◌, length};
-ghost use Rattle.job_tables.specs.Tables.{IsReadyJob};
+ghost use Rattle.job_input.specs.Tables.{IsReadyJob};
 ghost use Rattle.run_reports.specs.Calls.{Marked, Reported};
 
 use brk_table::Tables;

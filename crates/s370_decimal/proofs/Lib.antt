@@ -1,2 +1,5 @@
 mod Powers
+mod Refusals
 mod Shifting
+mod Sources
+mod Workings

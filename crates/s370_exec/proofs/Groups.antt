@@ -15,8 +15,7 @@ use Rattle.s370_decode.specs.declared.op.Op.TheVariants.{SVC, Privileged, MVCL}
 use Rattle.s370_fixed.specs.Meaning.{fixed_row}
 use Rattle.s370_logic.specs.Meaning.{logic_row}
 use Rattle.s370_storage.specs.Meaning.{storage_row, long, overlaps}
-use Rattle.s370_decimal.specs.Meaning.{decimal_row}
-use Rattle.s370_edit.specs.Meaning.{edit_row}
+use Rattle.s370_decimal.specs.Meaning.{decimal_row, edit_row}
 use Rattle.s370_branch.specs.Meaning.{branched}
 use Rattle.s370_exec.specs.Meaning.{Effect, unchanged, onward, call, row_of, unless_branched, effect, updated, link_code}
 use Rattle.s370_exec.specs.Effects.{effect_of, executed}

@@ -14,8 +14,7 @@ use Rattle.s370_decode.specs.declared.op.Op.TheVariants.{SVC, Privileged}
 use Rattle.s370_fixed.specs.Meaning.{fixed_row}
 use Rattle.s370_logic.specs.Meaning.{logic_row}
 use Rattle.s370_storage.specs.Meaning.{storage_row}
-use Rattle.s370_decimal.specs.Meaning.{decimal_row}
-use Rattle.s370_edit.specs.Meaning.{edit_row}
+use Rattle.s370_decimal.specs.Meaning.{decimal_row, edit_row}
 use Rattle.s370_branch.specs.Meaning.{branched, goes}
 use Rattle.cov_base.specs.declared.constants.TheConstants.{RETURN_ADDRESS}
 

@@ -25,9 +25,8 @@ use s370_branch::{
     branch, branch_and_link, branch_and_link_register, branch_on_condition,
     branch_on_condition_register, branch_on_count, branch_on_count_register,
 };
-use s370_decimal::decimal;
+use s370_decimal::{decimal, edit};
 use s370_decode::{Code, Decoded, Group, Op, group_of};
-use s370_edit::edit;
 use s370_fixed::{
     add_register, compare_register, fixed, load_address, load_and_test, load_complement,
     load_register, load_word, store_word, subtract_register,

@@ -7,7 +7,7 @@ ghost use Rattle.session_book.specs.Names.{session_named};
 
 use crate::services::Service;
 use cov_base::{Addr, Name, SessNo, TaskNo};
-use listing_lines::ListingLines;
+use listing_reader::ListingLines;
 use module_area::{DataCard, Images};
 use std::marker::Model;
 

@@ -6,13 +6,11 @@ use Rattle.std.proofs.lemmas.List.Elements.{All-tail}
 use Rattle.std.proofs.lemmas.Bool.{ne_eqb, eq-eqb}
 use Rattle.cov_base.specs.Lists.{Differ}
 use Rattle.cov_base.specs.Meaning.{FactSet}
-use Rattle.marks_file.specs.Meaning.{modules_bytes, MarkedView, are_marks, place_row, module_row, rows}
+use Rattle.marks_file.specs.Meaning.{modules_bytes, MarkedView, are_marks, place_row, module_row, rows, Difference, first_difference, unite}
 use Rattle.marks_file.specs.Marks.{HasRow}
 use Rattle.marks_file.specs.declared.marks.MarkedPlace.{MarkedPlace}
-use Rattle.marks_file.proofs.Laws.{same_bytes, marks_have_rows, one_table}
-use Rattle.table_combine.specs.Meaning.{Difference, first_difference, unite}
-use Rattle.table_combine.specs.Combine.{SamePlaces, SameTables}
-use Rattle.table_combine.proofs.Laws.{row_count, union_is_marks, length-unite, files_turned}
+use Rattle.marks_file.proofs.Laws.{same_bytes, marks_have_rows, one_table, row_count, union_is_marks, length-unite, files_turned}
+use Rattle.marks_file.specs.Combine.{SamePlaces, SameTables}
 use Rattle.brk_table.specs.Meaning.{TableView, TablesView, first_place, place_count}
 use Rattle.session_book.specs.Meaning.{JobView, session_of}
 use Rattle.session_marks.specs.Meaning.{marked_module, session_marks, session_rows}

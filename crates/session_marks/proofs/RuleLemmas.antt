@@ -11,8 +11,7 @@ use Rattle.module_area.specs.declared.places.Place.{Place}
 use Rattle.brk_table.specs.Places.{IsPlace}
 use Rattle.marks_file.specs.Meaning.{kind_number, is_location, is_length, is_original, is_set, are_places, end_location, is_runs}
 use Rattle.marks_file.specs.declared.marks.MarkedPlace.{MarkedPlace}
-use Rattle.marks_file.proofs.Laws.{is_place, both, set_read}
-use Rattle.table_combine.proofs.Laws.{small_number}
+use Rattle.marks_file.proofs.Laws.{is_place, both, set_read, small_number}
 use Rattle.session_marks.specs.Fields.{AreHalfwords}
 use Rattle.session_marks.specs.Meaning.{marked_places, marked_place}
 

@@ -3,13 +3,11 @@ use Rattle.std.proofs.Common.{◌≡◌, ℕ, ◌+◌, ◌-◌, ◌<◌, zero, s
 use Rattle.std.proofs.lemmas.List.{get_or-map}
 use Rattle.cov_base.specs.Meaning.{FactSet, number_of_facts, is_within}
 use Rattle.cov_base.specs.declared.facts.Kind.{Kind}
-use Rattle.marks_file.specs.Meaning.{MarkedView, is_location, is_length, is_original, is_set, are_places, end_location, is_new_name, is_base, is_size, is_count, are_modules, is_module_count, are_marks, place_row, module_row, module_rows, rows}
+use Rattle.marks_file.specs.Meaning.{MarkedView, is_location, is_length, is_original, is_set, are_places, end_location, is_new_name, is_base, is_size, is_count, are_modules, is_module_count, are_marks, place_row, module_row, module_rows, rows, first_difference, unite}
 use Rattle.marks_file.specs.declared.marks.MarkedPlace.{MarkedPlace}
-use Rattle.marks_file.proofs.Laws.{is_place, is_module, both-left, both-right, set_read}
+use Rattle.marks_file.proofs.Laws.{is_place, is_module, both-left, both-right, set_read, row_same, same_rows, joined_rows, length-unite_places}
 use Rattle.module_area.specs.Meaning.{place_of}
 use Rattle.module_area.specs.declared.places.Place.{Place}
-use Rattle.table_combine.specs.Meaning.{first_difference, unite}
-use Rattle.table_combine.proofs.Laws.{row_same, same_rows, joined_rows, length-unite_places}
 use Rattle.brk_table.specs.Meaning.{TablesView, first_place, place_count}
 use Rattle.session_book.specs.Meaning.{JobView, module_of, session_of}
 use Rattle.phase_plan.specs.Sets.{AreWithin}

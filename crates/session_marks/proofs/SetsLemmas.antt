@@ -4,10 +4,9 @@ use Rattle.std.proofs.lemmas.Bool.{cases_eq, cases_lt}
 use Rattle.std.proofs.lemmas.List.{get_or_default}
 use Rattle.cov_base.specs.Lists.{Differ}
 use Rattle.cov_base.specs.Meaning.{FactSet, no_facts, union}
-use Rattle.marks_file.specs.Meaning.{MarkedView}
+use Rattle.marks_file.specs.Meaning.{MarkedView, unite_place, unite_places, unite_module, unite}
 use Rattle.marks_file.specs.declared.marks.MarkedPlace.{MarkedPlace}
 use Rattle.module_area.specs.declared.places.Place.{Place}
-use Rattle.table_combine.specs.Meaning.{unite_place, unite_places, unite_module, unite}
 use Rattle.brk_table.specs.Meaning.{TableView, TablesView, first_place, place_count}
 use Rattle.brk_table.proofs.Laws.{first-here, count-here, first-past, count-past}
 use Rattle.session_book.specs.Meaning.{JobView, module_of}

@@ -2,10 +2,9 @@
 -- name and runs it has.
 use Rattle.std.specs.Prelude.{◌≡◌, ◌⊎◌, ℕ, ◌+◌, ◌<◌, ◌≤◌, true, None, List, length, get_or, All}
 use Rattle.cov_base.specs.Meaning.{FactSet, no_facts}
-use Rattle.marks_file.specs.Meaning.{MarkedView, are_marks, rows}
+use Rattle.marks_file.specs.Meaning.{MarkedView, are_marks, rows, first_difference}
 use Rattle.marks_file.specs.declared.marks.MarkedPlace.{MarkedPlace}
-use Rattle.table_combine.specs.Meaning.{first_difference}
-use Rattle.table_combine.specs.Combine.{IsDifference}
+use Rattle.marks_file.specs.Combine.{IsDifference}
 use Rattle.brk_table.specs.Meaning.{TableView, TablesView, first_place, place_count}
 use Rattle.session_book.specs.Meaning.{JobView, session_of}
 use Rattle.session_marks.specs.Meaning.{session_marks, session_rows}

@@ -12,11 +12,10 @@ use crate::marking::marks_of;
 use crate::no_sets::NoSets;
 use brk_table::Tables;
 use cov_base::{Bits, NoMemory, PlaceNo, SessNo};
-use marks_file::{MarkedModule, MarkedPlace, Marks};
+use marks_file::{MarkedModule, MarkedPlace, Marks, OtherTable, combine};
 use session_book::{FactSets, Job};
 use std::alloc::Global;
 use std::marker::Model;
-use table_combine::{OtherTable, combine};
 
 /// Why a marks file is none of a session's.
 #[derive(Drop)]

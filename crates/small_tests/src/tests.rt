@@ -1,6 +1,6 @@
 //! What no clause says of some crates: each file is of the one that its name tells.
 use cov_base::LINE_LIMIT;
-use listing_lines::ListingLines;
+use listing_reader::ListingLines;
 use std::test::Fail;
 
 mod of_annotator;
@@ -9,14 +9,14 @@ mod of_count_session;
 mod of_cov_base;
 mod of_cov_outside;
 mod of_job_gen;
-mod of_listing_lines;
+mod of_listing_buffer;
 mod of_listing_reader;
 mod of_marks_file;
+mod of_marks_unions;
 mod of_names;
 mod of_report_text;
 mod of_s370_decode;
 mod of_space_map;
-mod of_table_combine;
 
 const HEADING: &[u8] = b"  Loc  Object Code    Addr1 Addr2  Stmt   Source Statement";
 

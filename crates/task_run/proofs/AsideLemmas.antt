@@ -8,8 +8,7 @@ use Rattle.module_area.specs.Meaning.{PlanView, has_place, ControlView, places_u
 use Rattle.module_area.specs.Notes.{Notes, calls, bearer, own_number, after_boundary}
 use Rattle.module_area.specs.Control.{after_plants, after_closes, after_open, after_end, after_call}
 use Rattle.module_area.specs.Tied.{IsTied}
-use Rattle.module_area.proofs.Laws.{any_at, tied_same}
-use Rattle.planter.proofs.Laws.{next_later}
+use Rattle.module_area.proofs.Laws.{any_at, tied_same, next_later}
 use Rattle.task_run.specs.Answered.{RisesAt, known_tag, Turns}
 use Rattle.task_run.specs.Aside.{IsAside}
 use Rattle.task_run.specs.Controlled.{Follows}

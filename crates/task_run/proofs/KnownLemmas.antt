@@ -8,8 +8,7 @@ use Rattle.module_area.specs.Rule.{IsPlan}
 use Rattle.module_area.specs.Notes.{Notes, keeps}
 use Rattle.module_area.specs.Control.{after_open, after_end, after_call}
 use Rattle.module_area.specs.Tied.{IsTied}
-use Rattle.module_area.proofs.Laws.{any_at}
-use Rattle.planter.proofs.Laws.{may_plant, may_close, next_kept, next_later, open_kept}
+use Rattle.module_area.proofs.Laws.{any_at, may_plant, may_close, next_kept, next_later, open_kept}
 use Rattle.task_run.specs.Answered.{known_tag}
 
 at_place : (P : ℕ → Type 0) (places : List PlaceNo) (p : ℕ) → All (λ (q : PlaceNo). P q.0) places → has_place places p ≡ true → P p

@@ -7,7 +7,7 @@ use Rattle.module_area.specs.Rule.{IsPlan}
 use Rattle.module_area.specs.Notes.{Notes}
 use Rattle.module_area.specs.Tied.{IsTied}
 use Rattle.module_area.specs.Control.{after_open, after_end, after_call}
-use Rattle.planter.proofs.Laws.{next_at}
+use Rattle.module_area.proofs.Laws.{next_at}
 use Rattle.task_run.specs.Meaning.{control_by, places_of, places_in_all}
 use Rattle.task_run.specs.Controlled.{notes_by, HasPlanted}
 use Rattle.task_run.proofs.WindowLemmas.{IsBound, bound_call}

@@ -10,8 +10,7 @@ use Rattle.module_area.specs.Rule.{IsPlan}
 use Rattle.module_area.specs.Notes.{Notes}
 use Rattle.module_area.specs.Control.{after_plants, after_closes, after_open, after_end, after_call}
 use Rattle.module_area.specs.Tied.{IsTied}
-use Rattle.module_area.proofs.Laws.{any_at}
-use Rattle.planter.proofs.Laws.{next_at, next_kept, from_one, has_here, tied_open, tied_close}
+use Rattle.module_area.proofs.Laws.{any_at, next_at, next_kept, from_one, has_here, tied_open, tied_close}
 use Rattle.task_run.specs.Meaning.{control_by}
 use Rattle.task_run.specs.Controlled.{notes_by, HasWindows}
 

@@ -7,8 +7,7 @@ ghost use Rattle.module_area.specs.Control.{after_call};
 ghost use Rattle.module_area.specs.Tied.{IsTied};
 ghost use Rattle.task_run.specs.Called.{call_at};
 
-use module_area::{Cells, Control, Plan};
-use planter::{close_open, open_next};
+use module_area::{Cells, Control, Plan, close_open, open_next};
 
 /// Does what the call of this number asks of the sessions that the task controls: 4 opens, 5 closes.
 #[inline(never)]

@@ -1,4 +1,5 @@
 pub mod Alone
 pub mod Ends
+pub mod ExitWay
 pub mod Meaning
 pub mod ServiceWay

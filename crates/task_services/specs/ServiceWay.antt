@@ -13,15 +13,15 @@ use Rattle.task_services.specs.declared.services.Services.{Services}
 abbrev pub served : Services → Served
 served h = record { services = h.services.now; caller = h.caller }
 
-abbrev pub as_left : CpuView → Next → Services → Behind Served
-as_left cpu next h = record { cpu = cpu; next = next; key = served h }
+abbrev pub as_served : CpuView → Next → Services → Behind Served
+as_served cpu next h = record { cpu = cpu; next = next; key = served h }
 
 -- at a call of this number the machine stood so, and this is what has become of it
 abbrev pub HasCalled : {P : Type 0} → space.Ghosts P → P → ℕ → Services → CpuView → Services → CpuView → Next → Type 0
-HasCalled by s number old cpu new cpu' next = as_left cpu' next new ≡ called old.services.now (by.memory s) (machine_of cpu (by.bytes s)) number old.caller
+HasCalled by s number old cpu new cpu' next = as_served cpu' next new ≡ called old.services.now (by.memory s) (machine_of cpu (by.bytes s)) number old.caller
 
 abbrev pub HasGoneBack : Services → Services → CpuView → CpuView → Type 0
-HasGoneBack old new cpu cpu' = as_left cpu' On new ≡ gone_back old.services.now cpu old.caller
+HasGoneBack old new cpu cpu' = as_served cpu' On new ≡ gone_back old.services.now cpu old.caller
 
 -- the course depends on the services and the caller, and the pass stays
 abbrev pub service_way : (O P : Type 0) → Way Services O P

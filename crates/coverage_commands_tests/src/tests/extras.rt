@@ -1,6 +1,6 @@
 //! A runner's extras are made before the area is, so before anything is planted.
 ghost use Rattle.std.specs.Prelude.{◌≡◌};
-ghost use Rattle.job_tables.specs.Tables.{IsReadyJob};
+ghost use Rattle.job_input.specs.Tables.{IsReadyJob};
 ghost use Rattle.task_run.specs.Meaning.{solo};
 
 use super::jobs::{ALONE, job_of};

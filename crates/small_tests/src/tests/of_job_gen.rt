@@ -2,7 +2,7 @@
 ghost use Rattle.std.specs.Prelude.{◌≤◌};
 
 use job_gen::trial;
-use listing_lines::ListingLines;
+use listing_reader::ListingLines;
 use session_book::Job;
 use std::alloc::Global;
 use std::test::Fail;

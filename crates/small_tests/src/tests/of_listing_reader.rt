@@ -1,7 +1,6 @@
 //! Listings as the assembler lays them out, and lines with one thing changed.
 use super::{HEADING, add_line};
-use listing_lines::ListingLines;
-use listing_reader::{Line, ListFault, Listing, read_listing};
+use listing_reader::{Line, ListFault, Listing, ListingLines, read_listing};
 use std::alloc::Global;
 use std::process::Abort;
 use std::test::Fail;

@@ -4,7 +4,7 @@ use Rattle.coverage_commands.specs.Meaning.{Answers, way_of}
 use Rattle.refusals.specs.Meaning.{sink_change}
 use Rattle.run_reports.specs.Meaning.{areas_change}
 use Rattle.job_input.specs.Meaning.{SourceChange, source_change}
-use Rattle.command_words.specs.declared.words.Command.{Command}
+use Rattle.job_input.specs.declared.words.Command.{Command}
 use Rattle.coverage_commands.specs.Words.{runs_threads}
 use Rattle.coverage_commands.proofs.AnswerLemmas.{alike, stopped}
 use Rattle.refusals.proofs.Laws.{told_as}

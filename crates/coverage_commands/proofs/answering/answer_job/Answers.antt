@@ -1,7 +1,7 @@
 use Rattle.std.proofs.Common.{refl}
 use Rattle.coverage_commands.proofs.AnswerLemmas.{answered, checked_besides, played, replayed_besides}
 use Rattle.refusals.proofs.Laws.{told_text}
-use Rattle.command_words.specs.declared.words.Command.TheVariants.{Table, Ends, Replay, Show, Prove, Verify}
+use Rattle.job_input.specs.declared.words.Command.TheVariants.{Table, Ends, Replay, Show, Prove, Verify}
 use Rattle.coverage_commands.proofs.answering.answer_job.Goals as goal
 
 pub returns-in-Table : goal.returns-in-Table

@@ -1,5 +1,5 @@
 use Rattle.std.proofs.Common.{◌≡◌, false, true, rules, subst, sym}
-use Rattle.command_words.specs.declared.words.Command.{Command}
+use Rattle.job_input.specs.declared.words.Command.{Command}
 use Rattle.job_input.specs.Inputs.{IsInput}
 use Rattle.job_input.specs.Meaning.{SourceChange, source_change}
 use Rattle.job_answers.specs.Answers.{IsStopped}

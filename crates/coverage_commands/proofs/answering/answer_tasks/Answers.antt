@@ -4,7 +4,7 @@ use Rattle.task_services.specs.Meaning.{course_of}
 use Rattle.run_reports.specs.Meaning.{IsMarksText, Reports}
 use Rattle.job_text.proofs.Laws.{job_keeps}
 use Rattle.coverage_commands.proofs.AnswerLemmas.{answered, ran, with_own}
-use Rattle.command_words.specs.declared.words.Command.TheVariants.{Run, Exits, Early, Count, Marks}
+use Rattle.job_input.specs.declared.words.Command.TheVariants.{Run, Exits, Early, Count, Marks}
 use Rattle.coverage_commands.proofs.answering.answer_tasks.Goals as goal
 
 pub returns-in-Run : goal.returns-in-Run

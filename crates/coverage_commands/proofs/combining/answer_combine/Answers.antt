@@ -1,7 +1,7 @@
 use Rattle.std.proofs.Common.{refl, ◌∙◌}
 use Rattle.refusals.specs.Meaning.{read_refusal}
 use Rattle.refusals.proofs.Laws.{told_as}
-use Rattle.command_words.specs.declared.words.Command.TheVariants.{Combine}
+use Rattle.job_input.specs.declared.words.Command.TheVariants.{Combine}
 use Rattle.coverage_commands.proofs.AnswerLemmas.{combined, unread}
 use Rattle.coverage_commands.proofs.combining.answer_combine.Goals as goal
 

@@ -2,7 +2,7 @@ use Rattle.std.proofs.Common.{◌≡◌, None, length, sym, subst, ap, ◌∙◌
 use Rattle.report_text.specs.Conditions.{HasFewLines}
 use Rattle.session_book.specs.Meaning.{JobView}
 use Rattle.run_reports.specs.Meaning.{areas_change}
-use Rattle.job_tables.specs.Meaning.{job_fault}
+use Rattle.job_input.specs.Meaning.{job_fault}
 use Rattle.coverage_commands.proofs.TrialLemmas.{trial_faultless, trial_few_lines, trial_tasks, trial_sessions, tried, unmade}
 use Rattle.coverage_commands.proofs.trial.answer_trial.Goals as goal
 

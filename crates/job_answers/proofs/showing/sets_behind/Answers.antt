@@ -1,6 +1,6 @@
 use Rattle.std.proofs.Common.{IfErr, rules}
 use Rattle.std.proofs.lemmas.Result.{IfErr-weaker}
-use Rattle.table_combine.specs.Combine.{difference_of}
+use Rattle.marks_file.specs.Combine.{difference_of}
 use Rattle.job_answers.specs.Files.{IsFileRefusal, NoFile, Other}
 use Rattle.job_answers.proofs.showing.sets_behind.Goals as goal
 

@@ -5,7 +5,7 @@ use Rattle.evidence_check.specs.Meaning.{IsVerified}
 use Rattle.evidence_check.specs.Verified.{Passes, IsVerifyFault}
 use Rattle.marks_file.specs.Meaning.{MarksView, keeps_rules}
 use Rattle.session_marks.specs.FromFile.{IsOwn, set_at}
-use Rattle.table_combine.specs.Combine.{difference_of}
+use Rattle.marks_file.specs.Combine.{difference_of}
 use Rattle.job_answers.specs.Meaning.{OfFile}
 use Rattle.refusals.specs.Meaning.{refusal, other_table_line, verified_line}
 use Rattle.job_answers.specs.Checked.{IsStartRefusal}

@@ -4,7 +4,7 @@ use Rattle.cov_base.specs.declared.numbers.TaskNo.{TaskNo}
 use Rattle.module_area.specs.Notes.{Notes, calls}
 use Rattle.module_area.specs.Meaning.{PlanView}
 use Rattle.module_area.specs.Rule.{IsPlan, has_task}
-use Rattle.planter.specs.Planted.{planted_notes}
+use Rattle.module_area.specs.Planted.{planted_notes}
 use Rattle.task_run.specs.Meaning.{Walk}
 use Rattle.job_run.specs.Areas.{GrowsBy}
 use Rattle.job_run.specs.Bounds.{JoinsTasks}

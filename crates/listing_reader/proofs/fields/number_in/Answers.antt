@@ -1,8 +1,7 @@
 use Rattle.std.proofs.Common.{◌≡◌, ◌+◌, ◌*◌, ◌^◌, Some, None, sym, ◌∙◌, ap, refl, arith, add-one}
 use Rattle.std.proofs.Math.Nat.{pow-suc}
 use Rattle.hex.specs.Hex.{hex_digit_value}
-use Rattle.listing_lines.specs.Meaning.{column}
-use Rattle.listing_reader.specs.Meaning.{number_in}
+use Rattle.listing_reader.specs.Meaning.{column, number_in}
 use Rattle.listing_reader.proofs.Digits.{number_in_more, number_in_none, power_16}
 use Rattle.listing_reader.proofs.fields.number_in.Goals as goal
 

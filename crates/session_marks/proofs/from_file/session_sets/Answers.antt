@@ -1,10 +1,8 @@
 use Rattle.brk_table.specs.Meaning.{place_count}
 use Rattle.std.proofs.Common.{◌≡◌, true, List, length, get_or, ap, sym, ◌∙◌, arith}
 use Rattle.std.proofs.lemmas.List.{length-map}
-use Rattle.marks_file.specs.Meaning.{MarkedView, MarksView, are_marks}
-use Rattle.marks_file.proofs.Laws.{kept_modules}
-use Rattle.table_combine.specs.Meaning.{unite}
-use Rattle.table_combine.proofs.Laws.{length-unite}
+use Rattle.marks_file.specs.Meaning.{MarkedView, MarksView, are_marks, unite}
+use Rattle.marks_file.proofs.Laws.{kept_modules, length-unite}
 use Rattle.session_book.specs.Meaning.{session_of}
 use Rattle.session_marks.specs.Meaning.{marked_module, session_marks}
 use Rattle.session_marks.specs.FromFile.{set_at, HaveSetsAt}

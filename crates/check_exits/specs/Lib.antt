@@ -1,2 +1,0 @@
-pub mod ExitWay
-pub mod Meaning

@@ -1,6 +1,0 @@
-//! What the words of a command line ask for.
-#![tactic(auto)]
-
-mod words;
-
-pub use words::{Command, command_of};

@@ -1,3 +1,0 @@
-mod OneTables
-mod TableLemmas
-pub mod Laws

@@ -1,6 +1,0 @@
-use Rattle.std.proofs.Common.{length, sym, ap, ◌∙◌}
-use Rattle.listing_lines.proofs.BufferLemmas.{lines_count}
-use Rattle.listing_lines.proofs.lines.ListingLines.len.Goals as goal
-
-pub returns : goal.returns
-returns c = c.len.ensures ∙ (c.self.inside.begins.ok.0 ∙ (sym (lines_count c.self.inside.bytes.items c.self.inside.starts.items c.self.inside.begins.items) ∙ ap length c.self.view_is))

@@ -1,3 +1,0 @@
-pub mod Buffer
-pub mod Columns
-pub mod Meaning

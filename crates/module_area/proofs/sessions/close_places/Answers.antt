@@ -1,0 +1,35 @@
+use Rattle.std.proofs.Common.{◌≡◌, ◌+◌, ◌*◌, Bool, if◌then◌else◌, get_or, sym, ap, ◌∙◌, subst, arith}
+use Rattle.std.proofs.lemmas.List.{length-take-le, take_all}
+use Rattle.module_area.specs.Notes.{Notes, calls, keeps, after_close}
+use Rattle.module_area.specs.Control.{after_closes}
+use Rattle.module_area.proofs.ControlLemmas.{more_closed, none_closed, not_before}
+use Rattle.module_area.proofs.sessions.close_places.Goals as goal
+
+pub loop-place-init : goal.loop-place-init
+loop-place-init g c = record { area = c.requires.area; notes = none_closed (g.C.Cells.notes c.args.pass.now) c.args.s.0 }
+
+pub close-requires-clause-area : goal.close-requires-clause-area
+close-requires-clause-area g c = c.loop-place.invariant.area
+
+pub close-requires-clause-room : goal.close-requires-clause-room
+close-requires-clause-room g c = let e = ap calls c.loop-place.invariant.notes in let l = c.loop-place-test.true in let k = length-take-le c.loop-place.place-index c.args.places.now (omega arith) in let r = c.requires.room in omega (arith, e, l, k, r)
+
+pub close-requires-clause-keeper : goal.close-requires-clause-keeper
+close-requires-clause-keeper g c = let p = get_or c.args.places.now c.loop-place.place-index (record { 0 = 0 }) in ap (λ (n : Notes). keeps (g.C.Cells.plan c.args.cells.now) n p.0) c.loop-place.invariant.notes ∙ c.requires.each.keeper c.loop-place.place-index (record { 0 = 0 }) c.loop-place-test.true
+
+pub close-requires-clause-planted : goal.close-requires-clause-planted
+close-requires-clause-planted g c = let i = c.loop-place.place-index in let ps = c.args.places.now in let p = get_or ps i (record { 0 = 0 }) in let n0 = g.C.Cells.notes c.args.pass.now in
+    let e : (g.C.Cells.notes c.loop-place.pass).last p.0 ≡ n0.last p.0 = ap (λ (n : Notes). n.last p.0) c.loop-place.invariant.notes ∙ ap (λ (b : Bool). if b then 2 * c.args.s.0 else n0.last p.0) (not_before ps i (record { 0 = 0 }) c.requires.each.rising c.loop-place-test.true) in
+    subst (λ k. k + 1 ≡ 2 * c.args.s.0) (sym e) (c.requires.each.planted i (record { 0 = 0 }) c.loop-place-test.true)
+
+pub loop-place-preserved : goal.loop-place-preserved
+loop-place-preserved g c = let i = c.loop-place.place-index in let ps = c.args.places.now in let p = get_or ps i (record { 0 = 0 }) in record {
+  area = c.close.ensures.area;
+  notes = c.close.ensures.notes ∙ (ap (λ (n : Notes). after_close n c.args.s.0 p.0) c.loop-place.invariant.notes ∙ sym (more_closed (g.C.Cells.notes c.args.pass.now) c.args.s.0 ps i (record { 0 = 0 }) c.loop-place-test.true));
+}
+
+pub returns-clause-area : goal.returns-clause-area
+returns-clause-area g c = c.loop-place.invariant.area
+
+pub returns-clause-notes : goal.returns-clause-notes
+returns-clause-notes g c = let i = c.loop-place.place-index in let ps = c.args.places.now in c.loop-place.invariant.notes ∙ ap (after_closes (g.C.Cells.notes c.args.pass.now) c.args.s.0) (take_all i ps (let x = c.loop-place-test.false in omega arith))

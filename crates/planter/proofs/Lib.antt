@@ -1,4 +1,0 @@
-mod ControlLemmas
-mod PlantLemmas
-mod TieLemmas
-pub mod Laws

@@ -1,9 +1,0 @@
-use Rattle.std.proofs.Common.{◌≡◌}
-use Rattle.planter.specs.Planted.{planted_notes}
-use Rattle.planter.proofs.plant_all.Given as goal
-
-abbrev pub invariant-loop-i : goal.invariant-loop-i
-invariant-loop-i g l = record {
-  area : g.C.Cells.is_pass l.cells l.pass;
-  notes : g.C.Cells.notes l.pass ≡ planted_notes l.plan (g.C.Cells.notes l.initial.pass) l.i;
-}

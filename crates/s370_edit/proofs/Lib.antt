@@ -1,3 +1,0 @@
-mod Sources
-mod Workings
-mod Refusals

@@ -1,5 +1,0 @@
-use Rattle.table_combine.proofs.DifferenceLemmas.{PlacesPassed}
-use Rattle.table_combine.proofs.difference.places_difference.Given as goal
-
-abbrev pub invariant-loop-i : goal.invariant-loop-i
-invariant-loop-i l = PlacesPassed l.row l.a l.b l.i

@@ -1,8 +1,0 @@
-use Rattle.std.proofs.Common.{◌≤◌, length, min, arith}
-use Rattle.table_combine.proofs.UnionLemmas.{places_united}
-use Rattle.table_combine.proofs.union.unite_places.Goals as goal
-
-pub returns : goal.returns
-returns c =
-    let past : min (length c.loop-i.a) (length c.args.b.now) ≤ c.loop-i.i = omega (arith, c.loop-i.auto.a, c.min-i-end.ensures, c.loop-i-test.false) in
-    places_united c.loop-i.a c.args.b.now c.loop-i.i _ past c.loop-i.invariant

@@ -1,4 +1,0 @@
-pub mod Combine
-pub mod FaultView
-pub mod Files
-pub mod Meaning

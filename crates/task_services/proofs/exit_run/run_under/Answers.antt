@@ -1,0 +1,22 @@
+use Rattle.std.proofs.Common.{refl, sym, subst}
+use Rattle.task_run.specs.Aside.{IsAside}
+use Rattle.task_run.proofs.Laws.{aside_none, made_all, ran_tour}
+use Rattle.task_services.specs.Meaning.{with_exits}
+use Rattle.task_services.proofs.exit_run.run_under.Goals as goal
+
+pub returns-clause-ran : goal.returns-clause-ran
+returns-clause-ran g c =
+    let end = c.run-end.ensures in
+    let plan = c.places_len.ensures.plan in
+    let made = made_all _ _ _ _ _ _ plan g.C.Cells.notes _ _ _ _ _ _ _ _
+    (λ i turn v w took. record {
+      visited = g.C.Cells.notes took.visited;
+      made = took.made;
+      called = g.C.Cells.notes took.called;
+      answered = took.answered;
+      aside = subst (λ p. IsAside (g.C.Cells.notes took.called) (g.C.Cells.notes p)) (sym took.hooked) (aside_none _);
+    })
+    end.ends end.goes in
+    rw c.requires.plan (ran_tour with_exits _ _ _ _ _ _ plan (rw c.requires.plan at c.requires.tied) c.requires.first
+    (record { memory = end.memory; budget = refl; done = end.ends.most; tied = end.can.tied })
+    (rw c.requires.no_exit at made) (rw c.requires.no_exit at end.ends.ending) (rw c.requires.no_exit at end.ends.state))
