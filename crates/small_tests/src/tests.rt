@@ -1,4 +1,5 @@
-//! What no clause says of some crates: each file is of the one that its name tells.
+//! What no clause says of some crates: each file is of the one that its name tells,
+//! of_listing_buffer of listing_reader and of_marks_unions of marks_file.
 use cov_base::LINE_LIMIT;
 use listing_reader::ListingLines;
 use std::test::Fail;
