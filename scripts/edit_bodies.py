@@ -26,8 +26,8 @@ CONST = re.compile(r" *(?:pub(?:\([^)]*\))? )?const ")
 
 
 def bodies_in(lines: list[str]) -> Iterator[tuple[int, int, int]]:
-    """The functions of a file that have a body of more than one line, by the layout of `rt fmt`: the lines of their heads' beginning,
-    of the brace that opens the body, and of that which closes it."""
+    """The functions of a file that have a body in lines of its own, by the layout of `rt fmt`: the line in which their heads begin,
+    that of the brace that opens the body, and that of the one that closes it."""
     for first, line in enumerate(lines):
         item = ITEM.match(line)
         if not item or item[1] != "fn":

@@ -42,7 +42,8 @@ BY_A_CALL = re.compile(r"it calls|it passes|a call of")
 PLACE = re.compile(r"(?:note: )?(?:\./)?(\S+?):(\d+):\d+: (.*)")
 # Of a place: that a name is gone, that something isn't of its language, or what only follows from another fault.
 OF_A_NAME = re.compile(
-    r"is not in scope|has no field|has no `|\(nearest: |is no name|operand is missing|expected the end|cannot continue|was not admitted"
+    r"is not in scope|has no field|has no `|\(nearest: |is no name|was not admitted"
+    r"|operand is missing|expected the end|cannot continue"
 )
 # The prover's own limits, which it meets before it has a verdict.
 LIMIT = re.compile(r"could not tell|antt ran out of|outgrew the memory limit|stopped at the step limit")

@@ -42,7 +42,8 @@ top, (verb, crate, *words) = os.environ["TEST_TOP"], sys.argv[1:]
 only = [words[at + 1] for at, it in enumerate(words) if it == "--only"]
 name = os.path.basename(crate)
 where = "here" if crate.startswith(top + "/crates/") else "a room"
-assert verb == "check" and words[:3] == ["--jobs", "1", "--allow-holes"] and (where == "here" or os.path.isdir(f"{crate}/out/rlib/{name}.rlib"))
+assert verb == "check" and words[:3] == ["--jobs", "1", "--allow-holes"]
+assert where == "here" or os.path.isdir(f"{crate}/out/rlib/{name}.rlib")
 with open(f"{top}/asked", "a") as file:
     file.write(f"check {name} over {where}: {' '.join(only)}\\n")
 lines = [(path, number, line) for path in sorted(glob.glob("src/**/*.rt", recursive=True))
@@ -65,9 +66,9 @@ for it in only:
     hole = f"proofs/{file}/Proof.antt"
     assert not os.path.exists(hole) and os.path.exists("proofs/" + file.replace(last, "other") + "/Proof.antt"), hole
     word, answers = says[last], f"Rattle.{name}.proofs.{it.replace('::', '.')}.Answers"
-    found = {"gone": "`x`: `u` is not in scope", "spent": "`x`: antt ran out of the steps", "differs": "`x`: expected 1, found 2"}.get(word)
+    found = {"gone": "`u` is not in scope", "spent": "antt ran out of the steps", "differs": "expected 1, found 2"}.get(word)
     if found:
-        print(f"./proofs/{file}/Answers.antt:2:1: error: {found}")
+        print(f"./proofs/{file}/Answers.antt:2:1: error: `x`: {found}")
     called = word.removeprefix("calls_")
     print(f"fn {name}::{it}: " + (
         "no holes" if word in ("good", "same") else f"depends on a hole in `{answers}`" if word == "upon" else
