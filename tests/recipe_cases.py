@@ -1,4 +1,4 @@
-"""The commands of docs/MANY.md, docs/SUMMARY.md and the manual page, as they are written, and what these say comes of them."""
+"""The commands and samples of the users' pages, as they are written, and what these say comes of them."""
 from __future__ import annotations
 
 import contextlib
@@ -9,15 +9,24 @@ from typing import Iterator
 
 import many_cases
 from harness import COVERAGE, TOP, Ran, Tally, coverage, equal, folder, run, run_checks, well
+from jobs import COUNTED, HEADING, WIDE_HEADING, task
 from many_cases import read
-from readme_cases import blocks, commands, section, text_of
+from readme_cases import blocks, commands, section, text_of, usages_in
 
 MANY, SUMMARY, MANUAL = "docs/MANY.md", "docs/SUMMARY.md", "coverage.1"
+JOB, LISTING, MARKS, EVIDENCE, MACHINE = (f"docs/{it}.md" for it in ("JOB", "LISTING", "MARKS", "EVIDENCE", "MACHINE"))
 # The sections with commands, each of which is run here.
 SECTIONS = {
     MANY: ["What is a unit", "On one machine", "Which job reached a line", "By Slurm", "By GNU parallel over ssh", "Figures"],
     SUMMARY: ["Each night", "For build servers"],
 }
+# The parts with samples, each of which is compared with what comes, here or by program_cases' `where_interrupted`.
+SAMPLES = {
+    EVIDENCE: ["An example"], JOB: ["Services", "Data in other forms"], LISTING: ["# The listing"], MACHINE: ["How a task ends"],
+    MANY: ["What a job that failed leaves"], MARKS: ["An example"], SUMMARY: ["The summary", "What is left out", "The difference"],
+}
+# Files of README that stand for the words of a call within a page's text.
+FILES = {"JOB": "orders.job", "MARKS": "orders.marks", "EVIDENCE": "orders.evidence"}
 # Of these pages' commands the readers are those who change the program.
 OF_DEVELOPERS = ("docs/ARCHITECTURE.md", "docs/CHANGING.md", "docs/DECISIONS.md")
 # Examples' tasks. At 000036, where a record that is too short is branched for, the second's branches, and none of the first's does.
@@ -240,19 +249,88 @@ def manual() -> None:
     equal([it for it in others.replace(r"\&", "").splitlines() if it not in commands()], ["./coverage install /usr/local"])
 
 
-def all_pages() -> None:
-    """docs: commands stand in those sections alone whose commands are run"""
+def pages() -> list[str]:
+    """The users' pages but README."""
+    found = sorted(f"docs/{it}" for it in os.listdir(f"{TOP}/docs") if it.endswith(".md"))
+    return [it for it in found if it not in OF_DEVELOPERS]
+
+
+def sections(typed: bool) -> dict[str, list[str]]:
+    """The parts of pages that have commands, or samples, by their titles."""
     found: dict[str, list[str]] = {}
-    for page in sorted(f"docs/{it}" for it in os.listdir(f"{TOP}/docs") if it.endswith(".md")):
-        if page not in OF_DEVELOPERS:
-            titles = [it.partition("\n")[0] for it in re.split("^## ", text_of(page), flags=re.M) if blocks(it)]
-            found.update({page: titles} if titles else {})
-    equal(found, SECTIONS)
+    for page in pages():
+        titles = [it.partition("\n")[0] for it in re.split("^## ", text_of(page), flags=re.M) if blocks(it, typed)]
+        found.update({page: titles} if titles else {})
+    return found
+
+
+def all_pages() -> None:
+    """docs: commands and samples stand in those sections alone whose commands are run, and whose samples are compared"""
+    equal(sections(True), SECTIONS)
+    equal(sections(False), SAMPLES)
+
+
+def spans(page: str) -> list[str]:
+    """What stands as code within the text of a page."""
+    text = re.sub("^ {4,}.*$", "", text_of(page), flags=re.M)
+    return [it.replace("\n", " ") for it in re.findall("`([^`]+)`", text)]
+
+
+def within_text() -> None:
+    """docs: of calls within the text of a page those with a file are run, and the others have words that the help has"""
+    usages = usages_in(well(coverage("--help")).output.decode())
+    calls = sorted({it for page in pages() for it in spans(page) if it.startswith(("./coverage ", "cat "))})
+    with reader() as it:
+        it.makes("orders.cards", "orders.job", "orders.marks", "orders.evidence")
+        for call in calls:
+            words = call.split()
+            if words[0] == "cat":
+                command = "verify" if "EVIDENCE" in words else "show"
+                well(it.types(f"cat {' '.join(FILES[word] for word in words[1:])} | ./coverage {command} ORDERS"))
+            elif "<" in words:
+                well(it.types(call))
+            else:
+                own = [usage for usage in usages if usage.split()[0] == words[1]]
+                options = [word for word in words[2:] if word.startswith("-")]
+                assert own and all(any(option in usage for usage in own) for option in options), call
+        equal([call for call in calls if "<" in call or call.startswith("cat ")],
+              ["./coverage ends < orders.job", "./coverage run < orders.job", "cat JOB MARKS", "cat JOB MARKS EVIDENCE"])
+        equal(well(it.types("./coverage ends < orders.job")).output, well(it.types("./coverage services ends < orders.job")).output)
+
+
+def sample(page: str, title: str) -> str:
+    """The sample of a section, which has one."""
+    [found] = blocks(section(page, title), typed=False)
+    return found
+
+
+def samples() -> None:
+    """README.md and docs: samples of cards, listings and files are what the commands take and write"""
+    with reader() as it:
+        it.makes("orders.cards", "orders.job", "orders.report", "services.cards")
+        listing, tasks = blocks(text_of("README.md"), typed=False)
+        equal([line for line in listing.splitlines() if line not in it.has("orders.report").decode().splitlines()], [])
+        equal(tasks.encode(), it.has("examples/short.tasks"))
+        services = it.has("services.cards").decode().splitlines()
+        equal([line for line in sample(JOB, "Services").splitlines() if line not in services], [])
+        data = [span for span in spans(JOB) if re.match("DATA [0-9]", span)]
+        inputs = [*(span for span in spans(JOB) if re.match("INPUT [A-Z]", span)), *sample(JOB, "Data in other forms").splitlines()]
+        it.write("forms", "\n".join(["PHASE P", "TASK T 100000 4096 1 0", *data, *inputs, ""]).encode())
+        made = well(it.types("./coverage job forms")).output.decode().splitlines()
+        equal(made[3:-1], [
+            "DATA 16 00000800", "DATA 2048 0000000000000800", "DATA 128 0000002A", "INPUT C6C9D9E2E34040F0F0F1F2",
+            "INPUT E6C9C4C7C5E3404040404040", "INPUT 01200C", "INPUT FFFFFFFF",
+        ])
+    [headings] = blocks(text_of(LISTING), typed=False)
+    equal(headings.splitlines(), [HEADING.strip(), WIDE_HEADING.strip()])
+    for page, command, register in ((MARKS, "marks", 1), (EVIDENCE, "prove", 3)):
+        job = COUNTED.job(task(f"REG 1 {register:08X}"))
+        equal(bytes.fromhex(sample(page, "An example")), well(coverage(command, "S", data=job)).output)
 
 
 def run_all(tally: Tally) -> None:
     """Runs those of make where that is installed, and the others."""
-    run_checks(tally, [all_pages, manual, each_night, by_slurm, by_parallel])
+    run_checks(tally, [all_pages, within_text, samples, manual, each_night, by_slurm, by_parallel])
     if shutil.which("make"):
         run_checks(tally, [by_make, measured])
     else:
