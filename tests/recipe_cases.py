@@ -277,9 +277,9 @@ def spans(page: str) -> list[str]:
 
 
 def within_text() -> None:
-    """docs: of calls within the text of a page those with a file are run, and the others have words that the help has"""
+    """README.md and docs: of calls within the text those with a file are run, and the others have words that the help has"""
     usages = usages_in(well(coverage("--help")).output.decode())
-    calls = sorted({it for page in pages() for it in spans(page) if it.startswith(("./coverage ", "cat "))})
+    calls = sorted({it for page in ("README.md", *pages()) for it in spans(page) if it.startswith(("./coverage ", "cat "))})
     with reader() as it:
         it.makes("orders.cards", "orders.job", "orders.marks", "orders.evidence")
         for call in calls:
