@@ -71,7 +71,7 @@ fn add_shown(line: &mut ArrayVec<u8, 160>, shown: Shown)
     }
 }
 
-/// Adds a word, a blank, and the name of a task.
+/// Adds a word, which ends with its blank, and the name of a task.
 fn add_task(line: &mut ArrayVec<u8, 160>, word: &[u8], job: &Job, t: TaskNo)
     requires word { length word.now ≤ 8 }
     requires room { array_vec_len line.old ≤ 80 }
