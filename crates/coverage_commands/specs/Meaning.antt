@@ -192,8 +192,8 @@ pub record IsComplete (c : Command) (s : SourceChange) (status : ℕ) : Type 0 w
   pub verifies : (name bytes : List ℕ) → c ≡ Verify name → s.left ≡ Some bytes → HoldsTrue name bytes → (Rose s.faults s.later → ⊥) → (status ≡ 0) ⊎ (status ≡ 7)
 
 -- Ledger, sets and number of the areas are as they were for every command that runs no tasks over areas, after every refusal,
--- where the source has failed, and, of a command that reads a job, where none came whose listings match and whose sessions
--- are as was asked.
+-- where the source has failed, of a command that reads a job, where none came whose listings match and whose sessions are as
+-- was asked, and where words and bytes have another answer than 0.
 pub record IsUntouched (c : Command) (s : SourceChange) (a : AreasChange) (status : ℕ) : Type 0 where
   pub others : (way_of c).makes_areas ≡ false → a.after ≡ a.before
   pub refused : status ≢ 0 → status ≢ 7 → a.after ≡ a.before
