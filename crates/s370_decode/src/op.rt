@@ -3,7 +3,7 @@
 /// An operation of the machine, or how a code without one is refused.
 #[derive(Clone, Copy)]
 pub enum Op {
-    // Fixed point and loads.
+    // Fixed point with and without signs, loads and stores.
     LR,
     L,
     LH,
