@@ -171,8 +171,8 @@ impl Tables {
         Some(PlaceNo(entry - 1))
     }
 
-    /// Whether the place behind that of number `last`, where there is one, begins at the address, and a task doesn't return there,
-    /// by the instructions from `last` on. Found by one load: it is mostly the next one that a task comes to.
+    /// True only where the place behind that of number `last` begins at the address, and a task doesn't return there, by the
+    /// instructions from `last` on. Found by one load: it is mostly the next one that a task comes to.
     #[inline(always)]
     pub fn comes_next(&self, last: u32, kept: &[Kept], a: Addr) -> bool
         requires codes { AreAtPlaces self.now }
@@ -185,7 +185,7 @@ impl Tables {
         kept[1].key == a.get()
     }
 
-    /// The instructions from place n on, where that is a place which begins at the address, and a task doesn't return there.
+    /// The instructions from place n on, only where that is a place which begins at the address, and a task doesn't return there.
     #[inline(always)]
     pub fn kept_at(&self, n: u32, a: Addr) -> Option<&[Kept]>
         requires codes { AreAtPlaces self.now }
