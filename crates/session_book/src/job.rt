@@ -110,7 +110,7 @@ fn task_index(tasks: &[TaskCard], name: &Name) -> Option<usize>
 }
 
 impl Job {
-    /// The job of these cards, which keep the rules.
+    /// The job of these cards, which keep the rules of `IsJob`: it has none of services, which the reader keeps alone.
     pub fn new(cards: JobCards) -> Job
         requires { IsJob cards }
         ensures { result ≡ cards }
