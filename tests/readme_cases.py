@@ -114,7 +114,7 @@ def trouble() -> None:
     names = sorted(os.listdir(f"{TOP}/scripts"))
     said = "\n".join(map(text_of, ["coverage", *(f"scripts/{it}" for it in names if it.endswith((".py", ".bash")))]))
     warned = first_cells(section("docs/TROUBLE.md", "What `module` warns of"))
-    assert len(warned) == 8, warned
+    assert len(warned) == 9, warned
     for message in first_cells(section("docs/TROUBLE.md", "Before anything runs")) + warned:
         for part in re.split(r"\b[A-Z]+\b", message):
             assert part in said, f"no script says {part!r}"

@@ -238,6 +238,24 @@ def sections_again() -> None:
     warns([HEADING, Line(1, "000000", "", "WORK     DSECT").text(), Line(1, "000000", "", "         DS    4F").text(), *(it.text() for it in PROGRAM)])
 
 
+def other_assemblies() -> None:
+    """module: instruction lines with other bytes than the object, as of another assembly; where most differ no range is told"""
+    def told(line: int, count: int, of: int, listed: str, at: int, has: str) -> str:
+        what = f"{count} of the {of} instruction lines {'has' if count == 1 else 'have'} other bytes than the object"
+        here = f"here {listed} at {at:06X}, where the object has {has}"
+        return f"line {line}: {what}, {here}; the program refuses such a listing: take both of one assembly"
+
+    other = [replace(it, code="4110 0006") if it.number == 5 else it for it in PROGRAM]
+    for is_wide in (False, True):
+        for before in ("", " "):
+            warns(in_pages(other, is_wide, before), told(11, 1, 5, "41100006", 2, "41100005"))
+    missing = f"00000E-00000F: 2 bytes {BARE}: statement 8 is missing behind line 13"
+    warns(in_pages([it for it in other if it.number != 8]), told(11, 1, 4, "41100006", 2, "41100005"), missing)
+    warns(in_pages(PROGRAM), told(6, 5, 5, "1BFF", 0, "0A00"), data=bytes.fromhex("0A00") * 20)
+    warns(in_pages(PROGRAM), told(11, 4, 5, "41100005", 2, "nothing"), data=bytes.fromhex("1BFF"))
+    refused(made(in_pages(other), DECK, "--strict"), 2)
+
+
 def changed(number: int, change: Callable[[str], str], is_wide: bool = False, before: str = "") -> list[str]:
     """The listing with the line of a statement changed."""
     own = next(it for it in PROGRAM if it.number == number).text(is_wide)
@@ -326,4 +344,6 @@ def calls_of_macros() -> None:
     warns([HEADING, CALLS[0].text(), *(it.text() for it in CALLS[7:])], f"000000-000005: 6 bytes {BARE}: statements 2 to 7 are missing behind line 2", data=data)
 
 
-CHECKS = [said_by_module, nothing_to_warn_of, words_of_titles, usings_in_the_columns_of_numbers, calls_of_macros, constants_of_other_lengths, lost_lines, not_printed, sections_again, columns_off]
+CHECKS = [said_by_module, nothing_to_warn_of, words_of_titles, usings_in_the_columns_of_numbers, calls_of_macros,
+          constants_of_other_lengths, lost_lines, not_printed,
+          sections_again, other_assemblies, columns_off]
