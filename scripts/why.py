@@ -25,6 +25,7 @@ INPUT_LIMIT, SHOWN = 16_777_216, 3
 FACTS = {"R": "was executed", "W": "branched", "S": "fell through"}
 NAME = re.compile(r"[A-Z@#$][A-Z@#$0-9]{0,7}")
 OPTIONS = ("--must-return",)
+ITEMS = ("FETCH", "MARK", "LIFT", "DO", "PLANT", "CLOSE", "GO")
 # The commands that the word `services` may stand before.
 SERVED = ("run", "marks", "show", "table", "count", "ends")
 OTHER_TEXTS = ((b"COVERAGE ", "a report or another output of ./coverage"), (b"S370COV", "a marks file"), (b"S370EVD", "evidence"))
@@ -41,11 +42,12 @@ class Module:
 
 @dataclass
 class Job:
-    """What a job's cards say, as far as they can be read: its modules, its sessions with the names of theirs, and the lines up
-    to its ENDJOB card."""
+    """What a job's cards say, as far as they can be read: its modules, its sessions with the names of theirs, its tasks, and the
+    lines up to its ENDJOB card."""
 
     modules: list[Module] = field(default_factory=list)
     sessions: dict[str, list[str]] = field(default_factory=dict)
+    tasks: list[str] = field(default_factory=list)
     lines: int = 0
     has_end: bool = False
 
@@ -79,6 +81,8 @@ def read_job(data: bytes) -> Job:
             at += count
         elif words[0] == "SESSION" and len(words) > 1:
             job.sessions[words[1]] = words[4:] if words[2:3] == ["BY"] else words[2:]
+        elif words[0] == "TASK" and len(words) > 1:
+            job.tasks.append(words[1])
         job.has_end = words == ["ENDJOB"]
     job.lines = at
     return job
@@ -276,7 +280,26 @@ def bad_schedule(line: str, data: Optional[bytes], _words: list[str]) -> list[st
         return ["a schedule is of a job of exactly one phase"]
     if number > len(lines) - (not lines[-1]):
         return [f"the input ends with line {number - 1}, before ENDSCHED"]
-    return [f"line {number} of the input is {shown(lines[number - 1])}"]
+    job = read_job(data)
+    said = f"line {number} of the input is {shown(lines[number - 1])}"
+    if b"ENDSCHED" in lines[job.lines : number - 1]:
+        return [said, "ENDSCHED, which ends a schedule, stands before it"]
+    return [said, item_fault(lines[number - 1].decode("latin-1"), job.tasks)]
+
+
+def item_fault(line: str, tasks: list[str]) -> str:
+    """Why a line is no item of a schedule; where it is one the event can't be then."""
+    word, _, name = line.partition(" ")
+    if word not in ITEMS:
+        meant = f": did you mean {word.upper()}?" if word.upper() in (*ITEMS, "ENDSCHED") else ""
+        return f"{shown(word.encode('latin-1'))} is none of {', '.join(ITEMS)} and ENDSCHED{meant}"
+    if not name:
+        return f"behind {word} stands no task"
+    if name not in tasks:
+        near = difflib.get_close_matches(name.strip().upper(), tasks, 1)
+        what = f"behind {word} and one blank stands {shown(name.encode('latin-1'))}, which is no task of the job"
+        return what + (f": did you mean {near[0]}?" if near else "")
+    return f"it is an item, but there is no such event of the task {name} behind the items before it"
 
 
 def bad_marks(line: str, data: Optional[bytes], words: list[str]) -> list[str]:
@@ -296,6 +319,37 @@ def bad_marks(line: str, data: Optional[bytes], words: list[str]) -> list[str]:
         if rest.startswith(start_of) and start_of != b"S370COV":
             return [f"what stands there is {what}"]
     return []
+
+
+def bad_evidence(line: str, data: Optional[bytes], words: list[str]) -> list[str]:
+    """What stands where evidence is bad, and whether it has an entry for each fact of the marks."""
+    found = re.fullmatch(r"BAD EVIDENCE OFFSET ([0-9]+)", line)
+    if data is None or not found:
+        return []
+    start = len(b"\n".join(data.split(b"\n")[: read_job(data).lines])) + 1
+    length, facts = marks_in(data[start:])
+    rest, at = data[start + length :], int(found[1])
+    if not rest:
+        return [f"nothing stands behind the marks: cat JOB MARKS EVIDENCE | ./coverage {' '.join(words)}"]
+    if at == 0:
+        others = ((b"COVERJOB", "a job"), *OTHER_TEXTS)
+        return [f"what stands there is {what}" for start_of, what in others if rest.startswith(start_of)]
+    entries, cut = divmod(len(rest) - 8, 7)
+    if not cut and entries == facts:
+        return []
+    has = ("1 entry" if entries == 1 else f"{entries} entries") + (f" and {cut} more byte{'s' * (cut > 1)}" if cut else "")
+    return [f"the evidence has {has}, and the marks have {facts} fact{'s' * (facts != 1)}: each fact has one entry"]
+
+
+def marks_in(data: bytes) -> tuple[int, int]:
+    """How many bytes the marks file has with which the data begin (docs/MARKS.md), and how many facts."""
+    at, facts = 20 if data.startswith(b"S370COV2") else 8, 0
+    modules, at = int.from_bytes(data[at : at + 2], "big"), at + 2
+    for _ in range(modules):
+        count, at = int.from_bytes(data[at + 16 : at + 20], "big"), at + 20
+        facts += sum(bin(it).count("1") for it in data[at + 8 : at + 9 * count : 9])
+        at += 9 * count
+    return at, facts
 
 
 def refuted(line: str, data: Optional[bytes], words: list[str]) -> list[str]:
@@ -357,7 +411,8 @@ def other_words(usages: dict[str, str], words: list[str]) -> list[str]:
 
 
 REASONS: dict[int, Callable[[str, Optional[bytes], list[str]], list[str]]] = {
-    2: bad_job, 3: mismatch, 9: bad_schedule, 10: bad_marks, 11: other_table, 12: bad_listing, 13: no_session, 16: refuted,
+    2: bad_job, 3: mismatch, 9: bad_schedule, 10: bad_marks, 11: other_table, 12: bad_listing, 13: no_session,
+    15: bad_evidence, 16: refuted,
 }
 
 

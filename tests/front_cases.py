@@ -25,6 +25,8 @@ NO_COMMAND = "the words are none of its commands: ./coverage alone says which th
 NO_JOB = "no job goes on with that line, or the input ends before its job does: docs/JOB.md"
 OTHER_BYTES = "the module has other bytes there than its listing says: docs/TROUBLE.md"
 NO_MARKS = "the bytes there are no marks file, or one that is cut short or damaged: docs/MARKS.md"
+NO_EVIDENCE = "the bytes behind the marks are no evidence of this job and these marks, or are cut short or damaged: " \
+              "docs/EVIDENCE.md"
 REFUTED = "marks, evidence and what the job's tasks show do not agree at that row and fact: docs/EVIDENCE.md"
 ANEW = "the module was assembled anew between the two: marks are of one assembly alone"
 OTHER_MARKS = "the marks are of other modules, or of another assembly of them: docs/MARKS.md"
@@ -67,6 +69,18 @@ def meant(words: list[str], *said: str, files: tuple[str, ...] = ()) -> Row:
 def of_job(name: str, words: list[str], data: bytes, status: int, line: str, *said: str) -> Row:
     """An input that is refused with a line, which standard error repeats with its meaning, and what is said further."""
     return Row(name, words, data, status, f"{line}\n".encode(), [f"{line}: {said[0]}", *said[1:]])
+
+
+NO_ITEM_THERE = 'that line is no item of a schedule, or none that is possible there: docs/JOB.md, "Schedules"'
+NO_ITEM = "is none of FETCH, MARK, LIFT, DO, PLANT, CLOSE, GO and ENDSCHED"
+ITEM_FAULTS = (
+    ("GO A\nfetch A\nENDSCHED\n", 14, f"'fetch' {NO_ITEM}: did you mean FETCH?"),
+    ("COVERAGE REPORT\n", 13, f"'COVERAGE' {NO_ITEM}"),
+    ("GO\nENDSCHED\n", 13, "behind GO stands no task"),
+    ("GO  A\nENDSCHED\n", 13, "behind GO and one blank stands ' A', which is no task of the job: did you mean A?"),
+    ("GO B\nENDSCHED\n", 13, "behind GO and one blank stands 'B', which is no task of the job"),
+    ("GO A\nENDSCHED\nGO A\n", 15, "ENDSCHED, which ends a schedule, stands before it"),
+)
 
 
 def words_meant() -> list[Row]:
@@ -144,8 +158,17 @@ def cards_refused() -> list[Row]:
         of_job("a controlled session that is counted", ["count"], job.replace(b"SESSION S M", b"SESSION S BY A M"), 14, "CONTROLLED S",
                "a task opens and closes that session, so what it shows hangs on how tasks race: docs/JOB.md"),
         of_job("an item that isn't possible", ["replay"], FIRST.job(more="GO A\nMARK A\nENDSCHED\n"), 9,
-               "BAD SCHEDULE LINE 14", 'that line is no item of a schedule, or none that is possible there: docs/JOB.md, "Schedules"', "line 14 of the input is 'MARK A'"),
+               "BAD SCHEDULE LINE 14", NO_ITEM_THERE, "line 14 of the input is 'MARK A'",
+               "it is an item, but there is no such event of the task A behind the items before it"),
+        *(item(*it) for it in ITEM_FAULTS),
     ]
+
+
+def item(schedule: str, number: int, said: str) -> Row:
+    """A schedule behind a job of 12 lines, whose line of that number is none of its items."""
+    line = (schedule.split("\n")[number - 13]).encode("unicode_escape").decode()
+    return of_job(f"a schedule with {line!r}", ["replay"], FIRST.job(more=schedule), 9, f"BAD SCHEDULE LINE {number}", NO_ITEM_THERE,
+                  f"line {number} of the input is '{line}'", said)
 
 
 def listings_refused() -> list[Row]:
@@ -201,6 +224,7 @@ def marks_refused() -> list[Row]:
     at = other.index(b"M       ")
     base, size = other[: at + 8] + (0x180000).to_bytes(4, "big") + other[at + 12 :], FIRST.marks_file(1, 1, 1)
     named = other.replace(b"M       ", b"N       ")
+    evidence = b"S370EVD1" + bytes(7)
     row = {"M": "4D2020202020202000100000", "N": "4E2020202020202000100000"}
     second = "{}00000006{}".format(row["M"], "00000002")
 
@@ -236,7 +260,14 @@ def marks_refused() -> list[Row]:
         of_job("marks that are cut", ["combine"], marks[:-1], 10, f"BAD MARKS OFFSET {len(marks) - 1}", NO_MARKS,
                "the input ends there: a file is cut short"),
         of_job("no evidence behind marks", ["verify", "S"], job + COUNTED.marks_file(4, 1), 15, "BAD EVIDENCE OFFSET 0",
-               "the bytes behind the marks are no evidence of this job and these marks, or are cut short or damaged: docs/EVIDENCE.md"),
+               NO_EVIDENCE, "nothing stands behind the marks: cat JOB MARKS EVIDENCE | ./coverage verify S"),
+        of_job("a report for evidence", ["verify", "S"], job + COUNTED.marks_file(4, 1) + FIRST_REPORT, 15, "BAD EVIDENCE OFFSET 0",
+               NO_EVIDENCE, "what stands there is a report or another output of ./coverage"),
+        of_job("evidence of fewer facts", ["verify", "S"], job + COUNTED.marks_file(6, 1) + evidence, 15, "BAD EVIDENCE OFFSET 15",
+               NO_EVIDENCE, "the evidence has 1 entry, and the marks have 3 facts: each fact has one entry"),
+        of_job("evidence with bytes behind it", ["verify", "S"], job + COUNTED.marks_file(0, 1) + evidence + b"xy", 15,
+               "BAD EVIDENCE OFFSET 15", NO_EVIDENCE,
+               "the evidence has 1 entry and 2 more bytes, and the marks have 1 fact: each fact has one entry"),
     ]
 
 
