@@ -167,8 +167,8 @@ def cards_refused() -> list[Row]:
 def item(schedule: str, number: int, said: str) -> Row:
     """A schedule behind a job of 12 lines, whose line of that number is none of its items."""
     line = (schedule.split("\n")[number - 13]).encode("unicode_escape").decode()
-    return of_job(f"a schedule with {line!r}", ["replay"], FIRST.job(more=schedule), 9, f"BAD SCHEDULE LINE {number}", NO_ITEM_THERE,
-                  f"line {number} of the input is '{line}'", said)
+    return of_job(f"a schedule with {line!r}", ["replay"], FIRST.job(more=schedule), 9, f"BAD SCHEDULE LINE {number}",
+                  NO_ITEM_THERE, f"line {number} of the input is '{line}'", said)
 
 
 def listings_refused() -> list[Row]:
