@@ -6,7 +6,7 @@ import re
 from dataclasses import dataclass, field
 from typing import NoReturn, Optional
 
-from command import Fault
+from command import CALLED, Fault
 from listing import heading_of, object_code
 
 REPORT, REPLAY, SHOW, COUNTS, ENDS = (b"COVERAGE " + it for it in (b"REPORT", b"REPLAY", b"SHOW", b"COUNT", b"ENDS"))
@@ -37,6 +37,16 @@ ENDED = re.compile(rb"TASK " + NAME + b" " + ENDING + rb" COUNT ([0-9]{1,9}) AT 
 UNLISTED = re.compile(rb"UNLISTED " + NAME + rb" ([0-9]{1,10})")
 DRAINED = re.compile(rb"DRAINED COUNT ([0-9]{1,9})|NOT DRAINED")
 MARKED = re.compile(rb"[\^:>V& ] ")
+# What may stand in place of a report, by how it begins.
+REFUSALS = (
+    "USAGE: |BAD (JOB|SCHEDULE|MARKS|EVIDENCE|LISTING) |MISMATCH |TOO LARGE |READ FAULT|NO MEMORY|OWN SVC |OTHER TABLE |"
+    "NO SESSION |CONTROLLED |REFUTED "
+)
+OTHERS = (
+    (re.compile(b"COVERJOB "), f"a job: {CALLED} run makes the report"),
+    (re.compile(b"S370COV[12]"), f"a marks file: {CALLED} show makes a report of it behind its job"),
+    (re.compile(REFUSALS.encode()), "a refusal, which has come in place of a report"),
+)
 # How many facts a mark stands for, and in words.
 FACTS = {"^": 0, ":": 1, ">": 1, "V": 1, "&": 2}
 MARKS = {
@@ -196,7 +206,8 @@ class Reader:
         if not self.lines or self.lines[0] not in TITLES:
             has = shown(self.lines[0]) if self.lines else "nothing"
             titles = "COVERAGE REPORT, COVERAGE REPLAY, COVERAGE SHOW or COVERAGE COUNT"
-            self.refuse(f"no report, which begins {titles}: {has}")
+            kinds = [what for start, what in OTHERS if self.lines and start.match(self.lines[0])]
+            self.refuse(f"no report, which begins {titles}: {has}{', ' if kinds else ''}{''.join(kinds)}")
 
     def part(self) -> Report:
         """A report or counts, from the first line to END."""
