@@ -286,7 +286,8 @@ class Reader:
     def check_observed(self, module: str, by: str, before: list[str]) -> None:
         """Refuses a module that the session can't observe."""
         if module not in self.modules:
-            raise Broken(f"there is no module {module}")
+            known = f"those of the job are {', '.join(self.modules)}" if self.modules else "they stand first, and there is none yet"
+            raise Broken(f"there is no module {module}; {known}")
         if module in before:
             raise Broken(f"it names the module {module} twice")
         other = next((it for it in self.observed if module in it.modules and (not by or it.by != by)), None)
@@ -325,8 +326,8 @@ class Reader:
     def put_data(self, offset: int, count: int) -> None:
         """Notes so many bytes of private storage."""
         if offset + count > self.private:
-            bytes_there = f"{count} {'byte' if count == 1 else 'bytes'} at {offset}"
-            raise Broken(f"{bytes_there} end behind {self.private}, the private storage of the task {self.task}")
+            bytes_there = f"1 byte at {offset} ends" if count == 1 else f"{count} bytes at {offset} end"
+            raise Broken(f"{bytes_there} behind {self.private}, the private storage of the task {self.task}")
         self.last = "DATA"
 
     def read_input(self, digits: str) -> None:

@@ -167,7 +167,8 @@ BROKEN = [
     # SESSION.
     (1, "SESSION S M", "SESSION: SESSION stands behind PHASE, and there is none yet"),
     (2, "PHASE P/SESSION S", "SESSION: 1 word behind SESSION; the card is SESSION name module .."),
-    (2, "PHASE P/SESSION S M", "SESSION: there is no module M"),
+    (2, "PHASE P/SESSION S M", "SESSION: there is no module M; they stand first, and there is none yet"),
+    (6, MODULE + "PHASE P/SESSION S N", "SESSION: there is no module N; those of the job are M"),
     (6, MODULE + "PHASE P/SESSION S M M", "SESSION: it names the module M twice"),
     (6, MODULE + "PHASE P/SESSION S m", f"SESSION: the module m is in lower case; {NAME}"),
     (7, MODULE + PHASE + "SESSION T M", "SESSION: the session S of line 6 has the module M in this phase already"),
@@ -207,7 +208,7 @@ BROKEN = [
     (4, "PHASE P/" + TASK + "INPUT 00/DATA 0 00", "DATA: DATA behind INPUT; a task's cards are REG, then DATA, then INPUT"),
     (4, "PHASE P/" + TASK + "INPUT 00/REG 0 00000000", "REG: REG behind INPUT; a task's cards are REG, then DATA, then INPUT"),
     (3, "PHASE P/" + TASK + "DATA 15 0102", "DATA: 2 bytes at 15 end behind 16, the private storage of the task A"),
-    (3, "PHASE P/" + TASK + "DATA 16 01", "DATA: 1 byte at 16 end behind 16, the private storage of the task A"),
+    (3, "PHASE P/" + TASK + "DATA 16 01", "DATA: 1 byte at 16 ends behind 16, the private storage of the task A"),
     (3, "PHASE P/" + TASK + "DATA 00 01", f"DATA: the offset 00 has a leading zero; {NUMBER}"),
     (3, "PHASE P/" + TASK + "DATA 0", "DATA: 1 word behind DATA; the card is DATA offset bytes"),
     (3, "PHASE P/" + TASK + "INPUT 0", f"INPUT: the bytes have 1 digit, an odd number; {BYTES}"),
@@ -244,7 +245,7 @@ def files_of_a_job() -> None:
                 file.write(cards)
         for names, text in (
             ("a.cards b.cards", "b.cards: line 1: MODULE: the module of a.cards: line 1 has the name M; names of one kind differ over the whole job"),
-            ("c.tasks a.cards", "c.tasks: line 2: SESSION: there is no module M"),
+            ("c.tasks a.cards", "c.tasks: line 2: SESSION: there is no module M; they stand first, and there is none yet"),
             ("a.cards c.tasks b.cards", "b.cards: line 1: MODULE: a module behind the phase P of c.tasks: line 1; modules stand before all phases"),
             ("a.cards c.tasks d.tasks", "d.tasks: line 2: TASK: the task of c.tasks: line 3 has the name A; names of one kind differ over the whole job"),
             ("part c.tasks", "c.tasks: line 1: PHASE: the module M of part: line 1 has 2 of its 4 bytes, and its other TEXT cards come first"),
