@@ -147,7 +147,7 @@ def second_section(rows: list[Row]) -> list[str]:
     for it in rows:
         operation = it.of_statement()
         if operation in SECTIONS:
-            if has_bytes and it.location == 0 and it.name() not in names:
+            if has_bytes and it.location == 0 and (has_ended or it.name() not in names):
                 cause = "a second assembly behind the END of the first" if has_ended else "the assembler's option NOTHREAD"
                 advice = "give each assembly's listing to a module of its own" if has_ended else "assemble with THREAD, its default"
                 name = it.name() or "without a name"

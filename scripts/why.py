@@ -186,9 +186,11 @@ def overlap(lines: list[bytes], number: int) -> list[str]:
     if not met:
         return []
     heading = listing.heading_of(lines)
-    begun = [it for it in lines[met[0].line : number] if heading and operation(it, heading) in ("CSECT", "RSECT", "START")]
+    between = [operation(it, heading) for it in lines[met[0].line : number]] if heading else []
     said = [f"its instruction stands where that of line {met[0].line} does, at {met[0].location:06X}"]
-    if begun:
+    if "END" in between:
+        said.append("an END stands between them: the listing stands there twice, or that of a second assembly behind the first")
+    elif {"CSECT", "RSECT", "START"} & set(between):
         said.append(
             "a section begins between them, and its locations begin again: assemble with the option THREAD,"
             " or each section as a module"

@@ -184,6 +184,7 @@ def listings_refused() -> list[Row]:
 
     past = [*FIRST.listing()[:3], FIRST.listing()[3].replace("000006", "000008")]
     twice = [HEADING, *(it for it in listing_of(FIRST.code)[1:]), f"{'':34}    4 NEXT     CSECT", *listing_of(FIRST.code)[1:]]
+    again = [*twice[:4], f"{'':34}    4          END", *twice[4:]]
     return [
         differs("a listing of which one line differs", FIRST, "0 41100006 LA, 4 1A11 AR, 6 07FE BR",
                 "MISMATCH M LINE 2 LOC 000000 LISTING 41100006 MODULE 41100005", have(1, 3),
@@ -208,6 +209,11 @@ def listings_refused() -> list[Row]:
                "its instruction stands where that of line 2 does, at 000000",
                "a section begins between them, and its locations begin again: assemble with the option THREAD,"
                " or each section as a module"),
+        of_job("a listing that stands there twice", ["run"], FIRST.job(listing=again), 12, "BAD LISTING M LINE 7 OVERLAP",
+               "that line stands where an earlier one does, as in a second section from 000000 on: docs/LISTING.md",
+               "line 7 of M's listing is '000000 4110 0005                      1          LA'",
+               "its instruction stands where that of line 2 does, at 000000",
+               "an END stands between them: the listing stands there twice, or that of a second assembly behind the first"),
         of_job("a listing past its module", ["run"], FIRST.job(listing=past), 12, "BAD LISTING M LINE 4 OUTSIDE",
                "that line's instruction ends past the module, as in the listing of a larger one: docs/LISTING.md",
                "line 4 of M's listing is '000008 07FE                           3          BR'", "the module has 8 bytes"),

@@ -232,6 +232,9 @@ def sections_again() -> None:
     warns([*plain, *(it.text() for it in [*other, replace(last, number=30)])], f"line 15: {told}")
     second = "a second assembly behind the END of the first; the program refuses instructions that meet so as OVERLAP; give each assembly's listing to a module of its own"
     warns([*plain, last.text(), *(it.text() for it in other)], f"line 16: the section OTHER begins at 0, where lines before have bytes: {second}")
+    # The same assembly a second time.
+    once = [*plain, last.text()]
+    warns([*once, *once[1:]], f"line 16: the section PROG begins at 0, where lines before have bytes: {second}")
     # A section that goes on, and one behind a dummy section.
     again = [replace(other[0], source="PROG     CSECT"), replace(last, number=30)]
     warns([*plain, *(it.text() for it in again)])
