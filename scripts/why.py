@@ -317,6 +317,8 @@ def bad_marks(line: str, data: Optional[bytes], words: list[str]) -> list[str]:
         return [f"nothing stands behind the job: cat JOB MARKS | ./coverage {' '.join(words)}"]
     if not rest:
         return ["the input ends there: a file is cut short"]
+    if words[:1] != ["combine"] and rest.startswith(b"S370COV") and found[1] != "0":
+        return ["it is a second marks file, and one stands behind a job: ./coverage union FILES > MARKS makes one of several"]
     for start_of, what in ((b"COVERJOB", "a job"), *OTHER_TEXTS):
         if rest.startswith(start_of) and start_of != b"S370COV":
             return [f"what stands there is {what}"]

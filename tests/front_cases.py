@@ -258,6 +258,8 @@ def marks_refused() -> list[Row]:
                "the marks: the instruction at 000000, of 4 bytes, that begins 4620", ANEW),
         of_job("no marks behind a job", ["show", "S"], job, 10, "BAD MARKS OFFSET 0", NO_MARKS,
                "nothing stands behind the job: cat JOB MARKS | ./coverage show S"),
+        of_job("two marks files behind a job", ["show", "S"], job + 2 * COUNTED.marks_file(4, 1), 10, "BAD MARKS OFFSET 60",
+               NO_MARKS, "it is a second marks file, and one stands behind a job: ./coverage union FILES > MARKS makes one of several"),
         of_job("a job for marks", ["combine"], job, 10, "BAD MARKS OFFSET 0", NO_MARKS, "what stands there is a job"),
         refuted("a branch that marks lack", COUNTED.marks_file(2, 1), (0, 3), "ROW 1 FACT S",
                 "row 1 is location 000000 of M, line 2 of its listing, 'BCT'; the fact is whether it fell through"),
