@@ -236,7 +236,7 @@ explain() {
 hint() {
   local input=0
   case $status:$from$line in
-  1:* | [239]:?* | 1[0-356]:?*) ;;
+  1:* | [2-49]:?* | 1[0-356]:?*) ;;
   *) return 0 ;;
   esac
   if [ -z "$from" ]; then exec {input}</dev/null; fi

@@ -18,7 +18,7 @@ from typing import Callable, Optional
 
 import listing
 from assembler.operations import OPERATIONS
-from cards import Broken
+from cards import LIMITS, Broken
 from job_rules import NO_SERVICES, Place, Reader
 
 INPUT_LIMIT, SHOWN = 16_777_216, 3
@@ -272,6 +272,19 @@ def card_fault(data: bytes, number: int, has_services: bool) -> list[str]:
     return []
 
 
+def too_large(line: str, data: Optional[bytes], words: list[str]) -> list[str]:
+    """The line that passes a limit, by how much, and the limit."""
+    found = re.fullmatch(r"TOO LARGE ([A-Z]+) LINE ([0-9]+)", line)
+    if data is None or not found:
+        return []
+    number = int(found[2])
+    own = data.split(b"\n")[number - 1]
+    said = card_fault(data, number, words[0] == "services")
+    if found[1] == "LINE":
+        said = [f"a listing line of {len(own) - own.endswith(bytes([13]))} bytes: the limit LINE is {LIMITS['LINE']}"]
+    return [f"line {number} of the input is {shown(own)}", *said]
+
+
 def bad_schedule(line: str, data: Optional[bytes], _words: list[str]) -> list[str]:
     """The line that is no item of the schedule, or none that is possible."""
     found = re.fullmatch(r"BAD SCHEDULE LINE ([0-9]+)", line)
@@ -408,6 +421,8 @@ def other_words(usages: dict[str, str], words: list[str]) -> list[str]:
     if files and " < " in usages[first]:
         call = " ".join(["./coverage", *front, first, *(others or names)])
         return [f"did you mean {call} < {files[0]} ?" if len(files) == 1 else f"did you mean cat {' '.join(files)} | {call} ?"]
+    if first == "trial" and len(words) == 3:
+        return ["NUMBER is 0 to 4294967295, and TASKS 1 to 64, in digits without a sign and without a leading zero"]
     if len(words) == 2 and names == ["NAME"] and not NAME.fullmatch(words[1]):
         meant = f": did you mean {words[1].upper()}?" if NAME.fullmatch(words[1].upper()) else ""
         return [f"{words[1]} is no name: 1 to 8 of A to Z, @, #, $ and, behind the first, digits{meant}"]
@@ -415,7 +430,7 @@ def other_words(usages: dict[str, str], words: list[str]) -> list[str]:
 
 
 REASONS: dict[int, Callable[[str, Optional[bytes], list[str]], list[str]]] = {
-    2: bad_job, 3: mismatch, 9: bad_schedule, 10: bad_marks, 11: other_table, 12: bad_listing, 13: no_session,
+    2: bad_job, 3: mismatch, 4: too_large, 9: bad_schedule, 10: bad_marks, 11: other_table, 12: bad_listing, 13: no_session,
     15: bad_evidence, 16: refuted,
 }
 

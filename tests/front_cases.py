@@ -87,6 +87,7 @@ def words_meant() -> list[Row]:
     """Files where there should be '<', words that are nearly a command, and names that are none."""
     job, both = ("cust.job",), ("cust.job", "a.marks")
     served = "behind services stands none but run, marks, show, table, count, ends"
+    trial = "NUMBER is 0 to 4294967295, and TASKS 1 to 64, in digits without a sign and without a leading zero"
     name = "1 to 8 of A to Z, @, #, $ and, behind the first, digits"
     return [
         meant(["run", "cust.job"], "did you mean ./coverage run < cust.job ?", files=job),
@@ -99,6 +100,8 @@ def words_meant() -> list[Row]:
         meant(["run", "cust.job"], "its call is ./coverage run < JOB > REPORT"),
         meant(["marks"], "its call is ./coverage marks NAME < JOB > MARKS"),
         meant(["trial", "7"], "its call is ./coverage trial NUMBER TASKS > SUMMARY"),
+        meant(["trial", "7", "65"], trial),
+        meant(["trial", "07", "8"], trial),
         meant(["marks", "orders"], f"orders is no name: {name}: did you mean ORDERS?"),
         meant(["verify", "2ND"], f"2ND is no name: {name}"),
         meant(["runs"], "did you mean ./coverage run < JOB > REPORT ?"),
@@ -152,7 +155,11 @@ def cards_refused() -> list[Row]:
         bad("a line behind a job with services", job + b"GO A\n", 13, "line 13 stands behind ENDJOB, where services marks takes nothing: 'GO A'",
             words=["services", "marks", "S"]),
         of_job("a limit", ["run"], job.replace(b" 16 100 0", b" 16 50000001 0"), 4, "TOO LARGE BUDGET LINE 11",
-               'the input passes a limit: docs/JOB.md, "Limits"'),
+               'the input passes a limit: docs/JOB.md, "Limits"', "line 11 of the input is 'TASK A 100000 16 50000001 0'",
+               "the budget is 50000001: the limit BUDGET is 50000000"),
+        of_job("a long line of a listing", ["run"], FIRST.job(listing=[HEADING, "x" * 151]), 4, "TOO LARGE LINE LINE 6",
+               'the input passes a limit: docs/JOB.md, "Limits"', f"line 6 of the input is '{'x' * 60}..'",
+               "a listing line of 151 bytes: the limit LINE is 150"),
         of_job("a session's name that is nearly one", ["marks", "ORDER"], job.replace(b"SESSION S M", b"SESSION ORDERS M"), 13,
                "NO SESSION ORDER", "no session of the job has that name: docs/JOB.md", "the job's sessions are ORDERS", "did you mean ORDERS?"),
         of_job("a controlled session that is counted", ["count"], job.replace(b"SESSION S M", b"SESSION S BY A M"), 14, "CONTROLLED S",
