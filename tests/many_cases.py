@@ -72,6 +72,7 @@ def holds(out: str, numbers: Iterable[int], failing: Iterable[int] = (), missing
     equal(read(f"{out}/summary").decode(), summary(numbers, failing, missing))
     unions = [it for it in ("union.marks", "lacking.marks") if os.path.exists(f"{out}/{it}")]
     equal(unions, [] if not ended else ["union.marks" if ended == numbers else "lacking.marks"])
+    assert unions == ["union.marks"] or not os.path.exists(f"{out}/union.html"), "the page of an earlier union stands"
     if unions:
         equal(read(f"{out}/{unions[0]}") == marks(ended), True)
     equal([it for it in os.listdir(out) if ".part" in it or it.startswith(".gather")], [])
@@ -165,6 +166,10 @@ def failing_by_make() -> None:
         well(make(at))
         equal(calls(at), {"marks": 2, "page": 1, "show": 1, "union": 1})
         holds(f"{at}/out", numbers)
+        put_jobs(f"{at}/jobs", [17], FAILING)
+        make(at, "-k")
+        gather(at, 3)
+        holds(f"{at}/out", numbers, [17])
 
 
 def gather(at: str, status: int) -> Ran:
