@@ -1,8 +1,29 @@
--- What planting and closing a session at several places need.
-use Rattle.std.specs.Prelude.{◌≡◌, ℕ, ◌+◌, ◌*◌, ◌<◌, true, List, length, All, AllPairs}
+-- What calls of an area ask of a pass.
+use Rattle.std.specs.Prelude.{◌≡◌, ℕ, ◌+◌, ◌-◌, ◌*◌, ◌^◌, ◌<◌, true, Some, List, length, All, AllPairs}
+use Rattle.cov_base.specs.declared.facts.Fact.{Fact}
 use Rattle.cov_base.specs.declared.numbers.PlaceNo.{PlaceNo}
-use Rattle.module_area.specs.Meaning.{PlanView, is_over, is_controlled}
-use Rattle.module_area.specs.Notes.{Notes, keeps}
+use Rattle.cov_base.specs.FactKind.{is_of_kind}
+use Rattle.module_area.specs.Meaning.{PlanView, kind_at, is_over, is_controlled}
+use Rattle.module_area.specs.Notes.{Notes, calls, is_working, keeps}
+
+-- The pass is one of the area, with room for a call, and its task has not ended. It has just fetched the session's breakpoint
+-- at the place, whose kind has the fact.
+pub record CanMark (is_pass : Type 0) (plan : PlanView) (n : Notes) (s p : ℕ) (f : Fact) : Type 0 where
+  pub area : is_pass
+  pub working : is_working n ≡ true
+  pub place : p < length plan.places
+  pub room : calls n < 2 ^ 62
+  pub session : 0 < s
+  pub pending : n.pending ≡ Some (p, 2 * s - 1)
+  pub kind : is_of_kind (kind_at plan p) f ≡ true
+
+-- the pass is one of the area, with room for a call, and keeps the place
+pub record CanTag (is_pass : Type 0) (plan : PlanView) (n : Notes) (s p : ℕ) : Type 0 where
+  pub area : is_pass
+  pub place : p < length plan.places
+  pub room : calls n < 2 ^ 62
+  pub session : 0 < s
+  pub keeper : keeps plan n p ≡ true
 
 -- a pass may plant the session at each of these places, once
 pub record MayPlant (plan : PlanView) (n : Notes) (s : ℕ) (places : List PlaceNo) : Type 0 where

@@ -1,9 +1,9 @@
 -- How a pass stands to the control of its task.
-use Rattle.std.specs.Prelude.{◌≡◌, ℕ, ◌+◌, ◌*◌, ◌<◌, ◌≤◌, Bool, true, not, ◌&&◌, nat_eq, Option, Some, None, length, take, drop, All, AllPairs}
+use Rattle.std.specs.Prelude.{◌≡◌, ℕ, ◌+◌, ◌*◌, ◌^◌, ◌<◌, ◌≤◌, Bool, true, not, ◌&&◌, nat_eq, Option, Some, None, length, take, drop, All, AllPairs}
 use Rattle.std.specs.List.{list_any}
 use Rattle.cov_base.specs.declared.numbers.SessNo.{SessNo}
 use Rattle.module_area.specs.Meaning.{PlanView, ControlledView, ControlView, places_under, has_session}
-use Rattle.module_area.specs.Notes.{Notes}
+use Rattle.module_area.specs.Notes.{Notes, calls}
 
 -- The controlled session is the pass's own: its task's, or for the root that of a task whose pass isn't out.
 abbrev pub keeps_session_as : PlanView → Option ℕ → (ℕ → Bool) → ℕ → Bool
@@ -22,3 +22,11 @@ pub record IsTied (plan : PlanView) (n : Notes) (c : ControlView) : Type 0 where
   pub opened : (s : SessNo) → c.opened ≡ Some s → has_session (take c.next c.sessions) s.0 ≡ true
   pub planted : (s : SessNo) → c.opened ≡ Some s → All (λ p. n.last p.0 + 1 ≡ 2 * s.0) (places_under plan s.0)
   pub later : All (λ s. All (λ p. n.last p.0 + 1 < 2 * s.0) (places_under plan s.0)) (drop c.next c.sessions)
+
+-- What opening and closing a session ask: the pass is one of the area of this plan, with room for the calls of a session, and
+-- is tied to the control.
+pub record CanChange (is_pass : Type 0) (of_area own : PlanView) (n : Notes) (c : ControlView) : Type 0 where
+  pub area : is_pass
+  pub plan : of_area ≡ own
+  pub room : calls n < 2 ^ 61 + 2 ^ 16
+  pub tied : IsTied own n c

@@ -4,7 +4,7 @@ ghost use Rattle.cov_base.specs.declared.limits.TheConstants.{PLACE_LIMIT};
 ghost use Rattle.module_area.specs.Notes.{calls};
 ghost use Rattle.module_area.specs.Meaning.{to_open, opening, closing};
 ghost use Rattle.module_area.specs.Control.{after_plants, after_closes, after_open, after_end};
-ghost use Rattle.module_area.specs.Tied.{IsTied};
+ghost use Rattle.module_area.specs.Tied.{CanChange, IsTied};
 ghost use Rattle.module_area.specs.Allowed.{MayPlant, MayClose};
 
 use crate::control::Control;
@@ -54,10 +54,7 @@ fn to_open(control: &Control) -> Option<SessNo>
 /// number. Else it does nothing. The pass is tied to the control, before and after; its tally sums to less than
 /// 2^61 + 2^16 before.
 pub fn open_next<C: Cells>(cells: &C, pass: &mut C::Pass, plan: &Plan, control: &mut Control)
-    requires area { C.is_pass cells.now pass.old }
-    requires plan { C.plan cells.now ≡ plan.now }
-    requires room { calls (C.notes pass.old) < 2 ^ 61 + 2 ^ 16 }
-    requires tied { IsTied plan.now (C.notes pass.old) control.old }
+    requires can { CanChange (C.is_pass cells.now pass.old) (C.plan cells.now) plan.now (C.notes pass.old) control.old }
     ensures area { C.is_pass cells.now pass.new }
     ensures tied { IsTied plan.now (C.notes pass.new) control.new }
     ensures bears { (C.notes pass.new).bears ≡ (C.notes pass.old).bears }
@@ -75,10 +72,7 @@ pub fn open_next<C: Cells>(cells: &C, pass: &mut C::Pass, plan: &Plan, control: 
 /// Closes the open session of the control, if there is one: closes it at each of its places, in order of number. The
 /// pass is tied to the control, before and after; its tally sums to less than 2^61 + 2^16 before.
 pub fn close_open<C: Cells>(cells: &C, pass: &mut C::Pass, plan: &Plan, control: &mut Control)
-    requires area { C.is_pass cells.now pass.old }
-    requires plan { C.plan cells.now ≡ plan.now }
-    requires room { calls (C.notes pass.old) < 2 ^ 61 + 2 ^ 16 }
-    requires tied { IsTied plan.now (C.notes pass.old) control.old }
+    requires can { CanChange (C.is_pass cells.now pass.old) (C.plan cells.now) plan.now (C.notes pass.old) control.old }
     ensures area { C.is_pass cells.now pass.new }
     ensures tied { IsTied plan.now (C.notes pass.new) control.new }
     ensures bears { (C.notes pass.new).bears ≡ (C.notes pass.old).bears }

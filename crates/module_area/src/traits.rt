@@ -1,12 +1,12 @@
 //! The cells of an area: each call is one step on one word.
-ghost use Rattle.std.specs.Prelude.{◌≡◌, ◌+◌, ◌-◌, ◌*◌, ◌<◌, ◌≤◌, ◌^◌, length, true, false, IsSome};
-ghost use Rattle.std.specs.declared.option.Option.TheVariants.{Some, None};
+ghost use Rattle.std.specs.Prelude.{◌≡◌, ◌+◌, ◌*◌, ◌<◌, ◌≤◌, ◌^◌, length, true, false, IsSome};
+ghost use Rattle.std.specs.declared.option.Option.TheVariants.{None};
 ghost use Rattle.cov_base.specs.Meaning.{FactSet};
-ghost use Rattle.cov_base.specs.FactKind.{is_of_kind};
-ghost use Rattle.module_area.specs.Meaning.{PlanView, kind_at, is_over, is_controlled};
+ghost use Rattle.module_area.specs.Meaning.{PlanView, is_over, is_controlled};
 ghost use Rattle.module_area.specs.Rule.{has_task};
-ghost use Rattle.module_area.specs.Notes.{Notes, calls, after_fetch, after_mark, after_lift, after_plant, after_close, after_split, split_notes, after_join, bearer, own_number, is_working, keeps, after_boundary, after_note, after_read, IsAnswer, IsFound, IsWord};
+ghost use Rattle.module_area.specs.Notes.{Notes, calls, after_fetch, after_mark, after_lift, after_plant, after_close, after_split, split_notes, after_join, bearer, own_number, is_working, after_boundary, after_note, after_read, IsAnswer, IsFound, IsWord};
 ghost use Rattle.module_area.specs.Again.{MarksAgain};
+ghost use Rattle.module_area.specs.Allowed.{CanMark, CanTag};
 
 use crate::cells::Cell;
 use cov_base::{Bits, Fact, PlaceNo, SessNo, TaskNo};
@@ -40,13 +40,7 @@ pub trait Cells {
     /// Adds the fact, one of the place's kind, to the session's set at the place, where the pass has just fetched the
     /// session's breakpoint, and answers the set as it was, which the notes have as the one that it found.
     fn mark(&self, pass: &mut Self::Pass, s: SessNo, place: PlaceNo, fact: Fact) -> Bits
-        requires area { is_pass self.now pass.old }
-        requires working { is_working (notes pass.old) ≡ true }
-        requires place { place.0 < length (plan self.now).places }
-        requires room { calls (notes pass.old) < 2 ^ 62 }
-        requires session { 0 < s.0 }
-        requires pending { (notes pass.old).pending ≡ Some (place.0, 2 * s.0 - 1) }
-        requires kind { is_of_kind (kind_at (plan self.now) place.0) fact ≡ true }
+        requires can { CanMark (is_pass self.now pass.old) (plan self.now) (notes pass.old) s.0 place.0 fact }
         ensures area { is_pass self.now pass.new }
         ensures found { IsFound (plan self.now) (notes pass.old) s.0 place.0 result }
         ensures notes { notes pass.new ≡ after_mark (plan self.now) (notes pass.old) s.0 place.0 fact result };
@@ -55,13 +49,7 @@ pub trait Cells {
     /// it does nothing, as where cells have no quick way to tell.
     #[inline(always)]
     fn mark_again(&self, pass: &mut Self::Pass, s: SessNo, place: PlaceNo, fact: Fact) -> bool
-        requires area { is_pass self.now pass.old }
-        requires working { is_working (notes pass.old) ≡ true }
-        requires place { place.0 < length (plan self.now).places }
-        requires room { calls (notes pass.old) < 2 ^ 62 }
-        requires session { 0 < s.0 }
-        requires pending { (notes pass.old).pending ≡ Some (place.0, 2 * s.0 - 1) }
-        requires kind { is_of_kind (kind_at (plan self.now) place.0) fact ≡ true }
+        requires can { CanMark (is_pass self.now pass.old) (plan self.now) (notes pass.old) s.0 place.0 fact }
         ensures area { is_pass self.now pass.new }
         ensures again { MarksAgain (plan self.now) (notes pass.old) s.0 place.0 fact result (notes pass.new) }
     {
@@ -83,12 +71,8 @@ pub trait Cells {
     /// Plants the breakpoint of a session over the place, by the pass that keeps the place, once: its last tag there
     /// is below the session's. A whole session's place is the root's.
     fn plant(&self, pass: &mut Self::Pass, s: SessNo, place: PlaceNo)
-        requires area { is_pass self.now pass.old }
-        requires place { place.0 < length (plan self.now).places }
-        requires room { calls (notes pass.old) < 2 ^ 62 }
-        requires session { 0 < s.0 }
+        requires can { CanTag (is_pass self.now pass.old) (plan self.now) (notes pass.old) s.0 place.0 }
         requires over { is_over (plan self.now) s.0 place.0 ≡ true }
-        requires keeper { keeps (plan self.now) (notes pass.old) place.0 ≡ true }
         requires later { (notes pass.old).last place.0 + 1 < 2 * s.0 }
         ensures area { is_pass self.now pass.new }
         ensures notes { notes pass.new ≡ after_plant (notes pass.old) s.0 place.0 };
@@ -96,12 +80,8 @@ pub trait Cells {
     /// Ends the controlled session at the place, by the pass that keeps the place and planted the session there last:
     /// the original stands again, under an even tag.
     fn close(&self, pass: &mut Self::Pass, s: SessNo, place: PlaceNo)
-        requires area { is_pass self.now pass.old }
-        requires place { place.0 < length (plan self.now).places }
-        requires room { calls (notes pass.old) < 2 ^ 62 }
-        requires session { 0 < s.0 }
+        requires can { CanTag (is_pass self.now pass.old) (plan self.now) (notes pass.old) s.0 place.0 }
         requires controlled { is_controlled (plan self.now) s.0 place.0 ≡ true }
-        requires keeper { keeps (plan self.now) (notes pass.old) place.0 ≡ true }
         requires planted { (notes pass.old).last place.0 + 1 ≡ 2 * s.0 }
         ensures area { is_pass self.now pass.new }
         ensures notes { notes pass.new ≡ after_close (notes pass.old) s.0 place.0 };

@@ -1,10 +1,10 @@
 //! The supervisor calls by which a task opens and closes its sessions.
-ghost use Rattle.std.specs.Prelude.{◌≡◌, ◌+◌, ◌<◌, ◌≤◌, ◌^◌};
+ghost use Rattle.std.specs.Prelude.{◌≡◌, ◌+◌, ◌≤◌};
 ghost use Rattle.cov_base.specs.declared.limits.TheConstants.{PLACE_LIMIT};
 ghost use Rattle.module_area.specs.Notes.{calls};
 ghost use Rattle.module_area.specs.Meaning.{control_after};
 ghost use Rattle.module_area.specs.Control.{after_call};
-ghost use Rattle.module_area.specs.Tied.{IsTied};
+ghost use Rattle.module_area.specs.Tied.{CanChange, IsTied};
 ghost use Rattle.task_run.specs.Called.{call_at};
 
 use module_area::{Cells, Control, Plan, close_open, open_next};
@@ -12,10 +12,7 @@ use module_area::{Cells, Control, Plan, close_open, open_next};
 /// Does what the call of this number asks of the sessions that the task controls: 4 opens, 5 closes.
 #[inline(never)]
 fn change<C: Cells>(cells: &C, pass: &mut C::Pass, plan: &Plan, control: &mut Control, call: u16)
-    requires area { C.is_pass cells.now pass.old }
-    requires plan { C.plan cells.now ≡ plan.now }
-    requires room { calls (C.notes pass.old) < 2 ^ 61 + 2 ^ 16 }
-    requires tied { IsTied plan.now (C.notes pass.old) control.old }
+    requires can { CanChange (C.is_pass cells.now pass.old) (C.plan cells.now) plan.now (C.notes pass.old) control.old }
     ensures area { C.is_pass cells.now pass.new }
     ensures tied { IsTied plan.now (C.notes pass.new) control.new }
     ensures control { control.new ≡ control_after control.old (Some call) }
@@ -39,10 +36,7 @@ pub(crate) fn answer<C: Cells>(
     control: &mut Control,
     half: u16,
 )
-    requires area { C.is_pass cells.now pass.old }
-    requires plan { C.plan cells.now ≡ plan.now }
-    requires room { calls (C.notes pass.old) < 2 ^ 61 + 2 ^ 16 }
-    requires tied { IsTied plan.now (C.notes pass.old) control.old }
+    requires can { CanChange (C.is_pass cells.now pass.old) (C.plan cells.now) plan.now (C.notes pass.old) control.old }
     ensures area { C.is_pass cells.now pass.new }
     ensures tied { IsTied plan.now (C.notes pass.new) control.new }
     ensures control { control.new ≡ control_after control.old (call_at half) }

@@ -1,4 +1,4 @@
-use Rattle.std.proofs.Common.{◌≡◌, ◌+◌, ◌*◌, Bool, if◌then◌else◌, get_or, sym, ap, ◌∙◌, subst, arith}
+use Rattle.std.proofs.Common.{◌≡◌, ◌+◌, ◌*◌, Bool, if◌then◌else◌, get_or, take, sym, ap, ◌∙◌, subst, arith}
 use Rattle.std.proofs.lemmas.List.{length-take-le, take_all}
 use Rattle.module_area.specs.Notes.{Notes, calls, keeps, after_close}
 use Rattle.module_area.specs.Control.{after_closes}
@@ -8,14 +8,16 @@ use Rattle.module_area.proofs.sessions.close_places.Goals as goal
 pub loop-place-init : goal.loop-place-init
 loop-place-init g c = record { area = c.requires.area; notes = none_closed (g.C.Cells.notes c.args.pass.now) c.args.s.0 }
 
-pub close-requires-clause-area : goal.close-requires-clause-area
-close-requires-clause-area g c = c.loop-place.invariant.area
-
-pub close-requires-clause-room : goal.close-requires-clause-room
-close-requires-clause-room g c = let e = ap calls c.loop-place.invariant.notes in let l = c.loop-place-test.true in let k = length-take-le c.loop-place.place-index c.args.places.now (omega arith) in let r = c.requires.room in omega (arith, e, l, k, r)
-
-pub close-requires-clause-keeper : goal.close-requires-clause-keeper
-close-requires-clause-keeper g c = let p = get_or c.args.places.now c.loop-place.place-index (record { 0 = 0 }) in ap (λ (n : Notes). keeps (g.C.Cells.plan c.args.cells.now) n p.0) c.loop-place.invariant.notes ∙ c.requires.each.keeper c.loop-place.place-index (record { 0 = 0 }) c.loop-place-test.true
+pub close-requires-clause-can : goal.close-requires-clause-can
+close-requires-clause-can g c =
+    let i = c.loop-place.place-index in let l = c.loop-place-test.true in let p = get_or c.args.places.now i (record { 0 = 0 }) in
+    let e = ap calls {y = after_closes (g.C.Cells.notes c.args.pass.now) c.args.s.0 (take c.loop-place.place-index c.args.places.now)} c.loop-place.invariant.notes in let k = length-take-le i c.args.places.now (omega arith) in let r = c.requires.room in record {
+      area = c.loop-place.invariant.area;
+      place = c.requires.each.of_plan i (record { 0 = 0 }) l;
+      room = omega (arith, e, l, k, r);
+      session = c.requires.session;
+      keeper = ap (λ (n : Notes). keeps (g.C.Cells.plan c.args.cells.now) n p.0) c.loop-place.invariant.notes ∙ c.requires.each.keeper i (record { 0 = 0 }) l;
+    }
 
 pub close-requires-clause-planted : goal.close-requires-clause-planted
 close-requires-clause-planted g c = let i = c.loop-place.place-index in let ps = c.args.places.now in let p = get_or ps i (record { 0 = 0 }) in let n0 = g.C.Cells.notes c.args.pass.now in

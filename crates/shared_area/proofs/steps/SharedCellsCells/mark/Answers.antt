@@ -9,11 +9,11 @@ use Rattle.shared_area.proofs.steps.SharedCellsCells.mark.Goals as goal
 pub mark_set-found-requires-clause-may : goal.mark_set-found-requires-clause-may
 mark_set-found-requires-clause-may c = let pass = c.args.pass.now in record {
   live = pass.live;
-  place = c.requires.place;
-  session = c.requires.session;
-  in_plan = session_within c.args.self.now.plan c.args.s.0 c.args.place.0 pass.seat.me.0 c.requires.area.2 c.requires.pending;
-  pending = c.requires.pending;
-  kind = c.requires.kind;
+  place = c.requires.can.place;
+  session = c.requires.can.session;
+  in_plan = session_within c.args.self.now.plan c.args.s.0 c.args.place.0 pass.seat.me.0 c.requires.can.area.2 c.requires.can.pending;
+  pending = c.requires.can.pending;
+  kind = c.requires.can.kind;
 }
 
 pub invariant_of-pass : goal.invariant_of-pass
@@ -23,10 +23,10 @@ invariant_of-pass c = let pass = c.args.pass.now in
 
 pub returns-clause-area : goal.returns-clause-area
 returns-clause-area c = let v = c.args.pass.now.seat.me.0 in let plan = c.args.self.now.plan in (
-  c.mark_set-found.ensures.area ∙ c.requires.area.0,
-  c.mark_set-found.ensures.slots ∙ c.requires.area.1,
-  same_within plan v _ (marking plan c.args.s.0 c.args.place.0 c.args.fact c.mark_set-found.result v) c.mark_set-found.ensures.told.after refl c.requires.area.2,
-  same_task plan c.args.pass.now.word v _ (marking plan c.args.s.0 c.args.place.0 c.args.fact c.mark_set-found.result v) c.mark_set-found.ensures.told.after refl c.requires.area.3,
+  c.mark_set-found.ensures.area ∙ c.requires.can.area.0,
+  c.mark_set-found.ensures.slots ∙ c.requires.can.area.1,
+  same_within plan v _ (marking plan c.args.s.0 c.args.place.0 c.args.fact c.mark_set-found.result v) c.mark_set-found.ensures.told.after refl c.requires.can.area.2,
+  same_task plan c.args.pass.now.word v _ (marking plan c.args.s.0 c.args.place.0 c.args.fact c.mark_set-found.result v) c.mark_set-found.ensures.told.after refl c.requires.can.area.3,
 )
 
 pub returns-clause-found : goal.returns-clause-found
