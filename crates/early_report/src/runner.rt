@@ -3,6 +3,7 @@ ghost use Rattle.std.specs.Prelude.{◌≡◌, ◌+◌, ◌*◌, ◌<◌, ◌^�
 ghost use Rattle.std.specs.List.{list_any};
 ghost use Rattle.module_area.specs.Notes.{is_working, own_number};
 ghost use Rattle.module_area.specs.Rule.{IsPlan};
+ghost use Rattle.task_run.specs.First.{CanBegin};
 ghost use Rattle.task_run.specs.Meaning.{solo, is_opened};
 ghost use Rattle.task_run.specs.Ran.{RanOver};
 ghost use Rattle.early_report.specs.DrainView.{DrainView};
@@ -200,9 +201,8 @@ fn run_steps<C: Drains>(
     drains: &mut Vec<Drain>,
     task: &mut Task<'_>,
 ) -> Ending
-    requires area { C.is_pass cells.now pass.old }
-    requires plan { C.plan cells.now ≡ plan.now }
-    requires start { IsAtStart (C.plan cells.now) plan.now (C.notes pass.old) tables.now task.old drains.old.items }
+    requires can { CanBegin (C.is_pass cells.now pass.old) (C.plan cells.now) plan.now (C.notes pass.old) tables.now task.old }
+    requires start { IsAtStart plan.now (C.notes pass.old) drains.old.items }
     ensures area { C.is_pass cells.now pass.new }
     ensures is_plan { IsPlan plan.now }
     ensures ran { RanOver C.Cells solo cells.now pass.old pass.new task.old task.new result }
@@ -240,9 +240,8 @@ fn run_early<C: Drains>(
     drains: &mut Vec<Drain>,
     task: &mut Task<'_>,
 ) -> Ending
-    requires area { C.is_pass cells.now pass.old }
-    requires plan { C.plan cells.now ≡ plan.now }
-    requires start { IsAtStart (C.plan cells.now) plan.now (C.notes pass.old) tables.now task.old drains.old.items }
+    requires can { CanBegin (C.is_pass cells.now pass.old) (C.plan cells.now) plan.now (C.notes pass.old) tables.now task.old }
+    requires start { IsAtStart plan.now (C.notes pass.old) drains.old.items }
     ensures area { C.is_pass cells.now pass.new }
     ensures ran { RanOver C.Cells solo cells.now pass.old pass.new task.old task.new result }
     ensures told { HasToldSettled (C.plan cells.now) (C.notes pass.new) plan.now task.old task.new drains.new.items }

@@ -1,12 +1,9 @@
 //! What runs a task, and keeps of it what it wants beside the task itself.
-ghost use Rattle.std.specs.Prelude.{◌≡◌, ℕ, ◌+◌, ◌<◌, ◌^◌, true, IfOk};
-ghost use Rattle.std.specs.declared.option.Option.TheVariants.{None};
+ghost use Rattle.std.specs.Prelude.{ℕ, IfOk};
 ghost use Rattle.cov_base.specs.Meaning.{FactSet};
-ghost use Rattle.module_area.specs.Notes.{Notes, bearer, calls, is_working, split_notes};
+ghost use Rattle.module_area.specs.Notes.{Notes, bearer, split_notes};
 ghost use Rattle.module_area.specs.Meaning.{PlanView};
-ghost use Rattle.module_area.specs.Tied.{IsTied};
-ghost use Rattle.task_run.specs.Steps.{memory_at};
-ghost use Rattle.task_run.specs.First.{IsOver};
+ghost use Rattle.task_run.specs.First.{CanBegin};
 ghost use Rattle.task_run.specs.Meaning.{Course, solo};
 ghost use Rattle.task_run.specs.Ran.{RanOver};
 ghost use Rattle.task_run.specs.Settled.{OnceSettled};
@@ -50,14 +47,7 @@ pub trait Runner<C: Cells> {
         extra: &mut Self::Extra,
         task: &mut Task<'_>,
     ) -> Ending
-        requires area { C.is_pass cells.now pass.old }
-        requires plan { C.plan cells.now ≡ plan.now }
-        requires over { IsOver (C.plan cells.now) (memory_at task.old.bench) tables.now }
-        requires room { calls (C.notes pass.old) < 2 ^ 60 }
-        requires working { is_working (C.notes pass.old) ≡ true }
-        requires fresh { task.old.done ≡ 0 }
-        requires tied { IsTied (C.plan cells.now) (C.notes pass.old) task.old.bench.control }
-        requires first { (task.old.bench.control.next ≡ 0) × (task.old.bench.control.opened ≡ None) }
+        requires can { CanBegin (C.is_pass cells.now pass.old) (C.plan cells.now) plan.now (C.notes pass.old) tables.now task.old }
         requires begins { begins plan.now (bearer (C.notes pass.old)) extra.old (C.notes pass.old) }
         ensures area { C.is_pass cells.now pass.new }
         ensures ran { RanOver C.Cells (course self.now) cells.now pass.old pass.new task.old task.new result }

@@ -1,10 +1,7 @@
 //! A task's run under an exit.
-ghost use Rattle.std.specs.Prelude.{◌≡◌, ◌+◌, ◌<◌, ◌^◌, true};
+ghost use Rattle.std.specs.Prelude.{◌≡◌};
 ghost use Rattle.std.specs.declared.option.Option.TheVariants.{None};
-ghost use Rattle.module_area.specs.Notes.{calls, is_working};
-ghost use Rattle.module_area.specs.Tied.{IsTied};
-ghost use Rattle.task_run.specs.Steps.{memory_at};
-ghost use Rattle.task_run.specs.First.{IsOver};
+ghost use Rattle.task_run.specs.First.{CanBegin};
 ghost use Rattle.task_run.specs.Ran.{RanOver};
 ghost use Rattle.task_services.specs.Meaning.{with_exits};
 
@@ -23,14 +20,7 @@ pub fn run_under<C: Cells>(
     exit: &mut Exit,
     task: &mut Task<'_>,
 ) -> Ending
-    requires area { C.is_pass cells.now pass.old }
-    requires plan { C.plan cells.now ≡ plan.now }
-    requires over { IsOver (C.plan cells.now) (memory_at task.old.bench) tables.now }
-    requires room { calls (C.notes pass.old) < 2 ^ 60 }
-    requires working { is_working (C.notes pass.old) ≡ true }
-    requires fresh { task.old.done ≡ 0 }
-    requires tied { IsTied (C.plan cells.now) (C.notes pass.old) task.old.bench.control }
-    requires first { (task.old.bench.control.next ≡ 0) × (task.old.bench.control.opened ≡ None) }
+    requires can { CanBegin (C.is_pass cells.now pass.old) (C.plan cells.now) plan.now (C.notes pass.old) tables.now task.old }
     requires no_exit { exit.old.at ≡ None }
     ensures area { C.is_pass cells.now pass.new }
     ensures ran { RanOver C.Cells with_exits cells.now pass.old pass.new task.old task.new result }

@@ -20,9 +20,9 @@ returns-clause-told g c = λ sets settled.
     let plan : PlanView = c.args.plan.now in
     let old : Notes = g.C.Cells.notes c.args.pass.now in
     let mid : Notes = g.C.Cells.notes c.run_steps-ending.new.pass in
-    let known : AreSettled plan mid sets = rw c.requires.plan at (subst (λ (n : Notes). AreSettled (g.C.Cells.plan c.args.cells.now) n sets) c.boundary.ensures.notes settled) in
+    let known : AreSettled plan mid sets = rw c.requires.can.plan at (subst (λ (n : Notes). AreSettled (g.C.Cells.plan c.args.cells.now) n sets) c.boundary.ensures.notes settled) in
     record {
-      sessions = c.run_steps-ending.ensures.sessions ∙ first_sessions plan old c.args.task.now.bench.control c.args.drains.now.items c.run_steps-ending.ensures.is_plan (rw c.requires.plan at c.requires.start.tied) (bears_of old c.requires.start.working) c.requires.start.unused;
+      sessions = c.run_steps-ending.ensures.sessions ∙ first_sessions plan old c.args.task.now.bench.control c.args.drains.now.items c.run_steps-ending.ensures.is_plan (rw c.requires.can.plan at c.requires.can.tied) (bears_of old c.requires.can.working) c.requires.start.unused;
       each = λ k d l. told plan mid sets _ _ (get_or c.run_steps-ending.new.drains.items k d) c.run_steps-ending.ensures.is_plan known (c.run_steps-ending.ensures.stand k d l);
     }
 

@@ -13,7 +13,7 @@ use Rattle.early_report.proofs.runner.run_steps.Goals.{After-run-end}
 
 pub run-end-requires-clause-set : goal.run-end-requires-clause-set
 run-end-requires-clause-set g c =
-    followed_none _ _ _ _ c.places_len.ensures.plan c.requires.start.working c.requires.start.number c.open_session.ensures refl (ap (λ v. v.items) c.replace.ensures.value ∙ c.requires.start.unused)
+    followed_none _ _ _ _ c.places_len.ensures.plan c.requires.can.working c.requires.start.number c.open_session.ensures refl (ap (λ v. v.items) c.replace.ensures.value ∙ c.requires.start.unused)
 
 pub returns-clause-ran : goal.returns-clause-ran
 returns-clause-ran g c =
@@ -28,7 +28,7 @@ returns-clause-ran g c =
       aside = aside_behind _ _ took.hooked.looking;
     })
     end.ends end.goes in
-    rw c.requires.plan (ran_tour solo _ _ _ _ _ _ plan (rw c.requires.plan at c.requires.start.tied) c.requires.start.first
+    rw c.requires.can.plan (ran_tour solo _ _ _ _ _ _ plan (rw c.requires.can.plan at c.requires.can.tied) c.requires.can.first
     (record { memory = end.memory; budget = refl; done = end.ends.most; tied = end.can.tied })
     made end.ends.ending end.ends.state)
 
@@ -46,7 +46,7 @@ so g c =
       control = took.answered.control;
       follows = took.hooked;
     })
-    c.requires.start.working c.open_session.ensures first end.ends end.goes)
+    c.requires.can.working c.open_session.ensures first end.ends end.goes)
 
 pub returns-clause-sessions : goal.returns-clause-sessions
 returns-clause-sessions g c = (so g (goal.at.returns-clause-sessions g c).After-run-end).kept

@@ -19,6 +19,6 @@ returns-clause-ran g c =
       aside = subst (λ p. IsAside (g.C.Cells.notes took.called) (g.C.Cells.notes p)) (sym took.hooked) (aside_none _);
     })
     end.ends end.goes in
-    rw c.requires.plan (ran_tour solo _ _ _ _ _ _ plan (rw c.requires.plan at c.requires.tied) c.requires.first
+    rw c.requires.can.plan (ran_tour solo _ _ _ _ _ _ plan (rw c.requires.can.plan at c.requires.can.tied) c.requires.can.first
     (record { memory = end.memory; budget = refl; done = end.ends.most; tied = end.can.tied })
     made end.ends.ending end.ends.state)

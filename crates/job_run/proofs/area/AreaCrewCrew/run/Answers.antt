@@ -13,32 +13,26 @@ use Rattle.job_run.proofs.SlotLemmas.{first_of, is_over_begun, plan_here, seen_b
 use Rattle.job_run.proofs.TaskLemmas.{has_ended, is_task}
 use Rattle.job_run.proofs.area.AreaCrewCrew.run.Goals as goal
 
-pub run-ending-requires-clause-over : goal.run-ending-requires-clause-over
-run-ending-requires-clause-over g c =
+pub run-ending-requires-clause-can : goal.run-ending-requires-clause-can
+run-ending-requires-clause-can g c =
     let me = c.args.self.now in
     let f = c.requires.fit in
-    subst (λ (p : PlanView). IsOver p (memory_at c.args.done.now.task.bench) me.tables.now) (sym f.cells)
-    (is_over_begun me.plan.now me.job.now me.tables.now c.args.task.0 c.args.done.now (ap (λ (p : PlanView). p.places) f.its.plan) f.its.job f.its.codes c.requires.task.exists c.requires.can.task.begun)
-
-pub run-ending-requires-clause-room : goal.run-ending-requires-clause-room
-run-ending-requires-clause-room g c = omega (arith, ap (λ (n : Notes). calls n) c.requires.fresh.fresh)
-
-pub run-ending-requires-clause-working : goal.run-ending-requires-clause-working
-run-ending-requires-clause-working g c = ap is_working c.requires.fresh.fresh
-
-pub run-ending-requires-clause-tied : goal.run-ending-requires-clause-tied
-run-ending-requires-clause-tied g c =
-    let me = c.args.self.now in
-    let f = c.requires.fit in
-    subst (λ (p : PlanView). IsTied p (g.C.Cells.notes c.args.pass.now) c.args.done.now.task.bench.control) (sym f.cells)
-    (tied_of me.plan.now me.job.now me.tables.now.places c.args.task.0 (g.C.Cells.notes c.args.pass.now) c.args.done.now f.is_plan (plan_here me.plan.now me.job.now me.tables.now.places me.phase c.args.task.0 f.its.plan c.requires.task.its)
-    c.requires.fresh.fresh c.requires.can.task)
-
-pub run-ending-requires-clause-first : goal.run-ending-requires-clause-first
-run-ending-requires-clause-first g c =
-    let me = c.args.self.now in
-    let first = first_of me.plan.now me.job.now me.tables.now.places c.args.task.0 c.args.done.now (plan_here me.plan.now me.job.now me.tables.now.places me.phase c.args.task.0 c.requires.fit.its.plan c.requires.task.its) c.requires.can.task in
-    (ap (λ (d : ControlView). d.next) first, ap (λ (d : ControlView). d.opened) first)
+    let t : ℕ = c.args.task.0 in
+    let done = c.args.done.now in
+    let here = plan_here me.plan.now me.job.now me.tables.now.places me.phase t f.its.plan c.requires.task.its in
+    let first = first_of me.plan.now me.job.now me.tables.now.places t done here c.requires.can.task in
+    record {
+      area = c.requires.fresh.area;
+      plan = f.cells;
+      over = subst (λ (p : PlanView). IsOver p (memory_at done.task.bench) me.tables.now) (sym f.cells)
+          (is_over_begun me.plan.now me.job.now me.tables.now t done (ap (λ (p : PlanView). p.places) f.its.plan) f.its.job f.its.codes c.requires.task.exists c.requires.can.task.begun);
+      room = omega (arith, ap (λ (n : Notes). calls n) c.requires.fresh.fresh);
+      working = ap is_working c.requires.fresh.fresh;
+      fresh = c.requires.can.task.begun.done;
+      tied = subst (λ (p : PlanView). IsTied p (g.C.Cells.notes c.args.pass.now) done.task.bench.control) (sym f.cells)
+          (tied_of me.plan.now me.job.now me.tables.now.places t (g.C.Cells.notes c.args.pass.now) done f.is_plan here c.requires.fresh.fresh c.requires.can.task);
+      first = (ap (λ (d : ControlView). d.next) first, ap (λ (d : ControlView). d.opened) first);
+    }
 
 pub run-ending-requires-clause-begins : goal.run-ending-requires-clause-begins
 run-ending-requires-clause-begins g c =
