@@ -31,7 +31,7 @@ impl Controlled {
     pub fn to_controlled(&self, alloc: Global) -> Result<Controlled, AllocError>
         ensures { IfOk result (λ c. c ≡ self.now) }
     {
-        let places = self.places.iter().copied().collect(alloc)?;
+        let places = Vec::from_slice(alloc, &self.places)?;
         Ok(Controlled {
             session: self.session,
             by: self.by,
@@ -134,10 +134,10 @@ impl Plan {
     pub fn to_plan(&self, alloc: Global) -> Result<Plan, AllocError>
         ensures { IfOk result (λ p. p ≡ self.now) }
     {
-        let places = self.places.iter().copied().collect(alloc)?;
-        let windows = self.windows.iter().copied().collect(alloc)?;
+        let places = Vec::from_slice(alloc, &self.places)?;
+        let windows = Vec::from_slice(alloc, &self.windows)?;
+        let tasks = Vec::from_slice(alloc, &self.tasks)?;
         let controlled = copies(alloc, &self.controlled)?;
-        let tasks = self.tasks.iter().copied().collect(alloc)?;
         Ok(Plan {
             places,
             windows,

@@ -37,9 +37,6 @@ pub fn first_words(alloc: Global, plan: &Plan, count: usize) -> Result<Vec<u64>,
     ensures fits { OnOk result (AllFit plan.now (length plan.now.places)) }
 {
     let mut words = cell_words(alloc, plan, count)?;
-    let behind = count - words.len();
-    for _ in 0..behind {
-        words.push(0)?;
-    }
+    words.resize(count, 0)?;
     Ok(words)
 }
