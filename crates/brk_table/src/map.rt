@@ -1,5 +1,5 @@
 //! The place at each address, found by two loads.
-ghost use Rattle.std.specs.Prelude.{◌≡◌, ◌+◌, ◌*◌, ◌/◌, ◌%◌, ◌<◌, ◌≤◌, length, get_or, OnOk};
+ghost use Rattle.std.specs.Prelude.{◌≡◌, ◌+◌, ◌*◌, ◌/◌, ◌%◌, ◌<◌, ◌≤◌, length, get_or, IfOk, OnOk};
 ghost use Rattle.brk_table.specs.Places.{ArePlaces};
 ghost use Rattle.brk_table.specs.Map.{slot_of, entry_at, ArePages, IsMap, AreKept, AreSame};
 
@@ -75,11 +75,7 @@ fn enter(pages: &mut [u32], entries: &mut Vec<u32>, a: Addr, value: u32) -> Resu
 }
 
 /// Enters the places in a map without any.
-pub fn enter_all(
-    pages: &mut [u32],
-    entries: &mut Vec<u32>,
-    places: &[Place],
-) -> Result<(), NoMemory>
+fn enter_all(pages: &mut [u32], entries: &mut Vec<u32>, places: &[Place]) -> Result<(), NoMemory>
     requires fresh { IsMap pages.old entries.old.items places.now 0 }
     requires places { ArePlaces places.now }
     ensures { OnOk result (IsMap pages.new entries.new.items places.now (length places.now)) }
@@ -88,4 +84,15 @@ pub fn enter_all(
         enter(pages, entries, places[i].at, i as u32 + 1)?;
     }
     Ok(())
+}
+
+/// The places' map: for each page of 4 KB the number of its 2,048 entries, and these.
+pub fn map_of(alloc: Global, places: &[Place]) -> Result<(Vec<u32>, Vec<u32>), NoMemory>
+    requires { ArePlaces places.now }
+    ensures { IfOk result (λ m. IsMap m.0.items m.1.items places.now (length places.now)) }
+{
+    let mut pages = vec![in alloc; 0u32; 4096]?;
+    let mut entries = vec![in alloc; 0u32; 2048]?;
+    enter_all(&mut pages, &mut entries, places)?;
+    Ok((pages, entries))
 }

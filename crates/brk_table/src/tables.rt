@@ -4,15 +4,15 @@ ghost use Rattle.module_area.specs.Meaning.{place_of, is_place};
 ghost use Rattle.std.specs.Prelude.{◌+◌, nat_eq, option_map};
 ghost use Rattle.brk_table.specs.Kept.{AreCodes};
 ghost use Rattle.s370_decode.specs.declared.code.Code.{Code as Instruction};
-ghost use Rattle.brk_table.specs.Meaning.{first_place, place_count, entry_of_line, place_at_line};
-ghost use Rattle.brk_table.specs.Places.{IsIn, HasItsPlaces, HasRisingPlaces};
+ghost use Rattle.brk_table.specs.Meaning.{all_places, first_place, place_count, entry_of_line, place_at_line};
+ghost use Rattle.brk_table.specs.Places.{ArePlaces, IsIn, HasItsPlaces, HasRisingPlaces};
 ghost use Rattle.cov_base.specs.declared.numbers.PlaceNo.{PlaceNo as Number};
 
 use crate::codes::codes_of;
 use crate::decoding::decode_all;
 use crate::kept::Kept;
 use crate::line_places::LinePlaces;
-use crate::map::{enter_all, entry_at};
+use crate::map::{entry_at, map_of};
 use cov_base::{Addr, NoMemory, PLACE_LIMIT, PlaceNo};
 use module_area::{Images, Place};
 use s370_decode::Code;
@@ -104,38 +104,49 @@ impl Table {
     }
 }
 
+/// The places of tables, table by table.
+fn places_of(alloc: Global, tables: &[Table]) -> Result<Vec<Place>, NoMemory>
+    ensures { IfOk result (λ v. v.items ≡ all_places tables.now) }
+{
+    let mut places = Vec::new(alloc);
+    for table in tables {
+        places.extend_from_slice(table.places())?;
+    }
+    Ok(places)
+}
+
+/// The tables with their places and the instructions of these.
+fn with_codes(
+    alloc: Global,
+    tables: Vec<Table>,
+    places: Vec<Place>,
+    codes: Vec<Code>,
+) -> Result<Tables, NoMemory>
+    requires all { places.items ≡ all_places tables.items }
+    requires places { ArePlaces places.items }
+    requires lines { All HasItsPlaces tables.items }
+    requires rising { All HasRisingPlaces tables.items }
+    ensures tables { IfOk result (λ t. t.tables ≡ tables.items) }
+    ensures places { IfOk result (λ t. t.places ≡ places.items) }
+    ensures codes { IfOk result (λ t. t.codes ≡ codes.items) }
+{
+    let (pages, entries) = map_of(alloc, &places)?;
+    let kept = decode_all(alloc, &codes)?;
+    Ok(Tables {
+        tables,
+        places,
+        codes,
+        kept,
+        pages,
+        entries,
+    })
+}
+
 impl Tables {
-    ghost use Rattle.brk_table.specs.Meaning.{all_places};
-    ghost use Rattle.brk_table.specs.Places.{ArePlaces};
     ghost use Rattle.brk_table.specs.Decoded.{AreAtPlaces, AreFrom, IsThere};
 
-    /// Numbers the places of tables as `build` gives them, table by table: at most 65,536 together, which share no byte.
-    pub fn of(alloc: Global, tables: Vec<Table>) -> Result<Tables, NoMemory>
-        requires places { ArePlaces (all_places tables.items) }
-        requires lines { All HasItsPlaces tables.items }
-        requires rising { All HasRisingPlaces tables.items }
-        ensures tables { IfOk result (λ t. t.tables ≡ tables.items) }
-        ensures places { IfOk result (λ t. t.places ≡ all_places tables.items) }
-    {
-        let mut places = Vec::new(alloc);
-        for table in &tables {
-            places.extend_from_slice(table.places())?;
-        }
-        let mut pages = vec![in alloc; 0u32; 4096]?;
-        let mut entries = vec![in alloc; 0u32; 2048]?;
-        enter_all(&mut pages, &mut entries, &places)?;
-        let kept = decode_all(alloc, &[])?;
-        Ok(Tables {
-            tables,
-            places,
-            codes: Vec::new(alloc),
-            kept,
-            pages,
-            entries,
-        })
-    }
-
-    /// The same of tables of these modules, with the instruction of each place beside it.
+    /// Numbers the places of tables of these modules as `build` gives them, table by table, with the instruction of each place
+    /// beside it: at most 65,536 together, which share no byte.
     pub fn over(alloc: Global, tables: Vec<Table>, images: &Images) -> Result<Tables, NoMemory>
         requires places { ArePlaces (all_places tables.items) }
         requires inside { All (IsIn images.now) (all_places tables.items) }
@@ -145,14 +156,9 @@ impl Tables {
         ensures places { IfOk result (λ t. t.places ≡ all_places tables.items) }
         ensures codes { IfOk result (AreCodes images.now) }
     {
-        let numbered = Tables::of(alloc, tables)?;
-        let codes = codes_of(alloc, images, &numbered.places)?;
-        let kept = decode_all(alloc, &codes)?;
-        Ok(Tables {
-            codes,
-            kept,
-            ..numbered
-        })
+        let places = places_of(alloc, &tables)?;
+        let codes = codes_of(alloc, images, &places)?;
+        with_codes(alloc, tables, places, codes)
     }
 
     /// The place that begins at the address; none exactly where no place begins there.

@@ -52,7 +52,7 @@ fn later_cards_count(rt: HostRuntime) -> Result<(), Fail> {
         },
     ];
     let images = Images(Vec::new(rt.alloc()));
-    let tables = Tables::of(rt.alloc(), Vec::new(rt.alloc()))?;
+    let tables = Tables::over(rt.alloc(), Vec::new(rt.alloc()), &images)?;
     let space = TaskSpace::new(rt.alloc(), 8, &cards, &images, &tables)?;
     assert_eq!(rt; space.bytes(), [0, 0, 1, 0xFF, 3, 0, 0, 4].as_slice());
     Ok(())
