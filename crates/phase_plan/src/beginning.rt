@@ -40,9 +40,9 @@ pub fn begin<'a>(
     ensures { IfOk result (IsBegun job.now tables.now.places t) }
 {
     let card = job.card(t);
-    let space = TaskSpace::new(alloc, card.private, &card.cards, images_of(job), tables)?;
     let input = card.input.to_vec(alloc)?;
     let io = TaskIo::new(alloc, input, card.room)?;
+    let space = TaskSpace::new(alloc, card.private, &card.cards, images_of(job), tables)?;
     let cpu = Cpu::new(&card.regs, card.entry, 0, 0);
     Ok(Begun { cpu, space, io })
 }

@@ -135,8 +135,8 @@ pub fn plan_of(alloc: Global, job: &Job, tables: &Tables, phase: u32) -> Result<
 {
     let places = places_of(alloc, tables)?;
     let windows = windows_of(alloc, job, &places, phase)?;
-    let controlled = controlled_of(alloc, &job.sessions, &places, phase)?;
     let tasks = tasks_of(alloc, &job.tasks, phase)?;
+    let controlled = controlled_of(alloc, &job.sessions, &places, phase)?;
     Ok(Plan {
         places,
         windows,
