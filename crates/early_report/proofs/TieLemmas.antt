@@ -2,9 +2,9 @@
 use Rattle.std.proofs.Common.{◌≡◌, ℕ, zero, suc, ◌+◌, ◌-◌, ◌<◌, ◌≤◌, Bool, true, false, not, if◌then◌else◌, nat_eq, Option, Some, None, List, [], ◌∷◌, ◌++◌, length, get_or, map, drop, All, refl, sym, ◌∙◌, ap, subst, arith, eq-eqb}
 use mathlib.Core.Logic.{dite}
 use native.Mathlib.Decide.{dec_le}
-use Rattle.std.proofs.lemmas.List.{get_or-drop, get_or_default, length-drop, length-map}
+use Rattle.std.proofs.lemmas.List.{get_or-drop, get_or_default, length-drop, length-map, length-replicate}
 use Rattle.std.proofs.lemmas.List.Elements.{All-filter}
-use Rattle.cov_base.specs.Meaning.{FactSet}
+use Rattle.cov_base.specs.Meaning.{FactSet, no_facts}
 use Rattle.cov_base.specs.declared.numbers.TaskNo.{TaskNo}
 use Rattle.module_area.specs.Meaning.{PlanView, places_under}
 use Rattle.module_area.specs.Rule.{has_task}
@@ -65,7 +65,7 @@ begun_tied plan old new d es first closed begins =
       tasks = Begins-tasks old new (others plan.tasks (bearer old)) es begins ∙ ap (λ (n : Notes). others plan.tasks (bearer n)) (sym r.same);
       noted = Begins-noted plan d.session old new (others plan.tasks (bearer old)) es closed.seen begins;
       last = λ e is. let none : None ≡ Some e = sym (ap (λ (d : DrainView). d.last) first) ∙ is in absurd cc;
-      sets = ap (λ (d : DrainView). length d.sets) first ∙ length-map (places_under plan d.session) _;
+      sets = ap (λ (d : DrainView). length d.sets) first ∙ length-replicate (length (places_under plan d.session)) no_facts;
       drained = λ o. absurd cc;
     }
 

@@ -1,5 +1,5 @@
 -- Drains: how a pass learns that a session that it has closed gets no fact any more.
-use Rattle.std.specs.Prelude.{◌≡◌, ◌≢◌, ◌⊎◌, ℕ, ◌+◌, ◌-◌, ◌*◌, ◌<◌, ◌%◌, Bool, true, false, ◌&&◌, nat_eq, if◌then◌else◌, Option, Some, None, List, [], ◌∷◌, ◌++◌, length, map, get_or, All}
+use Rattle.std.specs.Prelude.{◌≡◌, ◌≢◌, ◌⊎◌, ℕ, ◌+◌, ◌-◌, ◌*◌, ◌<◌, ◌%◌, Bool, true, false, ◌&&◌, nat_eq, if◌then◌else◌, Option, Some, None, List, [], ◌∷◌, ◌++◌, length, map, replicate, get_or, All}
 use Rattle.std.specs.List.{list_any}
 use Rattle.cov_base.specs.declared.numbers.TaskNo.{TaskNo}
 use Rattle.cov_base.specs.declared.numbers.PlaceNo.{PlaceNo}
@@ -33,7 +33,7 @@ unused plan s = record {
   last = None;
   polls = 0;
   at = 0;
-  sets = map (λ (p : PlaceNo). no_facts) (places_under plan s);
+  sets = replicate (length (places_under plan s)) no_facts;
 }
 
 -- The pass of the controlled session's own task has closed it at all its places, by what it has seen and by the tags that it

@@ -1,7 +1,6 @@
 //! Drains: by them a controller learns that a session that it has closed gets no fact any more.
 ghost use Rattle.std.specs.Prelude.{◌≡◌, ℕ, ◌<◌, ◌≤◌, length, true, All, map, IfOk, drop};
 ghost use Rattle.cov_base.specs.declared.numbers.TaskNo.{TaskNo as TaskNumber};
-ghost use Rattle.cov_base.specs.Meaning.{no_facts};
 ghost use Rattle.module_area.specs.Notes.{is_final};
 ghost use Rattle.module_area.specs.Rule.{has_task};
 ghost use Rattle.early_report.specs.DrainView.{DrainView};
@@ -81,24 +80,13 @@ fn entries(alloc: Global, tasks: &[TaskNo], by: TaskNo) -> Result<Vec<(TaskNo, u
     Ok(entries)
 }
 
-/// An empty set for each of the places.
-fn empty_sets(alloc: Global, places: &[PlaceNo]) -> Result<Vec<Bits>, AllocError>
-    ensures { IfOk result (λ v. v.items ≡ map (λ p. no_facts) places.now) }
-{
-    let mut sets = Vec::with_capacity(alloc, places.len())?;
-    for place in places {
-        sets.push(Bits::empty())?;
-    }
-    Ok(sets)
-}
-
 /// The unused drain of a controlled session of the plan.
 pub fn room(alloc: Global, plan: &Plan, s: SessNo) -> Result<Drain, NoMemory>
     requires { has_controlled plan.now s.0 ≡ true }
     ensures { IfOk result (λ d. d ≡ unused plan.now s.0) }
 {
     let noted = entries(alloc, &plan.tasks, controller(plan, s))?;
-    let sets = empty_sets(alloc, plan.places_under(s))?;
+    let sets = vec![in alloc; Bits::empty(); plan.places_under(s).len()]?;
     Ok(Drain {
         session: s,
         stage: Stage::Unused,
