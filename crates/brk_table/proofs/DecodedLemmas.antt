@@ -1,17 +1,39 @@
 -- Instructions that are decoded one after the other, and those from one place on, of which one is found at an address.
-use Rattle.std.proofs.Common.{◌≡◌, ◌≢◌, ◌==◌, inl, inr, ℕ, ◌+◌, ◌<◌, ◌≤◌, Bool, true, false, if◌then◌else◌, List, length, get_or, drop, refl, ap, subst, sym, ◌∙◌, arith}
+use Rattle.std.proofs.Common.{◌≡◌, ◌≢◌, ◌==◌, inl, inr, ℕ, ◌+◌, ◌-◌, ◌<◌, ◌≤◌, Bool, true, false, if◌then◌else◌, List, [], ◌∷◌, ◌++◌, length, get_or, drop, refl, ap, subst, sym, ◌∙◌, arith, length-append}
 use Rattle.std.proofs.lemmas.Bool.{cases_lt}
-use Rattle.std.proofs.lemmas.List.{length-drop, get_or-drop, drop-drop}
+use Rattle.std.proofs.lemmas.List.{length-drop, get_or-drop, get_or_append_left, get_or-append_right, drop-drop}
 use Rattle.cov_base.specs.declared.constants.TheConstants.{RETURN_ADDRESS}
 use Rattle.s370_decode.specs.declared.code.Code.{Code}
 use Rattle.brk_table.specs.declared.kept.Kept.{Kept}
 use Rattle.brk_table.specs.Meaning.{TablesView}
-use Rattle.brk_table.specs.Decoded.{AreDecoded, AreAtPlaces, AreFrom, IsThere}
+use Rattle.brk_table.specs.Decoded.{AreDecoded, AreFirstDecoded, AreAtPlaces, AreFrom, IsThere}
 
--- the first n of them
-pub record AreFirstDecoded (codes : List Code) (kept : List Kept) (n : ℕ) : Type 0 where
-  pub count : length kept ≡ n
-  pub each : (i : ℕ) (c : Code) (k : Kept) → i < n → (get_or kept i k).decoded.code ≡ get_or codes i c
+-- one more of them
+pub decoded_more : (codes : List Code) (kept : List Kept) (n : ℕ) (x : Kept) → AreFirstDecoded codes kept n → ((c : Code) → x.decoded.code ≡ get_or codes n c) → AreFirstDecoded codes (kept ++ x ∷ []) (n + 1)
+decoded_more codes kept n x first is = record {
+  count = let a = length-append kept (x ∷ []) in let e = first.count in omega arith;
+  each = λ i c k l. elim (cases_lt i n) [
+    | inl b ↦ ap (λ (z : Kept). z.decoded.code) (get_or_append_left kept (x ∷ []) k i (let e = first.count in omega arith)) ∙ first.each i c k b
+    | inr h ↦ (let at : i ≡ n = omega arith in let none : i - n ≡ 0 = omega arith in
+        ap (λ (z : Kept). z.decoded.code) (get_or-append_right kept (x ∷ []) n i k first.count h ∙ ap (λ j. get_or (x ∷ []) j k) none) ∙ is c ∙ ap (λ j. get_or codes j c) (sym at))
+  ];
+}
+
+-- all of them, and two behind
+pub decoded_all : (codes : List Code) (kept : List Kept) (x y : Kept) → AreFirstDecoded codes kept (length codes) → x.key ≡ 16777216 → y.key ≡ 16777216 → AreDecoded codes ((kept ++ x ∷ []) ++ y ∷ [])
+decoded_all codes kept x y first ex ey =
+    let size = first.count in
+    let long = length-append kept (x ∷ []) in
+    let longer = length-append (kept ++ x ∷ []) (y ∷ []) in record {
+      count = omega arith;
+      each = λ n c k l. ap (λ (z : Kept). z.decoded.code) (get_or_append_left (kept ++ x ∷ []) (y ∷ []) k n (omega arith) ∙ get_or_append_left kept (x ∷ []) k n (omega arith)) ∙ first.each n c k l;
+      behind = λ n k low high. elim (cases_lt n (length codes + 1)) [
+        | inl b ↦ (let none : n - length codes ≡ 0 = omega arith in
+            ap (λ (z : Kept). z.key) (get_or_append_left (kept ++ x ∷ []) (y ∷ []) k n (omega arith) ∙ get_or-append_right kept (x ∷ []) (length codes) n k size low ∙ ap (λ j. get_or (x ∷ []) j k) none) ∙ ex)
+        | inr h ↦ (let none : n - (length codes + 1) ≡ 0 = omega arith in
+            ap (λ (z : Kept). z.key) (get_or-append_right (kept ++ x ∷ []) (y ∷ []) (length codes + 1) n k (omega arith) h ∙ ap (λ j. get_or (y ∷ []) j k) none) ∙ ey)
+      ];
+    }
 
 -- an address by its key
 record IsKeyed (at a : ℕ) : Type 0 where

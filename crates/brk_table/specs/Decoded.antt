@@ -6,6 +6,11 @@ use Rattle.s370_decode.specs.declared.code.Code.{Code}
 use Rattle.brk_table.specs.declared.kept.Kept.{Kept}
 use Rattle.brk_table.specs.Meaning.{TablesView}
 
+-- the first n of these instructions in their order
+pub record AreFirstDecoded (codes : List Code) (kept : List Kept) (n : ℕ) : Type 0 where
+  pub count : length kept ≡ n
+  pub each : (i : ℕ) (c : Code) (k : Kept) → i < n → (get_or kept i k).decoded.code ≡ get_or codes i c
+
 -- these instructions in their order, and behind them two that are found at no address
 pub record AreDecoded (codes : List Code) (kept : List Kept) : Type 0 where
   pub count : length kept ≡ length codes + 2
