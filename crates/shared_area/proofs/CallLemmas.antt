@@ -13,7 +13,7 @@ use Rattle.module_area.specs.declared.tallies.Tally.{Tally}
 use Rattle.module_area.specs.Meaning.{PlanView, original_at, kind_at, is_over, is_controlled}
 use Rattle.module_area.specs.Rule.{has_task, Has, add_if, last_tag, window_tag, fetching, marking, lifting, tagging, Keeps}
 use Rattle.module_area.specs.Notes.{own_number, is_working}
-use Rattle.module_area.specs.Parties.{giving, role_task}
+use Rattle.module_area.specs.Parties.{giving, reading, role_task}
 use Rattle.shared_area.specs.declared.rule.NoSlot.{NoSlot}
 use Rattle.shared_area.specs.declared.cells.SharedCells.{SharedCells}
 use Rattle.module_area.specs.Words.{cell_of}
@@ -50,6 +50,9 @@ lift_live s p a b k did v v' e n h = subst (IsLive a (b + k)) (sym e) record { l
 
 pub tag_live : (p t a b : ℕ) (v v' : View) → v' ≡ tagging p t v → IsLive a b v → IsLive a b v'
 tag_live p t a b v v' e h = subst (IsLive a b) (sym e) record { live = h.live; counted = h.counted; given = h.given }
+
+pub read_live : (s p : ℕ) (final : Bool) (found : FactSet) (a b : ℕ) (v v' : View) → v' ≡ reading s p final found v → IsLive a b v → IsLive a b v'
+read_live s p final found a b v v' e h = subst (IsLive a b) (sym e) record { live = h.live; counted = h.counted; given = h.given }
 
 pub split_live : (t a b : ℕ) (v v' : View) → v' ≡ giving t v → IsLive a b v → IsLive a b v'
 split_live t a b v v' e h = subst (IsLive a b) (sym e) record { live = h.live; counted = h.counted; given = more_given t v.given v.joined h.given }

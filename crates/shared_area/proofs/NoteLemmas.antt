@@ -10,8 +10,8 @@ use Rattle.module_area.specs.declared.parties.Role.TheVariants.{Task}
 use Rattle.module_area.specs.declared.tallies.Tally.{Tally}
 use Rattle.module_area.specs.Meaning.{PlanView, original_at, kind_at, tag_session}
 use Rattle.module_area.specs.Rule.{is_controller, Has, add_if, is_lifted, window_tag, last_tag, fetching, marking, planting, has_number}
-use Rattle.module_area.specs.Parties.{chosen, closing, giving, newcomer, joining, bounding, role_task}
-use Rattle.module_area.specs.Notes.{no_tally, is_free_under, after_fetch, after_mark, after_plant, after_close, after_split, split_notes, after_boundary, after_join, bearer, same_bit, same_set}
+use Rattle.module_area.specs.Parties.{chosen, closing, giving, newcomer, joining, bounding, reading, role_task}
+use Rattle.module_area.specs.Notes.{no_tally, is_free_under, after_fetch, after_mark, after_plant, after_close, after_split, split_notes, after_boundary, after_read, after_join, bearer, is_final, same_bit, same_set}
 use Rattle.module_area.proofs.Laws.{and_left, and_right, and_both, same_tests, same_fact-true, kept_tag, dropped_tag, no_tag, first_tag}
 use Rattle.module_area.proofs.Laws.{or_cases, or_left, or_right, same_fact-same}
 use Rattle.shared_area.specs.Told.{has_mark, has_pair, has_settled, seen_at, told_note, bears_as, notes_in, is_given}
@@ -124,13 +124,13 @@ lifted_tests b s q p t = same_tests _ _
     (λ h. let at = and_left (nat_eq q p) _ h in let r = and_right (nat_eq q p) _ h in let x = session_odd s t (eqb-true _ _ (and_right b _ r)) in
     and_both (b && nat_eq (t % 2) 1) _ (and_both b _ (and_left b _ r) (eq-eqb _ _ x.0)) (and_both (nat_eq s (tag_session t)) _ (eq-eqb _ _ x.1) at))
 
+or_none : (b : Bool) → b ≡ (b || false)
+or_none true = refl
+or_none false = refl
+
 pair_add_if : (c : Bool) (s q t p : ℕ) (xs : List (ℕ × ℕ)) → has_pair s q (add_if c (t, p) xs) ≡ (has_pair s q xs || (c && (nat_eq s t && nat_eq q p)))
 pair_add_if true s q t p xs = refl
-pair_add_if false s q t p xs = or_false (has_pair s q xs)
-  where
-    or_false : (b : Bool) → b ≡ (b || false)
-    or_false true = refl
-    or_false false = refl
+pair_add_if false s q t p xs = or_none (has_pair s q xs)
 
 fetch_pairs : (plan : PlanView) (p : ℕ) (c : Cell) (xs : List (ℕ × ℕ)) → ◌≡◌ {A = ℕ → ℕ → Bool} (λ s q. has_pair s q (add_if (is_lifted plan p c) (tag_session c.tag, p) xs)) (λ s q. has_pair s q xs || (nat_eq q p && is_free_under plan p c s))
 fetch_pairs plan p c xs = fun_ext (λ s. fun_ext (λ q. pair_add_if (is_lifted plan p c) s q (tag_session c.tag) p xs
@@ -177,6 +177,17 @@ bound_notes t w ended v tally bears own = let k : ℕ = if ended then 1 else 2 i
     let numbers : (λ u. last_tag u ((t, w + k) ∷ v.numbers)) ≡ (λ u. if nat_eq u (bearer (notes_in v tally)) then last_tag (bearer (notes_in v tally)) v.numbers + k else last_tag u v.numbers) =
     last_now t (w + k) v.numbers ∙ ap (λ n. λ u. if nat_eq u t then n + k else last_tag u v.numbers) own ∙ ap (λ z. λ u. if nat_eq u z then last_tag z v.numbers + k else last_tag u v.numbers) number in
     λ i. record (after_boundary (notes_in v tally) ended) { numbers = numbers i }
+
+settled_add_if : (c : Bool) (t q : ℕ) (x : FactSet) (s p : ℕ) (found : FactSet) (ys : List (ℕ × ℕ × FactSet)) → has_settled t q x (add_if c (s, p, found) ys) ≡ (has_settled t q x ys || (c && (nat_eq t s && nat_eq q p && same_set found x)))
+settled_add_if true t q x s p found ys = refl
+settled_add_if false t q x s p found ys = or_none (has_settled t q x ys)
+
+settled_now : (c : Bool) (s p : ℕ) (found : FactSet) (ys : List (ℕ × ℕ × FactSet)) →
+    ◌≡◌ {A = ℕ → ℕ → FactSet → Bool} (λ t q x. has_settled t q x (add_if c (s, p, found) ys)) (λ t q x. has_settled t q x ys || (c && (nat_eq t s && nat_eq q p && same_set found x)))
+settled_now c s p found ys = fun_ext (λ t. fun_ext (λ q. fun_ext (λ x. settled_add_if c t q x s p found ys)))
+
+pub read_notes : (plan : PlanView) (s p : ℕ) (found : FactSet) (v : View) (tally : Tally) → notes_in (reading s p (is_final plan (notes_in v no_tally) s p) found v) tally ≡ after_read plan (notes_in v tally) s p found
+read_notes plan s p found v tally = let settled = settled_now (is_final plan (notes_in v no_tally) s p) s p found v.settled in λ i. record (after_read plan (notes_in v tally) s p found) { settled = settled i }
 
 -- ---- Split and Join
 out_after : (g j e : Bool) → (e ≡ true → j ≡ false) → ((g || e) && not j) ≡ ((g && not j) || e)

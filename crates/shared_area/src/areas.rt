@@ -129,7 +129,7 @@ impl Areas for SharedAreas {
         let tally = pass.tally;
         let ended = end_area(alloc, cells, pass)?;
         let places = ended.places;
-        let copy = ended.sets.iter().copied().collect(alloc)?;
+        let copy = Vec::from_slice(alloc, &ended.sets)?;
         self.ledger.push(tally)?;
         if self.finals.push(Finals { places, sets: copy }).is_err() {
             let _ = self.ledger.pop();
