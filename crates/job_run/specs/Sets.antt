@@ -2,6 +2,7 @@
 use Rattle.std.specs.Prelude.{◌≡◌, ℕ, ◌*◌, nat_lt, if◌then◌else◌, List, length, All}
 use Rattle.cov_base.specs.Meaning.{FactSet, no_facts}
 use Rattle.module_area.specs.Meaning.{FinalsView}
+use Rattle.module_area.specs.declared.places.Place.{Place}
 use Rattle.session_book.specs.Meaning.{JobView}
 use Rattle.job_run.specs.Meaning.{set_left}
 
@@ -10,6 +11,10 @@ pub record SetsView : Type 0 where
   pub places : ℕ
   -- those of each phase
   pub finals : List FinalsView
+
+-- over tables with these places
+abbrev pub sets_of : JobView → List Place → List FinalsView → SetsView
+sets_of j places finals = record { job = j; places = length places; finals = finals }
 
 -- a set for each session of the job at each of so many places
 pub record IsSized (j : JobView) (places : ℕ) (f : FinalsView) : Type 0 where

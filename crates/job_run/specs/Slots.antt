@@ -1,11 +1,12 @@
 -- The slots in which the tasks of a job stand.
-use Rattle.std.specs.Prelude.{◌≡◌, ℕ, ◌-◌, ◌<◌, ◌≤◌, Bool, true, false, nat_eq, Option, None, List, [], length, get_or, map, All, vec_capacity}
+use Rattle.std.specs.Prelude.{◌≡◌, ℕ, ◌+◌, ◌-◌, ◌<◌, ◌≤◌, Bool, true, false, nat_eq, Option, None, List, [], length, get_or, map, All, vec_capacity}
 use Rattle.cov_base.specs.Meaning.{FactSet}
 use Rattle.module_area.specs.Meaning.{FinalsView, set_at}
 use Rattle.module_area.specs.declared.places.Place.{Place}
+use Rattle.task_run.specs.Meaning.{Course}
 use Rattle.session_book.specs.Meaning.{JobView, task_of}
 use Rattle.job_run.specs.Meaning.{no_finals}
-use Rattle.job_run.specs.Tasks.{Ends, HasExtra}
+use Rattle.job_run.specs.Tasks.{AreRun, Ends, HasExtra}
 use Rattle.job_run.specs.declared.outcome.Done.{Done}
 use Rattle.job_run.specs.declared.slots.Slot.{Slot}
 use Rattle.job_run.specs.declared.slots.Room.{Room}
@@ -23,7 +24,6 @@ AreEmpty slots = All (λ s. s.pass ≡ None) slots
 pub record HasRoom {E : Type 0} (count : ℕ) (room : Room E) : Type 0 where
   pub tasks : room.tasks.items ≡ []
   pub extras : room.extras.items ≡ []
-  pub finals : room.finals.items ≡ []
   pub tasks_room : count ≤ vec_capacity room.tasks
   pub extras_room : count ≤ vec_capacity room.extras
 
@@ -55,3 +55,14 @@ pub record KeepsOthers {P E : Type 0} (j : JobView) (phase : ℕ) (old new : Lis
   pub count : length new ≡ length old
   pub done : (t : ℕ) (d : Slot P E) → t < length old → in_phase j phase t ≡ false → (get_or new t d).done ≡ (get_or old t d).done
   pub extra : (t : ℕ) (d : Slot P E) → t < length old → in_phase j phase t ≡ false → (get_or new t d).extra ≡ (get_or old t d).extra
+
+-- the tasks of the phases before this one have run, and no slot has a pass
+pub record StandBefore {P E : Type 0} (course : Course) (j : JobView) (places : List Place) (phase : ℕ) (slots : List (Slot P E)) : Type 0 where
+  pub tasks : AreRun course j places phase slots
+  pub empty : AreEmpty slots
+
+-- so they stand before the next phase: this one's tasks have run, and tell this by their extras, where its area has ended with these sets
+pub record HavePassed {P E : Type 0} (course : Course) (ends : Ends E) (j : JobView) (places : List Place) (phase : ℕ) (old new : List (Slot P E)) (f : FinalsView) : Type 0 where
+  pub before : StandBefore course j places (phase + 1) new
+  pub extras : HaveExtras ends j places phase (set_at f) new
+  pub others : KeepsOthers j phase old new

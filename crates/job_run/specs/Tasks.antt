@@ -41,6 +41,10 @@ pub record HasNotRun (j : JobView) (places : List Place) (t : ℕ) (d : Done) : 
   pub budget : d.task.budget ≡ (task_of j t).budget
   pub done : d.task.done ≡ 0
 
+-- what has not run as one has not as the other
+abbrev pub StaysBegun : Done → Done → Type 0
+StaysBegun old new = (j : JobView) (places : List Place) (t : ℕ) → HasNotRun j places t old → HasNotRun j places t new
+
 -- and it has the sessions of its phase that it controls, of which it has opened none
 pub record IsEquipped (j : JobView) (places : List Place) (t : ℕ) (d : Done) : Type 0 where
   pub begun : HasNotRun j places t d

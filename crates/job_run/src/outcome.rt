@@ -1,7 +1,7 @@
 //! What a run has come to.
 ghost use Rattle.std.specs.Prelude.{◌≡◌, ◌<◌, ◌≤◌, length, All};
 ghost use Rattle.session_book.specs.Meaning.{session_of};
-ghost use Rattle.job_run.specs.Sets.{IsSized, set_in};
+ghost use Rattle.job_run.specs.Sets.{IsSized, set_in, sets_of};
 
 use brk_table::Tables;
 use cov_base::{Bits, PlaceNo, SessNo, TaskNo};
@@ -51,7 +51,7 @@ impl<'a> Sets<'a> {
     pub fn new(job: &'a Job, tables: &Tables, finals: Vec<Finals>) -> Sets<'a>
         requires count { length finals.items ≡ length job.now.phases }
         requires sizes { All (IsSized job.now (length tables.now.places)) finals.items }
-        ensures { result ≡ record { job = job.now; places = length tables.now.places; finals = finals.items } }
+        ensures { result ≡ sets_of job.now tables.now.places finals.items }
     {
         Sets {
             job,

@@ -1,22 +1,21 @@
 //! The phases of a job, one after the other.
-ghost use Rattle.std.specs.Prelude.{◌≡◌, ◌+◌, ◌<◌, ◌≤◌, ◌^◌, [], length, map, All, IsSome, IfOk, OnOk, vec_capacity};
+ghost use Rattle.std.specs.Prelude.{◌≡◌, ◌<◌, ◌≤◌, ◌^◌, length, map, All, IsSome, IfOk};
 ghost use Rattle.std.specs.declared.option.Option.TheVariants.{Some};
 ghost use Rattle.brk_table.specs.Kept.{AreCodes};
-ghost use Rattle.module_area.specs.Meaning.{set_at};
 ghost use Rattle.module_area.specs.Rule.{IsPlan};
-ghost use Rattle.phase_plan.specs.Meaning.{plan_view};
 ghost use Rattle.session_book.specs.JobView.{IsJob};
 ghost use Rattle.task_run.specs.Meaning.{solo};
 ghost use Rattle.job_run.specs.Outcomes.{AreExtras, ComesTo};
-ghost use Rattle.job_run.specs.Runs.{Grows, GrowsTo, HasGrown};
-ghost use Rattle.job_run.specs.Sets.{IsSized};
-ghost use Rattle.job_run.specs.Slots.{AreEmpty, HaveExtras, HaveJobExtras, KeepsOthers, dones, extras_of};
-ghost use Rattle.job_run.specs.Tasks.{AllRun, AreRun};
+ghost use Rattle.job_run.specs.Passes.{IsOfPhase};
+ghost use Rattle.job_run.specs.Runs.{Grows, HasGrown, LeavesSets};
+ghost use Rattle.job_run.specs.Sets.{IsSized, sets_of};
+ghost use Rattle.job_run.specs.Slots.{HasRoom, HaveJobExtras, HavePassed, StandBefore, dones, extras_of};
+ghost use Rattle.job_run.specs.Tasks.{AllRun};
 
 use crate::area::{AreaCrew, equip_all};
 use crate::crew::run_crew;
 use crate::outcome::{Outcome, Sets};
-use crate::slots::{Room, Slot, make_room, make_slots, parts_of};
+use crate::slots::{Room, Slot, make_room, make_slots, put_parts};
 use brk_table::Tables;
 use cov_base::NoMemory;
 use cov_outside::Gate;
@@ -43,18 +42,11 @@ fn run_planned<'a, T: Threads + Sync, A: Areas, G: Gate + Sync, R: Runner<A::C> 
     slots: &mut [Slot<'a, <A::C as Cells>::Pass, R::Extra>],
 ) -> Result<Finals, NoMemory>
     requires room { A.made areas.old < 2 ^ 62 }
-    requires job { IsJob job.now }
     requires is_plan { IsPlan plan.now }
-    requires plan { plan.now ≡ plan_view job.now tables.now.places phase }
-    requires tasks { AreRun (R.course runner.now) job.now tables.now.places phase slots.old }
-    requires codes { AreCodes job.now.images tables.now }
-    requires empty { AreEmpty slots.old }
-    ensures made { IfOk result (λ _. A.made areas.new ≡ A.made areas.old + 1) }
-    ensures grown { IfOk result (λ f. Grows A.Areas (R.course runner.now) job.now tables.now phase areas.old areas.new f) }
-    ensures tasks { IfOk result (λ _. AreRun (R.course runner.now) job.now tables.now.places (phase + 1) slots.new) }
-    ensures extras { IfOk result (λ f. HaveExtras R.ends job.now tables.now.places phase (set_at f) slots.new) }
-    ensures others { IfOk result (λ _. KeepsOthers job.now phase slots.old slots.new) }
-    ensures empty { IfOk result (λ _. AreEmpty slots.new) }
+    requires its { IsOfPhase plan.now job.now tables.now phase }
+    requires before { StandBefore (R.course runner.now) job.now tables.now.places phase slots.old }
+    ensures grown { IfOk result (Grows A.Areas (R.course runner.now) job.now tables.now phase areas.old areas.new) }
+    ensures passed { IfOk result (HavePassed (R.course runner.now) R.ends job.now tables.now.places phase slots.old slots.new) }
 {
     equip_all::<A::C, R>(alloc, runner, job, tables, plan, phase, slots)?;
     let (cells, mut root) = areas.make(alloc, plan)?;
@@ -86,15 +78,10 @@ fn run_phase<'a, T: Threads + Sync, A: Areas, G: Gate + Sync, R: Runner<A::C> + 
     requires room { A.made areas.old < 2 ^ 62 }
     requires job { IsJob job.now }
     requires phase { phase < length job.now.phases }
-    requires tasks { AreRun (R.course runner.now) job.now tables.now.places phase slots.old }
     requires codes { AreCodes job.now.images tables.now }
-    requires empty { AreEmpty slots.old }
-    ensures made { IfOk result (λ _. A.made areas.new ≡ A.made areas.old + 1) }
-    ensures grown { IfOk result (λ f. Grows A.Areas (R.course runner.now) job.now tables.now phase areas.old areas.new f) }
-    ensures tasks { IfOk result (λ _. AreRun (R.course runner.now) job.now tables.now.places (phase + 1) slots.new) }
-    ensures extras { IfOk result (λ f. HaveExtras R.ends job.now tables.now.places phase (set_at f) slots.new) }
-    ensures others { IfOk result (λ _. KeepsOthers job.now phase slots.old slots.new) }
-    ensures empty { IfOk result (λ _. AreEmpty slots.new) }
+    requires before { StandBefore (R.course runner.now) job.now tables.now.places phase slots.old }
+    ensures grown { IfOk result (Grows A.Areas (R.course runner.now) job.now tables.now phase areas.old areas.new) }
+    ensures passed { IfOk result (HavePassed (R.course runner.now) R.ends job.now tables.now.places phase slots.old slots.new) }
 {
     let plan = plan_of(alloc, job, tables, phase)?;
     // the proof reads the rules that a plan keeps off this look at one
@@ -104,7 +91,7 @@ fn run_phase<'a, T: Threads + Sync, A: Areas, G: Gate + Sync, R: Runner<A::C> + 
     )
 }
 
-/// Runs the job's phases one after the other, and adds the sets that each one's area ended with.
+/// Runs the job's phases one after the other: the sets that each one's area ended with.
 fn run_phases<'a, T: Threads + Sync, A: Areas, G: Gate + Sync, R: Runner<A::C> + Sync>(
     rt: &T,
     alloc: Global,
@@ -114,49 +101,44 @@ fn run_phases<'a, T: Threads + Sync, A: Areas, G: Gate + Sync, R: Runner<A::C> +
     job: &Job,
     tables: &Tables,
     slots: &mut [Slot<'a, <A::C as Cells>::Pass, R::Extra>],
-    finals: &mut Vec<Finals>,
-) -> Result<(), NoMemory>
+) -> Result<Vec<Finals>, NoMemory>
     requires room { A.made areas.old < 2 ^ 61 }
-    requires tasks { AreRun (R.course runner.now) job.now tables.now.places 0 slots.old }
     requires codes { AreCodes job.now.images tables.now }
-    requires empty { AreEmpty slots.old }
-    requires none { finals.old.items ≡ [] }
+    requires before { StandBefore (R.course runner.now) job.now tables.now.places 0 slots.old }
     ensures job { IsJob job.now }
-    ensures left { OnOk result (GrowsTo A.Areas (R.course runner.now) job.now tables.now areas.old areas.new finals.new.items) }
-    ensures tasks { OnOk result (AllRun (R.course runner.now) job.now tables.now.places slots.new) }
-    ensures extras { OnOk result (HaveJobExtras R.ends job.now tables.now.places finals.new.items slots.new) }
+    ensures left { IfOk result (LeavesSets A.Areas (R.course runner.now) job.now tables.now areas.old areas.new) }
+    ensures tasks { IfOk result (λ _. AllRun (R.course runner.now) job.now tables.now.places slots.new) }
+    ensures extras { IfOk result (λ v. HaveJobExtras R.ends job.now tables.now.places v.items slots.new) }
 {
     let count = job.phase_count();
+    let mut finals = Vec::with_capacity(alloc, count as usize)?;
     for phase in 0..count {
         let ended = run_phase(rt, alloc, areas, gate, runner, job, tables, phase, slots)?;
         finals.push(ended)?;
     }
-    Ok(())
+    Ok(finals)
 }
 
-/// What the run of a job has come to, by its slots and its room once all phases have run.
+/// What the run of a job has come to, by its slots and its areas once all phases have run.
 fn outcome_of<'a, P: Drop, E: Drop>(
     job: &'a Job,
     tables: &Tables,
     slots: Vec<Slot<'a, P, E>>,
-    room: Room<'a, E>,
+    finals: Vec<Finals>,
+    mut room: Room<'a, E>,
 ) -> (Outcome<'a>, Vec<E>)
-    requires empty { (room.tasks.items ≡ []) × (room.extras.items ≡ []) }
-    requires tasks_room { length slots.items ≤ vec_capacity room.tasks }
-    requires extras_room { length slots.items ≤ vec_capacity room.extras }
+    requires room { HasRoom (length slots.items) room }
     requires some { All (λ s. IsSome s.extra) slots.items }
-    requires count { length room.finals.items ≡ length job.now.phases }
-    requires sizes { All (IsSized job.now (length tables.now.places)) room.finals.items }
+    requires count { length finals.items ≡ length job.now.phases }
+    requires sizes { All (IsSized job.now (length tables.now.places)) finals.items }
     ensures tasks { result.0.tasks.items ≡ dones slots.entry.items }
-    ensures sets { result.0.sets ≡ record { job = job.now; places = length tables.now.places; finals = room.entry.finals.items } }
+    ensures sets { result.0.sets ≡ sets_of job.now tables.now.places finals.items }
     ensures extras { map Some result.1.items ≡ extras_of slots.entry.items }
 {
-    let Room {
-        tasks,
-        extras,
-        finals,
-    } = room;
-    let (tasks, extras) = parts_of(slots, tasks, extras);
+    for slot in slots {
+        put_parts(slot, &mut room);
+    }
+    let Room { tasks, extras } = room;
     let sets = Sets::new(job, tables, finals);
     (Outcome { tasks, sets }, extras)
 }
@@ -183,20 +165,10 @@ pub fn run_job_with<'a, T: Threads + Wait + Sync, A: Areas, G: Gate + Sync, R: R
     ensures outcome { IfOk result (λ r. ComesTo (R.course runner.now) job.now tables.now.places r.0) }
     ensures extras { IfOk result (λ r. AreExtras R.ends job.now tables.now.places r.0.tasks.items r.0.sets r.1.items) }
 {
-    let mut room = make_room(alloc, job)?;
+    let room = make_room(alloc, job)?;
     let mut slots = make_slots(alloc, job, tables)?;
-    run_phases(
-        rt,
-        alloc,
-        areas,
-        gate,
-        runner,
-        job,
-        tables,
-        &mut slots,
-        &mut room.finals,
-    )?;
-    Ok(outcome_of(job, tables, slots, room))
+    let finals = run_phases(rt, alloc, areas, gate, runner, job, tables, &mut slots)?;
+    Ok(outcome_of(job, tables, slots, finals, room))
 }
 
 /// Runs the job as `run_job_with` does, each task as it runs alone.

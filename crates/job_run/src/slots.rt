@@ -3,8 +3,8 @@ ghost use Rattle.std.specs.Prelude.{◌≡◌, ◌+◌, ◌<◌, ◌≤◌, nat_
 ghost use Rattle.std.specs.declared.option.Option.TheVariants.{Some, None};
 ghost use Rattle.brk_table.specs.Places.{IsIn};
 ghost use Rattle.session_book.specs.Meaning.{task_of};
-ghost use Rattle.job_run.specs.Slots.{AreEmpty, HasRoom, IsRange, dones, extras_of};
-ghost use Rattle.job_run.specs.Tasks.{HasNotRun, AreNew};
+ghost use Rattle.job_run.specs.Slots.{AreEmpty, HasRoom, IsRange};
+ghost use Rattle.job_run.specs.Tasks.{AreNew, HasNotRun, StaysBegun};
 
 use crate::outcome::Done;
 use brk_table::Tables;
@@ -116,13 +116,12 @@ pub fn make_slots<'a, P: Drop, E: Drop>(
     Ok(slots)
 }
 
-/// Room for what is told of a job's tasks and of the areas of its phases, which is taken before the first phase runs. It is one
-/// value, so that it is let go in one place.
+/// Room for what is told of a job's tasks, which is taken before the first phase runs. It is one value, so that it is let go
+/// in one place.
 #[derive(Drop)]
 pub struct Room<'a, E> {
     pub tasks: Vec<Done<'a>>,
     pub extras: Vec<E>,
-    pub finals: Vec<Finals>,
 }
 
 /// The room for a job.
@@ -131,18 +130,13 @@ pub fn make_room<'a, E: Drop>(alloc: Global, job: &Job) -> Result<Room<'a, E>, N
 {
     let tasks = Vec::with_capacity(alloc, job.task_count())?;
     let extras = Vec::with_capacity(alloc, job.task_count())?;
-    let finals = Vec::with_capacity(alloc, job.phase_count() as usize)?;
-    Ok(Room {
-        tasks,
-        extras,
-        finals,
-    })
+    Ok(Room { tasks, extras })
 }
 
 /// Gives the slot's task its sessions, and the slot what its runner keeps of the task.
 pub fn equip<'a, P: Drop, E: Drop>(slot: &mut Slot<'a, P, E>, control: Control, extra: E)
     ensures control { slot.new.done.task.bench.control ≡ control }
-    ensures begun { (j : _) (places : _) (t : _) → HasNotRun j places t slot.old.done → HasNotRun j places t slot.new.done }
+    ensures begun { StaysBegun slot.old.done slot.new.done }
     ensures extra { slot.new.extra ≡ Some extra }
     ensures pass { slot.new.pass ≡ slot.old.pass }
 {
@@ -175,18 +169,14 @@ pub fn take_at<'a, P: Drop, E: Drop>(slots: &mut [Slot<'a, P, E>], t: usize) -> 
 }
 
 /// Moves the slot's task and its extra behind those of others, in lists that have room for them.
-fn put_parts<'a, P: Drop, E: Drop>(
-    slot: Slot<'a, P, E>,
-    tasks: &mut Vec<Done<'a>>,
-    extras: &mut Vec<E>,
-)
+pub fn put_parts<'a, P: Drop, E: Drop>(slot: Slot<'a, P, E>, room: &mut Room<'a, E>)
     requires some { IsSome slot.extra }
-    requires tasks_room { length tasks.old.items < vec_capacity tasks.old }
-    requires extras_room { length extras.old.items < vec_capacity extras.old }
-    ensures tasks { tasks.new.items ≡ tasks.old.items ++ slot.entry.done ∷ [] }
-    ensures extras { map Some extras.new.items ≡ map Some extras.old.items ++ slot.entry.extra ∷ [] }
-    ensures tasks_room { vec_capacity tasks.old ≤ vec_capacity tasks.new }
-    ensures extras_room { vec_capacity extras.old ≤ vec_capacity extras.new }
+    requires tasks_room { length room.old.tasks.items < vec_capacity room.old.tasks }
+    requires extras_room { length room.old.extras.items < vec_capacity room.old.extras }
+    ensures tasks { room.new.tasks.items ≡ room.old.tasks.items ++ slot.entry.done ∷ [] }
+    ensures extras { map Some room.new.extras.items ≡ map Some room.old.extras.items ++ slot.entry.extra ∷ [] }
+    ensures tasks_room { vec_capacity room.old.tasks ≤ vec_capacity room.new.tasks }
+    ensures extras_room { vec_capacity room.old.extras ≤ vec_capacity room.new.extras }
 {
     let Slot {
         done,
@@ -195,29 +185,10 @@ fn put_parts<'a, P: Drop, E: Drop>(
         apart: _,
     } = slot;
     let Some(extra) = extra else { unreachable!() };
-    let Ok(()) = tasks.push(done) else {
+    let Ok(()) = room.tasks.push(done) else {
         unreachable!()
     };
-    let Ok(()) = extras.push(extra) else {
+    let Ok(()) = room.extras.push(extra) else {
         unreachable!()
     };
-}
-
-/// The tasks of the slots and their extras, moved into lists that have room for them.
-pub fn parts_of<'a, P: Drop, E: Drop>(
-    slots: Vec<Slot<'a, P, E>>,
-    mut tasks: Vec<Done<'a>>,
-    mut extras: Vec<E>,
-) -> (Vec<Done<'a>>, Vec<E>)
-    requires empty { (tasks.items ≡ []) × (extras.items ≡ []) }
-    requires tasks_room { length slots.items ≤ vec_capacity tasks }
-    requires extras_room { length slots.items ≤ vec_capacity extras }
-    requires some { All (λ s. IsSome s.extra) slots.items }
-    ensures tasks { result.0.items ≡ dones slots.entry.items }
-    ensures extras { map Some result.1.items ≡ extras_of slots.entry.items }
-{
-    for slot in slots {
-        put_parts(slot, &mut tasks, &mut extras);
-    }
-    (tasks, extras)
 }

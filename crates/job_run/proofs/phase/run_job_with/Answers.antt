@@ -1,7 +1,6 @@
 use Rattle.std.proofs.Common.{◌≡◌, ◌++◌, All, IsSome, List, length, take, drop, sym, ◌∙◌, ap, subst}
 use Rattle.brk_table.proofs.Laws.{are_in}
-use Rattle.job_run.specs.Slots.{AreEmpty, dones, extras_of}
-use Rattle.job_run.specs.Tasks.{AreNew}
+use Rattle.job_run.specs.Slots.{StandBefore, dones, extras_of}
 use Rattle.job_run.specs.declared.slots.Slot.{Slot}
 use Rattle.job_run.proofs.PhaseLemmas.{left_count, written}
 use Rattle.job_run.proofs.SessionLemmas.{all_sized, are_extras, has_some, left_of, outcome}
@@ -13,13 +12,11 @@ use Rattle.job_run.proofs.phase.run_job_with.Goals.{After-run_phases}
 pub make_slots-requires : goal.make_slots-requires
 make_slots-requires g c = are_in c.args.job.now.images c.args.tables.now c.requires.tables
 
-pub run_phases-requires-clause-tasks : goal.run_phases-requires-clause-tasks
-run_phases-requires-clause-tasks g c κs within =
-    AreRun-start (g.R.Runner.course c.args.runner.now) c.args.job.now c.args.tables.now.places c.deref_mut.result.now
-    (subst (λ (ss : List (Slot _ _)). AreNew c.args.job.now c.args.tables.now.places ss) (sym c.deref_mut.ensures.value) c.in_ok-slots.ensures.tasks)
-
-pub run_phases-requires-clause-empty : goal.run_phases-requires-clause-empty
-run_phases-requires-clause-empty g c κs within = subst (λ (ss : List (Slot _ _)). AreEmpty ss) (sym c.deref_mut.ensures.value) c.in_ok-slots.ensures.empty
+pub run_phases-requires-clause-before : goal.run_phases-requires-clause-before
+run_phases-requires-clause-before g c κs within = subst (λ (ss : List (Slot _ _)). StandBefore (g.R.Runner.course c.args.runner.now) c.args.job.now c.args.tables.now.places 0 ss) (sym c.deref_mut.ensures.value) record {
+  tasks = AreRun-start (g.R.Runner.course c.args.runner.now) c.args.job.now c.args.tables.now.places c.in_ok-slots.slots.items c.in_ok-slots.ensures.tasks;
+  empty = c.in_ok-slots.ensures.empty;
+}
 
 -- the slots behind the phases
 whole : (g : given.Over) (c : After-run_phases g) →
@@ -31,25 +28,25 @@ whole g c =
 pub outcome_of-requires-clause-some : goal.outcome_of-requires-clause-some
 outcome_of-requires-clause-some g c =
     subst (λ (ss : List (Slot _ _)). All (λ s. IsSome s.extra) ss) (sym (whole g (goal.at.outcome_of-requires-clause-some g c).After-run_phases))
-    (has_some (g.R.Runner.course c.args.runner.now) g.R.Runner.ends c.args.job.now c.args.tables.now.places c.run_phases.new.finals.items c.run_phases.new.slots c.run_phases.ensures.job c.in_ok-run_phases.ensures.tasks c.in_ok-run_phases.ensures.extras)
+    (has_some (g.R.Runner.course c.args.runner.now) g.R.Runner.ends c.args.job.now c.args.tables.now.places c.in_ok-finals.finals.items c.run_phases.new.slots c.run_phases.ensures.job c.in_ok-finals.ensures.tasks c.in_ok-finals.ensures.extras)
 
 pub outcome_of-requires-clause-count : goal.outcome_of-requires-clause-count
-outcome_of-requires-clause-count g c = left_count (g.R.Runner.course c.args.runner.now) c.args.job.now c.args.tables.now.places _ _ c.run_phases.new.finals.items c.in_ok-run_phases.ensures.left
+outcome_of-requires-clause-count g c = left_count (g.R.Runner.course c.args.runner.now) c.args.job.now c.args.tables.now.places _ _ c.in_ok-finals.finals.items c.in_ok-finals.ensures.left
 
 pub outcome_of-requires-clause-sizes : goal.outcome_of-requires-clause-sizes
-outcome_of-requires-clause-sizes g c = all_sized (g.R.Runner.course c.args.runner.now) c.args.job.now c.args.tables.now.places _ _ c.run_phases.new.finals.items c.in_ok-run_phases.ensures.left
+outcome_of-requires-clause-sizes g c = all_sized (g.R.Runner.course c.args.runner.now) c.args.job.now c.args.tables.now.places _ _ c.in_ok-finals.finals.items c.in_ok-finals.ensures.left
 
 pub returns-clause-left : goal.returns-clause-left
 returns-clause-left g c =
-    left_of (g.R.Runner.course c.args.runner.now) c.args.job.now c.args.tables.now.places _ _ c.run_phases.new.finals.items c.outcome_of.result.0.sets c.in_ok-run_phases.ensures.left c.outcome_of.ensures.sets
+    left_of (g.R.Runner.course c.args.runner.now) c.args.job.now c.args.tables.now.places _ _ c.in_ok-finals.finals.items c.outcome_of.result.0.sets c.in_ok-finals.ensures.left c.outcome_of.ensures.sets
 
 pub returns-clause-outcome : goal.returns-clause-outcome
 returns-clause-outcome g c =
-    outcome (g.R.Runner.course c.args.runner.now) c.args.job.now c.args.tables.now.places _ _ c.run_phases.new.slots c.outcome_of.result.0.tasks.items c.run_phases.new.finals.items c.outcome_of.result.0.sets c.run_phases.ensures.job
-    c.in_ok-run_phases.ensures.left c.in_ok-run_phases.ensures.tasks (c.outcome_of.ensures.tasks ∙ ap (λ (ss : List (Slot _ _)). dones ss) (whole g (goal.at.returns-clause-outcome g c).After-run_phases)) c.outcome_of.ensures.sets
+    outcome (g.R.Runner.course c.args.runner.now) c.args.job.now c.args.tables.now.places _ _ c.run_phases.new.slots c.outcome_of.result.0.tasks.items c.in_ok-finals.finals.items c.outcome_of.result.0.sets c.run_phases.ensures.job
+    c.in_ok-finals.ensures.left c.in_ok-finals.ensures.tasks (c.outcome_of.ensures.tasks ∙ ap (λ (ss : List (Slot _ _)). dones ss) (whole g (goal.at.returns-clause-outcome g c).After-run_phases)) c.outcome_of.ensures.sets
 
 pub returns-clause-extras : goal.returns-clause-extras
 returns-clause-extras g c =
     let same = whole g (goal.at.returns-clause-extras g c).After-run_phases in
-    are_extras (g.R.Runner.course c.args.runner.now) g.R.Runner.ends c.args.job.now c.args.tables.now.places c.run_phases.new.slots c.outcome_of.result.0.tasks.items c.outcome_of.result.1.items c.run_phases.new.finals.items c.outcome_of.result.0.sets
-    c.run_phases.ensures.job c.in_ok-run_phases.ensures.tasks c.in_ok-run_phases.ensures.extras (c.outcome_of.ensures.tasks ∙ ap (λ (ss : List (Slot _ _)). dones ss) same) (c.outcome_of.ensures.extras ∙ ap (λ (ss : List (Slot _ _)). extras_of ss) same) c.outcome_of.ensures.sets
+    are_extras (g.R.Runner.course c.args.runner.now) g.R.Runner.ends c.args.job.now c.args.tables.now.places c.run_phases.new.slots c.outcome_of.result.0.tasks.items c.outcome_of.result.1.items c.in_ok-finals.finals.items c.outcome_of.result.0.sets
+    c.run_phases.ensures.job c.in_ok-finals.ensures.tasks c.in_ok-finals.ensures.extras (c.outcome_of.ensures.tasks ∙ ap (λ (ss : List (Slot _ _)). dones ss) same) (c.outcome_of.ensures.extras ∙ ap (λ (ss : List (Slot _ _)). extras_of ss) same) c.outcome_of.ensures.sets

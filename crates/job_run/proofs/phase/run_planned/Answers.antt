@@ -1,19 +1,20 @@
-use Rattle.std.proofs.Common.{◌≡◌, ℕ, true, false, not, ◌&&◌, List, IfOk, length, refl, sym, ap, subst, ◌∙◌, arith}
+use Rattle.std.proofs.Common.{◌≡◌, ℕ, ◌+◌, true, false, not, ◌&&◌, List, IfOk, length, refl, sym, ap, subst, ◌∙◌, arith}
+use Rattle.std.proofs.lemmas.Result.{IfOk-weaker}
 use Rattle.cov_base.specs.Meaning.{Visit}
 use Rattle.cov_base.specs.declared.numbers.TaskNo.{TaskNo}
 use Rattle.module_area.specs.Notes.{Notes, calls}
-use Rattle.module_area.specs.Meaning.{PlanView}
+use Rattle.module_area.specs.Meaning.{PlanView, set_at}
 use Rattle.module_area.specs.Rule.{IsPlan, has_task}
 use Rattle.module_area.specs.Planted.{planted_notes}
-use Rattle.task_run.specs.Meaning.{Walk}
+use Rattle.task_run.specs.Meaning.{Course, Walk}
 use Rattle.job_run.specs.Areas.{GrowsBy}
 use Rattle.job_run.specs.Bounds.{JoinsTasks}
 use Rattle.job_run.specs.Crews.{all_tasks, phase_at}
 use Rattle.job_run.specs.Passes.{JoinsAll, after_planting}
 use Rattle.job_run.specs.Meaning.{phase_trace, walk_by}
-use Rattle.job_run.specs.Slots.{HaveExtras}
+use Rattle.job_run.specs.Slots.{HaveExtras, KeepsOthers, StandBefore}
 use Rattle.job_run.proofs.AreaLemmas.{grows_if}
-use Rattle.job_run.proofs.BackLemmas.{are_empty, by_sets, have_extras, have_run, others_same, whatever}
+use Rattle.job_run.proofs.BackLemmas.{are_empty, by_sets, have_extras, have_run, others_same}
 use Rattle.job_run.proofs.SlotLemmas.{all_visits, joins-start}
 use Rattle.job_run.proofs.TaskLemmas.{KeepsOthers-trans}
 use Rattle.job_run.proofs.phase.run_planned.Goals as goal
@@ -22,7 +23,7 @@ pub run_crew-requires-clause-fit : goal.run_crew-requires-clause-fit
 run_crew-requires-clause-fit g c κs within = record {
   cells = c.in_ok-cells.ensures.plan;
   is_plan = c.requires.is_plan;
-  its = record { plan = c.requires.plan; job = c.requires.job; codes = c.requires.codes };
+  its = c.requires.its;
 }
 
 pub run_crew-requires-clause-root : goal.run_crew-requires-clause-root
@@ -45,27 +46,26 @@ returns-clause-grown g c =
     let trace : List Visit = phase_trace (g.R.Runner.course c.args.runner.now) c.args.job.now c.args.tables.now.places c.args.phase in
     let root : Notes = g.A.C.Cells.notes c.run_crew.new.root in
     let observes = subst (λ (vs : List Visit). JoinsAll c.args.plan.now (after_planting c.args.plan.now) root vs) (all_visits (g.R.Runner.course c.args.runner.now) c.args.job.now c.args.tables.now.places c.args.phase) c.run_crew.ensures.root.observes in
-    let joins = subst (λ (ts : List TaskNo). JoinsTasks c.args.plan.now walks ts (after_planting c.args.plan.now) root) (sym (ap (λ (p : PlanView). p.tasks) c.requires.plan)) c.run_crew.ensures.root.joins in
-    let grown = grows_if c.args.plan.now _ walks root trace c.finish.result _ _ (g.A.Areas.ledger c.finish.new.self) _ _ (g.A.Areas.finals c.finish.new.self) is
+    let joins = subst (λ (ts : List TaskNo). JoinsTasks c.args.plan.now walks ts (after_planting c.args.plan.now) root) (sym (ap (λ (p : PlanView). p.tasks) c.requires.its.plan)) c.run_crew.ensures.root.joins in
+    let lists : IfOk c.finish.result (GrowsBy c.args.plan.now walks trace (g.A.Areas.ledger c.args.areas.now) (g.A.Areas.ledger c.finish.new.self) (g.A.Areas.finals c.args.areas.now) (g.A.Areas.finals c.finish.new.self)) = grows_if c.args.plan.now _ walks root trace c.finish.result _ _ (g.A.Areas.ledger c.finish.new.self) _ _ (g.A.Areas.finals c.finish.new.self) is
     c.in_ok-cells.ensures.plan observes joins c.finish.ensures.sets c.finish.ensures.tally
     c.make.ensures.ledger c.make.ensures.finals c.finish.ensures.ledger c.finish.ensures.finals in
-    subst (λ (p : PlanView). IfOk c.finish.result (λ f. GrowsBy p walks trace (g.A.Areas.ledger c.args.areas.now) (g.A.Areas.ledger c.finish.new.self) (g.A.Areas.finals c.args.areas.now) (g.A.Areas.finals c.finish.new.self) f))
-    c.requires.plan grown
+    IfOk-weaker c.finish.result _ _ (λ f l. record {
+      lists = subst (λ (p : PlanView). GrowsBy p walks trace (g.A.Areas.ledger c.args.areas.now) (g.A.Areas.ledger c.finish.new.self) (g.A.Areas.finals c.args.areas.now) (g.A.Areas.finals c.finish.new.self) f) c.requires.its.plan l;
+      made = c.finish.ensures.made ∙ c.make.ensures.made;
+    }) lists
 
-pub returns-clause-tasks : goal.returns-clause-tasks
-returns-clause-tasks g c =
-    whatever c.finish.result (have_run _ _ c.args.job.now c.args.phase c.equip_all.new.slots c.run_crew.new.slots c.run_crew.ensures.back (g.R.Runner.course c.args.runner.now) c.args.tables.now.places (λ t d e x p ends. ends.ended) c.in_ok-equip_all.ensures.tasks)
-
-pub returns-clause-extras : goal.returns-clause-extras
-returns-clause-extras g c =
-    by_sets c.args.plan.now _ (g.A.C.Cells.notes c.run_crew.new.root) (λ sets. HaveExtras g.R.Runner.ends c.args.job.now c.args.tables.now.places c.args.phase sets c.run_crew.new.slots) c.finish.result c.in_ok-cells.ensures.plan c.finish.ensures.settled
-    (have_extras (g.R.Runner.course c.args.runner.now) g.R.Runner.begins g.R.Runner.ends g.A.C.Cells.notes (g.A.C.Cells.notes c.run_crew.new.root) c.args.plan.now c.args.job.now c.args.tables.now.places c.args.phase
-    c.equip_all.new.slots c.run_crew.new.slots c.requires.plan c.in_ok-equip_all.ensures.ready c.run_crew.ensures.back)
-
-pub returns-clause-others : goal.returns-clause-others
-returns-clause-others g c =
-    whatever c.finish.result (KeepsOthers-trans c.args.job.now c.args.phase c.args.slots.now c.equip_all.new.slots c.run_crew.new.slots c.in_ok-equip_all.ensures.others
-    (others_same _ _ c.args.job.now c.args.phase c.equip_all.new.slots c.run_crew.new.slots c.run_crew.ensures.back))
-
-pub returns-clause-empty : goal.returns-clause-empty
-returns-clause-empty g c = whatever c.finish.result (are_empty _ _ c.args.job.now c.args.phase c.equip_all.new.slots c.run_crew.new.slots c.run_crew.ensures.back c.in_ok-equip_all.ensures.ready.empty)
+pub returns-clause-passed : goal.returns-clause-passed
+returns-clause-passed g c =
+    let run : Course = g.R.Runner.course c.args.runner.now in
+    let before : StandBefore run c.args.job.now c.args.tables.now.places (c.args.phase + 1) c.run_crew.new.slots = record {
+      tasks = have_run _ _ c.args.job.now c.args.phase c.equip_all.new.slots c.run_crew.new.slots c.run_crew.ensures.back run c.args.tables.now.places (λ t d e x p ends. ends.ended) c.in_ok-equip_all.ensures.tasks;
+      empty = are_empty _ _ c.args.job.now c.args.phase c.equip_all.new.slots c.run_crew.new.slots c.run_crew.ensures.back c.in_ok-equip_all.ensures.ready.empty;
+    } in
+    let others : KeepsOthers c.args.job.now c.args.phase c.args.slots.now c.run_crew.new.slots =
+    KeepsOthers-trans c.args.job.now c.args.phase c.args.slots.now c.equip_all.new.slots c.run_crew.new.slots c.in_ok-equip_all.ensures.others
+    (others_same _ _ c.args.job.now c.args.phase c.equip_all.new.slots c.run_crew.new.slots c.run_crew.ensures.back) in
+    IfOk-weaker c.finish.result (λ f. HaveExtras g.R.Runner.ends c.args.job.now c.args.tables.now.places c.args.phase (set_at f) c.run_crew.new.slots) _ (λ f x. record { before = before; extras = x; others = others })
+    (by_sets c.args.plan.now _ (g.A.C.Cells.notes c.run_crew.new.root) (λ sets. HaveExtras g.R.Runner.ends c.args.job.now c.args.tables.now.places c.args.phase sets c.run_crew.new.slots) c.finish.result c.in_ok-cells.ensures.plan c.finish.ensures.settled
+    (have_extras run g.R.Runner.begins g.R.Runner.ends g.A.C.Cells.notes (g.A.C.Cells.notes c.run_crew.new.root) c.args.plan.now c.args.job.now c.args.tables.now.places c.args.phase
+    c.equip_all.new.slots c.run_crew.new.slots c.requires.its.plan c.in_ok-equip_all.ensures.ready c.run_crew.ensures.back))
