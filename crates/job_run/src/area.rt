@@ -2,7 +2,7 @@
 ghost use Rattle.std.specs.Prelude.{◌≡◌, length, IfOk};
 ghost use Rattle.phase_plan.specs.Meaning.{plan_view};
 ghost use Rattle.job_run.specs.Passes.{AreEquipped};
-ghost use Rattle.job_run.specs.Slots.{AreEmpty, KeepsOthers};
+ghost use Rattle.job_run.specs.Slots.{KeepsOthers, StandBefore};
 ghost use Rattle.job_run.specs.Tasks.{AreRun};
 
 use crate::crew::Crew;
@@ -89,8 +89,7 @@ pub fn equip_all<'a, C: Cells, R: Runner<C>>(
     slots: &mut [Slot<'a, C::Pass, R::Extra>],
 ) -> Result<(), NoMemory>
     requires plan { plan.now ≡ plan_view job.now tables.now.places phase }
-    requires tasks { AreRun (R.course runner.now) job.now tables.now.places phase slots.old }
-    requires empty { AreEmpty slots.old }
+    requires before { StandBefore (R.course runner.now) job.now tables.now.places phase slots.old }
     ensures tasks { IfOk result (λ _. AreRun (R.course runner.now) job.now tables.now.places phase slots.new) }
     ensures ready { IfOk result (λ _. AreEquipped R.begins plan.now job.now tables.now.places phase slots.new) }
     ensures others { IfOk result (λ _. KeepsOthers job.now phase slots.old slots.new) }
@@ -98,9 +97,10 @@ pub fn equip_all<'a, C: Cells, R: Runner<C>>(
     let count = job.task_count();
     for t in 0..count {
         if is_of(job, t, phase) {
+            let task = TaskNo(t as u32);
             let slot = &mut slots[t];
-            let control = plan.control_of(alloc, TaskNo(t as u32))?;
-            let extra = runner.extra(alloc, plan, TaskNo(t as u32))?;
+            let control = plan.control_of(alloc, task)?;
+            let extra = runner.extra(alloc, plan, task)?;
             equip(slot, control, extra);
         }
     }

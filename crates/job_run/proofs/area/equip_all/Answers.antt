@@ -12,6 +12,12 @@ use Rattle.job_run.proofs.SlotLemmas.{plan_here}
 use Rattle.job_run.proofs.area.equip_all.Goals as goal
 use Rattle.job_run.proofs.area.equip_all.Goals.{then-is_of+in_ok-control+in_ok-extra, else-is_of}
 
+pub is_of-requires : goal.is_of-requires
+is_of-requires g c = omega (arith, c.loop-t-test.true, c.task_count-count.ensures.value)
+
+pub bounds-slots-t : goal.bounds-slots-t
+bounds-slots-t g c = omega (arith, c.loop-t-test.true, c.task_count-count.ensures.value, c.requires.before.tasks.count, c.loop-t.invariant.count)
+
 pub loop-t-init : goal.loop-t-init
 loop-t-init g c =
     Along-start (λ t x y. y ≡ x) (Own (phase_at c.args.job.now c.args.phase) (IsEquippedSlot g.R.Runner.begins c.args.plan.now c.args.job.now c.args.tables.now.places)) c.args.slots.now c.args.slots.now
@@ -23,7 +29,7 @@ loop-t-preserved g c =
     let i = c.loop-t.invariant in
     let first : ℕ → Slot _ _ → Slot _ _ → Type 0 = λ t x y. y ≡ x in
     let second : ℕ → Slot _ _ → Slot _ _ → Type 0 = Own (phase_at c.args.job.now c.args.phase) (IsEquippedSlot g.R.Runner.begins c.args.plan.now c.args.job.now c.args.tables.now.places) in
-    let here : t < length c.args.slots.now = omega (arith, c.loop-t-test.true, c.task_count-count.ensures.value, c.requires.tasks.count) in
+    let here : t < length c.args.slots.now = omega (arith, c.loop-t-test.true, c.task_count-count.ensures.value, c.requires.before.tasks.count) in
     let there : t < length c.loop-t.slots = omega (arith, here, i.count) in
     elim c.if-is_of.branch [
       | then-is_of+in_ok-control+in_ok-extra w ↦
@@ -31,7 +37,7 @@ loop-t-preserved g c =
           let none : Slot _ _ = w.index-slots-t.result in
           let as_before : get_or c.loop-t.slots t none ≡ get_or c.args.slots.now t none = i.left t none (omega arith) here in
           let was : HasNotRun c.args.job.now c.args.tables.now.places t (get_or c.loop-t.slots t none).done =
-          subst (λ (s : Slot _ _). HasNotRun c.args.job.now c.args.tables.now.places t s.done) (sym as_before) (begun_in (g.R.Runner.course c.args.runner.now) c.args.job.now c.args.tables.now.places c.args.phase t c.args.slots.now none c.requires.tasks here of) in
+          subst (λ (s : Slot _ _). HasNotRun c.args.job.now c.args.tables.now.places t s.done) (sym as_before) (begun_in (g.R.Runner.course c.args.runner.now) c.args.job.now c.args.tables.now.places c.args.phase t c.args.slots.now none c.requires.before.tasks here of) in
           let start : HasStart g.R.Runner.begins c.args.plan.now c.args.job.now c.args.tables.now.places t w.equip.new.slot.done w.equip.new.slot.extra = record {
             task = record {
               begun = w.equip.ensures.begun c.args.job.now c.args.tables.now.places t was;
@@ -55,14 +61,14 @@ loop-t-preserved g c =
 pub returns-clause-tasks : goal.returns-clause-tasks
 returns-clause-tasks g c =
     still_run (g.R.Runner.course c.args.runner.now) g.R.Runner.begins c.args.plan.now c.args.job.now c.args.tables.now.places c.args.phase c.args.slots.now c.loop-t.slots c.loop-t.t
-    (omega (arith, c.loop-t-test.false, c.task_count-count.ensures.value, c.requires.tasks.count)) c.loop-t.invariant c.requires.tasks
+    (omega (arith, c.loop-t-test.false, c.task_count-count.ensures.value, c.requires.before.tasks.count)) c.loop-t.invariant c.requires.before.tasks
 
 pub returns-clause-ready : goal.returns-clause-ready
 returns-clause-ready g c =
     all_ready (g.R.Runner.course c.args.runner.now) g.R.Runner.begins c.args.plan.now c.args.job.now c.args.tables.now.places c.args.phase c.args.slots.now c.loop-t.slots c.loop-t.t
-    (omega (arith, c.loop-t-test.false, c.task_count-count.ensures.value, c.requires.tasks.count)) c.loop-t.invariant c.requires.tasks.count c.requires.empty
+    (omega (arith, c.loop-t-test.false, c.task_count-count.ensures.value, c.requires.before.tasks.count)) c.loop-t.invariant c.requires.before.tasks.count c.requires.before.empty
 
 pub returns-clause-others : goal.returns-clause-others
 returns-clause-others g c =
     others_kept (g.R.Runner.course c.args.runner.now) g.R.Runner.begins c.args.plan.now c.args.job.now c.args.tables.now.places c.args.phase c.args.slots.now c.loop-t.slots c.loop-t.t
-    (omega (arith, c.loop-t-test.false, c.task_count-count.ensures.value, c.requires.tasks.count)) c.loop-t.invariant
+    (omega (arith, c.loop-t-test.false, c.task_count-count.ensures.value, c.requires.before.tasks.count)) c.loop-t.invariant

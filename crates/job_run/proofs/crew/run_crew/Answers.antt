@@ -9,6 +9,16 @@ use Rattle.job_run.specs.declared.slots.Slot.{Slot}
 use Rattle.job_run.proofs.crew.run_crew.Goals as goal
 use Rattle.job_run.proofs.crew.run_crew.Goals.{in-Some, in_default}
 
+pub split_all-requires-clause-count : goal.split_all-requires-clause-count
+split_all-requires-clause-count g c κs within = c.requires.ready.count ∙ ap (λ (p : PhaseView). length p.job.tasks) c.requires.phase
+
+pub run_those-requires-clause-count : goal.run_those-requires-clause-count
+run_those-requires-clause-count g c κs within = c.split_all.ensures.passes.count ∙ (c.requires.ready.count ∙ ap (λ (p : PhaseView). length p.job.tasks) c.requires.phase)
+
+pub run_those-requires-clause-number : goal.run_those-requires-clause-number
+run_those-requires-clause-number g c κs within =
+    omega (arith, c.split_all.ensures.job.tasks, c.split_all.ensures.passes.count, c.requires.ready.count, ap (λ (p : PhaseView). length p.job.tasks) c.requires.phase)
+
 pub run_those-requires-clause-can : goal.run_those-requires-clause-can
 run_those-requires-clause-can g c κs within =
     can_all (g.C.Crew.IsFresh c.args.crew.now) (g.C.Crew.HasRun c.args.crew.now) (g.C.Crew.CanRun c.args.crew.now) (g.C.Crew.Ends c.args.crew.now) (g.C.Crew.phase c.args.crew.now)
@@ -28,6 +38,13 @@ loop-t-init g c =
           (all_gone (g.C.Crew.IsFresh c.args.crew.now) (g.C.Crew.HasRun c.args.crew.now) (g.C.Crew.CanRun c.args.crew.now) (g.C.Crew.Ends c.args.crew.now) p
           c.args.slots.now c.split_all.new.slots c.run_those.new.slots c.requires.ready c.split_all.ensures.passes c.run_those.ensures);
     }
+
+pub take_at-requires : goal.take_at-requires
+take_at-requires g c =
+    omega (arith, c.loop-t-test.true, c.task_count-count.ensures.value, c.loop-t.invariant.slots.count, c.requires.ready.count, ap (λ (p : PhaseView). length p.job.tasks) c.requires.phase)
+
+pub join-requires-clause-root : goal.join-requires-clause-root
+join-requires-clause-root g c = c.loop-t.invariant.root
 
 pub join-requires-clause-task : goal.join-requires-clause-task
 join-requires-clause-task g c = record {

@@ -4,6 +4,9 @@ use Rattle.job_run.proofs.CrewLemmas.{stands_still}
 use Rattle.job_run.proofs.RangeLemmas.{all_after, each_in_part, part_size}
 use Rattle.job_run.proofs.crew.run_those.Goals as goal
 
+pub slice_bounds-run_slots-end : goal.slice_bounds-run_slots-end
+slice_bounds-run_slots-end g c = omega (arith, c.range_of-range.ensures.exists, c.requires.count)
+
 pub run_slots-requires-clause-number : goal.run_slots-requires-clause-number
 run_slots-requires-clause-number g c κs within =
     let r = c.range_of-range.ensures in

@@ -7,6 +7,15 @@ use Rattle.job_run.proofs.EachLemmas.{Along-all, Along-one, Along-other, Along-s
 use Rattle.job_run.proofs.crew.split_all.Goals as goal
 use Rattle.job_run.proofs.crew.split_all.Goals.{then-is_of, else-is_of}
 
+pub is_of-requires : goal.is_of-requires
+is_of-requires g c = omega (arith, c.loop-t-test.true, c.task_count-count.ensures.value)
+
+pub split-pass-requires-clause-root : goal.split-pass-requires-clause-root
+split-pass-requires-clause-root g c = c.loop-t.invariant.root
+
+pub bounds-slots-t : goal.bounds-slots-t
+bounds-slots-t g c = omega (arith, c.loop-t-test.true, c.task_count-count.ensures.value, c.requires.count, c.loop-t.invariant.passes.count)
+
 pub loop-t-init : goal.loop-t-init
 loop-t-init g c = record {
   root = c.requires.root;

@@ -15,6 +15,12 @@ put_parts-requires-clause-some g c =
     let all = subst (λ (ss : List (Slot _ _)). All (λ s. IsSome s.extra) ss) c.in-Some.ensures.steps.0 c.loop-slot.invariant.some in
     all 0 c.in-Some.slot (omega arith)
 
+pub put_parts-requires-clause-tasks_room : goal.put_parts-requires-clause-tasks_room
+put_parts-requires-clause-tasks_room g c = omega (arith, c.loop-slot.invariant.tasks_room, ap (λ (ss : List (Slot _ _)). length ss) c.in-Some.ensures.steps.0)
+
+pub put_parts-requires-clause-extras_room : goal.put_parts-requires-clause-extras_room
+put_parts-requires-clause-extras_room g c = omega (arith, c.loop-slot.invariant.extras_room, ap (λ (ss : List (Slot _ _)). length ss) c.in-Some.ensures.steps.0)
+
 pub loop-slot-preserved : goal.loop-slot-preserved
 loop-slot-preserved g c =
     let first = c.in-Some.ensures.steps.0 in

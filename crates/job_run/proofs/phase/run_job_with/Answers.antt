@@ -1,6 +1,6 @@
-use Rattle.std.proofs.Common.{◌≡◌, ◌++◌, All, IsSome, List, length, take, drop, sym, ◌∙◌, ap, subst}
+use Rattle.std.proofs.Common.{◌≡◌, ℕ, ◌++◌, All, IsSome, List, length, take, drop, sym, ◌∙◌, ap, subst}
 use Rattle.brk_table.proofs.Laws.{are_in}
-use Rattle.job_run.specs.Slots.{StandBefore, dones, extras_of}
+use Rattle.job_run.specs.Slots.{HasRoom, StandBefore, dones, extras_of}
 use Rattle.job_run.specs.declared.slots.Slot.{Slot}
 use Rattle.job_run.proofs.PhaseLemmas.{left_count, written}
 use Rattle.job_run.proofs.SessionLemmas.{all_sized, are_extras, has_some, left_of, outcome}
@@ -24,6 +24,11 @@ whole : (g : given.Over) (c : After-run_phases g) →
 whole g c =
     let old : List (Slot _ _) = c.in_ok-slots.slots.items in
     written old c.run_phases.new.slots c.in_ok-slots.slots.len (c.run_phases.auto.slots ∙ ap (λ (ss : List (Slot _ _)). length ss) c.deref_mut.ensures.value) (sym c.in_ok-slots.slots.ok.0)
+
+pub outcome_of-requires-clause-room : goal.outcome_of-requires-clause-room
+outcome_of-requires-clause-room g c =
+    let count = ap (λ (ss : List (Slot _ _)). length ss) (whole g (goal.at.outcome_of-requires-clause-room g c).After-run_phases) ∙ c.in_ok-finals.ensures.tasks.count in
+    subst (λ (n : ℕ). HasRoom n c.in_ok-room.room) (sym count) c.in_ok-room.ensures
 
 pub outcome_of-requires-clause-some : goal.outcome_of-requires-clause-some
 outcome_of-requires-clause-some g c =

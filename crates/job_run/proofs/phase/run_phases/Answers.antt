@@ -6,6 +6,12 @@ use Rattle.job_run.proofs.PhaseLemmas.{HasRunTo, HasRunTo-start, HasRunTo-next, 
 use Rattle.job_run.proofs.TaskLemmas.{HaveAllExtras-start, HaveAllExtras-next}
 use Rattle.job_run.proofs.phase.run_phases.Goals as goal
 
+pub run_phase-requires-clause-before : goal.run_phase-requires-clause-before
+run_phase-requires-clause-before g c κs within = c.loop-phase.invariant.before
+
+pub run_phase-requires-clause-phase : goal.run_phase-requires-clause-phase
+run_phase-requires-clause-phase g c κs within = omega (arith, c.loop-phase-test.true, c.phase_count-count.ensures.value)
+
 pub loop-phase-preserved : goal.loop-phase-preserved
 loop-phase-preserved g c =
     let phase : ℕ = c.loop-phase.phase in

@@ -19,6 +19,9 @@ use Rattle.job_run.proofs.SlotLemmas.{all_visits, joins-start}
 use Rattle.job_run.proofs.TaskLemmas.{KeepsOthers-trans}
 use Rattle.job_run.proofs.phase.run_planned.Goals as goal
 
+pub run_crew-requires-clause-ready : goal.run_crew-requires-clause-ready
+run_crew-requires-clause-ready g c κs within = c.in_ok-equip_all.ensures.ready
+
 pub run_crew-requires-clause-fit : goal.run_crew-requires-clause-fit
 run_crew-requires-clause-fit g c κs within = record {
   cells = c.in_ok-cells.ensures.plan;
