@@ -9,7 +9,7 @@ use Rattle.task_services.specs.Meaning.{course_of}
 use Rattle.session_book.specs.Meaning.{JobView}
 use Rattle.phase_plan.specs.Meaning.{plan_view, traces_from}
 use Rattle.job_run.specs.Meaning.{trace_by}
-use Rattle.job_run.specs.Tasks.{AreRun}
+use Rattle.job_run.specs.Slots.{StandBefore}
 use Rattle.count_session.specs.Meaning.{count_at, count_of_all}
 use Rattle.count_session.specs.Passes.{IsPassOf, notes_of, plan_in}
 use Rattle.count_session.specs.Slots.{CountSlot}
@@ -56,6 +56,6 @@ pub record IsCounted (j : JobView) (places : List Place) (phase : ℕ) (counts :
 abbrev pub AreCounted : JobView → List Place → ℕ → List (List PlaceCount) → Type 0
 AreCounted j places phases counts = (length counts ≡ phases) × ((k : ℕ) (d : List PlaceCount) → k < phases → IsCounted j places k (get_or counts k d))
 
--- the tasks of the earlier phases have run, with the job's services, and the others are as they begin
-abbrev pub HaveRun : JobView → List Place → ℕ → List CountSlot → Type 0
-HaveRun j places phase slots = AreRun (course_of j.services) j places phase slots
+-- the tasks of the earlier phases have run, with the job's services, the others are as they begin, and no slot has a pass
+abbrev pub AreBefore : JobView → List Place → ℕ → List CountSlot → Type 0
+AreBefore j places phase slots = StandBefore (course_of j.services) j places phase slots

@@ -1,12 +1,11 @@
 //! A whole job counted, and what it comes to.
-ghost use Rattle.std.specs.Prelude.{◌≡◌, ◌+◌, ◌<◌, ◌≤◌, nat_eq, length, IfOk};
-ghost use Rattle.std.specs.List.{list_any};
+ghost use Rattle.std.specs.Prelude.{◌≡◌, ◌+◌, ◌<◌, ◌≤◌, length, IfOk};
 ghost use Rattle.brk_table.specs.Kept.{AreCodes};
 ghost use Rattle.session_book.specs.JobView.{IsJob};
 ghost use Rattle.session_book.specs.Sessions.{AreWhole};
-ghost use Rattle.job_run.specs.Slots.{AreEmpty, dones};
+ghost use Rattle.job_run.specs.Slots.{dones};
 ghost use Rattle.count_session.specs.Job.{CountsView, IsCountedJob, count_of};
-ghost use Rattle.count_session.specs.Phases.{AreCounted, HaveRun};
+ghost use Rattle.count_session.specs.Phases.{AreBefore, AreCounted};
 
 use crate::counts::Counts;
 use crate::pass::CountSlot;
@@ -15,8 +14,9 @@ use brk_table::Tables;
 use cov_base::{Fact, NoMemory, PlaceNo, SessNo, TaskNo};
 use cov_outside::Gate;
 use job_run::make_slots;
+use phase_plan::has_module;
 use s370_state::{Cpu, Ending};
-use session_book::{FactCounts, Job, Results, Session};
+use session_book::{FactCounts, Job, Results};
 use std::alloc::Global;
 use std::marker::Model;
 use std::sync::Wait;
@@ -40,12 +40,6 @@ impl<'a> Model for JobCounts<'a> {
     ghost invariant = { λ c. AreSized (record { job = c.job.now; places = c.tables.now.places; phases = c.phases.items }) };
 }
 
-fn has_module(session: &Session, m: u32) -> bool
-    ensures { result ≡ list_any (nat_eq m) session.now.modules }
-{
-    session.modules.iter().any(|n| m == *n)
-}
-
 impl<'a> JobCounts<'a> {
     /// How often the fact was counted for the session, which is one of the job, at the place, which is one of the tables; 0 at
     /// a place of a module that the session doesn't name.
@@ -56,7 +50,7 @@ impl<'a> JobCounts<'a> {
         ensures { result ≡ count_of self.now s.0 place.0 fact }
     {
         let session = self.job.session(s);
-        if !has_module(session, self.tables.place(place).module) {
+        if !has_module(&session.modules, self.tables.place(place).module) {
             return 0;
         }
         self.phases[session.phase as usize].get(place, fact)
@@ -124,11 +118,10 @@ fn count_phases<'a, T: Threads + Sync, G: Gate + Sync>(
     slots: &mut [CountSlot<'a>],
 ) -> Result<Vec<Counts>, NoMemory>
     requires codes { AreCodes job.now.images tables.now }
-    requires tasks { HaveRun job.now tables.now.places 0 slots.old }
-    requires empty { AreEmpty slots.old }
+    requires before { AreBefore job.now tables.now.places 0 slots.old }
     ensures job { IsJob job.now }
     ensures counts { IfOk result (λ v. AreCounted job.now tables.now.places (length job.now.phases) v.items) }
-    ensures tasks { IfOk result (λ _. HaveRun job.now tables.now.places (length job.now.phases) slots.new) }
+    ensures through { IfOk result (λ _. AreBefore job.now tables.now.places (length job.now.phases) slots.new) }
 {
     let count = job.phase_count();
     let mut phases = Vec::with_capacity(alloc, count as usize)?;

@@ -2,10 +2,9 @@
 ghost use Rattle.std.specs.Prelude.{◌≡◌, ◌+◌, ◌<◌, true, false, length, IfOk};
 ghost use Rattle.brk_table.specs.Kept.{AreCodes};
 ghost use Rattle.session_book.specs.JobView.{IsJob};
-ghost use Rattle.job_run.specs.Slots.{AreEmpty};
 ghost use Rattle.count_session.specs.Notes.{root_notes, OnlyPlants, PlantsAt, HasPlanted};
 ghost use Rattle.count_session.specs.Passes.{IsPassOf, notes_of, plan_in};
-ghost use Rattle.count_session.specs.Phases.{HaveRun, IsCounted};
+ghost use Rattle.count_session.specs.Phases.{AreBefore, IsCounted};
 
 use crate::cells::CountCells;
 use crate::counts::Counts;
@@ -121,11 +120,9 @@ pub(crate) fn count_phase<'a, T: Threads + Sync, G: Gate + Sync>(
     requires job { IsJob job.now }
     requires phase { phase < length job.now.phases }
     requires codes { AreCodes job.now.images tables.now }
-    requires tasks { HaveRun job.now tables.now.places phase slots.old }
-    requires empty { AreEmpty slots.old }
+    requires before { AreBefore job.now tables.now.places phase slots.old }
     ensures counts { IfOk result (IsCounted job.now tables.now.places phase) }
-    ensures tasks { IfOk result (λ _. HaveRun job.now tables.now.places (phase + 1) slots.new) }
-    ensures empty { IfOk result (λ _. AreEmpty slots.new) }
+    ensures next { IfOk result (λ _. AreBefore job.now tables.now.places (phase + 1) slots.new) }
 {
     let plan = plan_of(alloc, job, tables, phase)?;
     let (cells, mut root) = CountCells::new(alloc, &plan)?;

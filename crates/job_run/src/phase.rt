@@ -1,5 +1,5 @@
 //! The phases of a job, one after the other.
-ghost use Rattle.std.specs.Prelude.{◌≡◌, ◌<◌, ◌≤◌, ◌^◌, length, map, All, IsSome, IfOk};
+ghost use Rattle.std.specs.Prelude.{◌≡◌, ◌<◌, ◌^◌, length, map, All, IsSome, IfOk};
 ghost use Rattle.std.specs.declared.option.Option.TheVariants.{Some};
 ghost use Rattle.brk_table.specs.Kept.{AreCodes};
 ghost use Rattle.module_area.specs.Rule.{IsPlan};

@@ -5,4 +5,4 @@ mod beginning;
 mod plans;
 
 pub use beginning::{Begun, begin};
-pub use plans::plan_of;
+pub use plans::{has_module, plan_of};

@@ -12,7 +12,8 @@ use module_area::{Controlled, Place, Plan};
 use session_book::{Job, Session, TaskCard};
 use std::alloc::Global;
 
-fn has_module(modules: &[u32], m: u32) -> bool
+/// Whether the module is among these, which are those that a session names.
+pub fn has_module(modules: &[u32], m: u32) -> bool
     ensures { result ≡ list_any (nat_eq m) modules.now }
 {
     modules.iter().any(|n| m == *n)

@@ -11,8 +11,11 @@ use Rattle.count_session.proofs.job.count_job.Goals as goal
 pub make_slots-requires : goal.make_slots-requires
 make_slots-requires g c = are_in c.args.job.now.images c.args.tables.now c.requires.tables
 
-pub count_phases-requires-clause-tasks : goal.count_phases-requires-clause-tasks
-count_phases-requires-clause-tasks g c κs within = rw c.deref_mut.ensures.value (AreRun-start (course_of c.args.job.now.services) c.args.job.now c.args.tables.now.places _ c.in_ok-slots.ensures.tasks)
+pub count_phases-requires-clause-before : goal.count_phases-requires-clause-before
+count_phases-requires-clause-before g c κs within = rw c.deref_mut.ensures.value record {
+  tasks = AreRun-start (course_of c.args.job.now.services) c.args.job.now c.args.tables.now.places _ c.in_ok-slots.ensures.tasks;
+  empty = c.in_ok-slots.ensures.empty;
+}
 
 pub returns : goal.returns
 returns g c =
@@ -21,4 +24,4 @@ returns g c =
     let whole : take c.in_ok-slots.slots.len (new ++ drop (length new) old) ≡ new =
     written old new c.in_ok-slots.slots.len (c.count_phases.auto.slots ∙ ap (λ (ss : List CountSlot). length ss) c.deref_mut.ensures.value) (sym c.in_ok-slots.slots.ok.0) in
     subst (λ (ss : List CountSlot). IsCountedJob c.args.job.now c.args.tables.now.places (dones ss) (record { job = c.args.job.now; places = c.args.tables.now.places; phases = c.in_ok-phases.phases.items })) (sym whole)
-    (counted_job c.args.job.now c.args.tables.now.places new c.in_ok-phases.phases.items c.count_phases.ensures.job c.requires.whole c.in_ok-phases.ensures.counts c.in_ok-phases.ensures.tasks)
+    (counted_job c.args.job.now c.args.tables.now.places new c.in_ok-phases.phases.items c.count_phases.ensures.job c.requires.whole c.in_ok-phases.ensures.counts c.in_ok-phases.ensures.through.tasks)

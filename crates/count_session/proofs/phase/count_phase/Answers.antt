@@ -1,9 +1,6 @@
-use Rattle.std.proofs.Common.{◌≡◌, ℕ, ◌<◌, [], refl, ap, subst, sym, ◌∙◌}
-use Rattle.module_area.specs.Meaning.{PlanView}
+use Rattle.std.proofs.Common.{ℕ, ◌<◌, subst, sym, ◌∙◌}
 use Rattle.job_run.proofs.Laws.{are_empty, have_run, whatever, begun_in}
 use Rattle.task_services.specs.Meaning.{course_of}
-use Rattle.count_session.specs.Notes.{CountNotes}
-use Rattle.count_session.specs.Passes.{notes_of, plan_in}
 use Rattle.count_session.proofs.PassLemmas.{counted_if, joins_start}
 use Rattle.count_session.proofs.phase.count_phase.Goals as goal
 
@@ -16,9 +13,9 @@ run_crew-requires-clause-root g c κs within =
 
 pub run_crew-requires-clause-ready : goal.run_crew-requires-clause-ready
 run_crew-requires-clause-ready g c κs within = record {
-  count = c.requires.tasks.count;
-  empty = c.requires.empty;
-  can = λ t d its. begun_in (course_of c.args.job.now.services) c.args.job.now c.args.tables.now.places c.args.phase t c.args.slots.now d c.requires.tasks (subst (λ (n : ℕ). t < n) (sym c.requires.tasks.count) its.exists) its.its;
+  count = c.requires.before.tasks.count;
+  empty = c.requires.before.empty;
+  can = λ t d its. begun_in (course_of c.args.job.now.services) c.args.job.now c.args.tables.now.places c.args.phase t c.args.slots.now d c.requires.before.tasks (subst (λ (n : ℕ). t < n) (sym c.requires.before.tasks.count) its.exists) its.its;
 }
 
 pub finish-requires-clause-joined : goal.finish-requires-clause-joined
@@ -28,9 +25,8 @@ pub returns-clause-counts : goal.returns-clause-counts
 returns-clause-counts g c =
     counted_if c.args.job.now c.args.tables.now.places c.args.phase c.in_ok-cells.cells c.run_crew.new.root c.finish.result (c.in_ok-cells.ensures.plan ∙ c.in_ok-plan.ensures) c.run_crew.ensures.root c.finish.ensures
 
-pub returns-clause-tasks : goal.returns-clause-tasks
-returns-clause-tasks g c =
-    whatever c.finish.result (have_run _ _ c.args.job.now c.args.phase c.args.slots.now c.run_crew.new.slots c.run_crew.ensures.back (course_of c.args.job.now.services) c.args.tables.now.places (λ t d e x p ends. ends) c.requires.tasks)
-
-pub returns-clause-empty : goal.returns-clause-empty
-returns-clause-empty g c = whatever c.finish.result (are_empty _ _ c.args.job.now c.args.phase c.args.slots.now c.run_crew.new.slots c.run_crew.ensures.back c.requires.empty)
+pub returns-clause-next : goal.returns-clause-next
+returns-clause-next g c = whatever c.finish.result record {
+  tasks = have_run _ _ c.args.job.now c.args.phase c.args.slots.now c.run_crew.new.slots c.run_crew.ensures.back (course_of c.args.job.now.services) c.args.tables.now.places (λ t d e x p ends. ends) c.requires.before.tasks;
+  empty = are_empty _ _ c.args.job.now c.args.phase c.args.slots.now c.run_crew.new.slots c.run_crew.ensures.back c.requires.before.empty;
+}

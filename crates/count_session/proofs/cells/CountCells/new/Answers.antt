@@ -7,6 +7,9 @@ use Rattle.count_session.specs.Rule.{IsCounting, first_view}
 use Rattle.count_session.proofs.BeginLemmas.{begins_area}
 use Rattle.count_session.proofs.cells.CountCells.new.Goals as goal
 
+pub first_words-requires : goal.first_words-requires
+first_words-requires c = c.word_count.ensures.cells
+
 pub of_words-requires : goal.of_words-requires
 of_words-requires c = let plan = c.in_ok-plan.plan in
     let words : c.as_slice.result.now ≡ starting plan (word_count plan) = c.as_slice.ensures.value ∙ c.in_ok-words.ensures.value ∙ ap (starting plan) c.word_count.ensures.value in
