@@ -4,6 +4,7 @@ ghost use Rattle.brk_table.specs.Together.{AreTables};
 ghost use Rattle.cov_base.specs.Meaning.{no_facts};
 ghost use Rattle.phase_plan.specs.Sets.{HasSetsOf};
 ghost use Rattle.session_marks.specs.Filled.{with_sets, filled_module, AreThere, filled};
+ghost use Rattle.session_marks.specs.Marking.{HasSets};
 ghost use Rattle.session_marks.specs.Meaning.{session_file};
 
 use crate::marking::modules_of;
@@ -44,9 +45,7 @@ fn fill_modules<R: FactSets>(
     s: SessNo,
     modules: &[u32],
 )
-    requires some { 0 < s.0 }
-    requires session { s.0 < R.sessions sets.now + 1 }
-    requires size { R.places sets.now ≡ length tables.now.places }
+    requires has { HasSets (R.sessions sets.now) (R.places sets.now) tables.now s.0 }
     requires most { length tables.now.places ≤ 65536 }
     requires there { AreThere tables.now marked.old modules.now }
     ensures { marked.new ≡ filled tables.now (R.set_of sets.now s.0) marked.old modules.now }

@@ -1,12 +1,12 @@
 //! The marks that a session's sets come to.
-ghost use Rattle.std.specs.Prelude.{◌≡◌, ℕ, ◌+◌, ◌<◌, ◌≤◌, length, All, IfOk};
+ghost use Rattle.std.specs.Prelude.{◌≡◌, ℕ, ◌<◌, ◌≤◌, length, All, IfOk};
 ghost use Rattle.brk_table.specs.Together.{AreTables};
 ghost use Rattle.module_area.specs.Meaning.{place_of};
 ghost use Rattle.session_book.specs.JobView.{IsJob, IsSession};
 ghost use Rattle.session_book.specs.Meaning.{module_of, session_of};
 ghost use Rattle.phase_plan.specs.Sets.{HasSetsOf, AreWithin};
 ghost use Rattle.session_marks.specs.Meaning.{marked_place, marked_module, marked_modules, session_file};
-ghost use Rattle.session_marks.specs.Marking.{marked_between};
+ghost use Rattle.session_marks.specs.Marking.{HasSets, marked_between};
 ghost use Rattle.session_marks.specs.Fields.{HasGoodFields, AreHalfwords};
 
 use brk_table::Tables;
@@ -25,9 +25,7 @@ fn original_of(place: &Place) -> u16
 
 /// A place of a module of this base, and its set.
 fn marked_place<R: FactSets>(tables: &Tables, sets: &R, s: SessNo, base: u32, n: u32) -> MarkedPlace
-    requires some { 0 < s.0 }
-    requires session { s.0 < R.sessions sets.now + 1 }
-    requires size { R.places sets.now ≡ length tables.now.places }
+    requires has { HasSets (R.sessions sets.now) (R.places sets.now) tables.now s.0 }
     requires exists { n < length tables.now.places }
     requires from { base ≤ (place_of tables.now.places n).at }
     ensures value { result ≡ marked_place base tables.now.places (R.set_of sets.now s.0) n }
@@ -53,9 +51,7 @@ fn marked_places<R: FactSets>(
     first: u32,
     past: u32,
 ) -> Result<Vec<MarkedPlace>, NoMemory>
-    requires some { 0 < s.0 }
-    requires session { s.0 < R.sessions sets.now + 1 }
-    requires size { R.places sets.now ≡ length tables.now.places }
+    requires has { HasSets (R.sessions sets.now) (R.places sets.now) tables.now s.0 }
     requires range { first ≤ past }
     requires exist { past ≤ length tables.now.places }
     requires from { (n : ℕ) → first ≤ n → n < past → base ≤ (place_of tables.now.places n).at }
@@ -96,9 +92,7 @@ fn marked_module<R: FactSets>(
 ) -> Result<MarkedModule, NoMemory>
     requires module { m < length job.now.images }
     requires tables { AreTables job.now.images tables.now.tables }
-    requires some { 0 < s.0 }
-    requires session { s.0 < R.sessions sets.now + 1 }
-    requires size { R.places sets.now ≡ length tables.now.places }
+    requires has { HasSets (R.sessions sets.now) (R.places sets.now) tables.now s.0 }
     requires within { AreWithin tables.now (R.set_of sets.now s.0) m }
     ensures value { IfOk result (λ v. v ≡ marked_module job.now tables.now (R.set_of sets.now s.0) m) }
     ensures fields { IfOk result (λ v. HasGoodFields v) }
@@ -126,9 +120,7 @@ fn marked_modules<R: FactSets>(
 ) -> Result<Vec<MarkedModule>, NoMemory>
     requires modules { All (λ m. m < length job.now.images) modules.now }
     requires tables { AreTables job.now.images tables.now.tables }
-    requires some { 0 < s.0 }
-    requires session { s.0 < R.sessions sets.now + 1 }
-    requires size { R.places sets.now ≡ length tables.now.places }
+    requires has { HasSets (R.sessions sets.now) (R.places sets.now) tables.now s.0 }
     requires within { All (AreWithin tables.now (R.set_of sets.now s.0)) modules.now }
     ensures value { IfOk result (λ v. v.items ≡ marked_modules job.now tables.now (R.set_of sets.now s.0) modules.now) }
     ensures fields { IfOk result (λ v. All HasGoodFields v.items) }
