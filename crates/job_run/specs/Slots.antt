@@ -62,7 +62,7 @@ pub record StandBefore {P E : Type 0} (course : Course) (j : JobView) (places : 
   pub empty : AreEmpty slots
 
 -- so they stand before the next phase: this one's tasks have run, and tell this by their extras, where its area has ended with these sets
-pub record HavePassed {P E : Type 0} (course : Course) (ends : Ends E) (j : JobView) (places : List Place) (phase : ℕ) (old new : List (Slot P E)) (f : FinalsView) : Type 0 where
+pub record Passed {P E : Type 0} (course : Course) (ends : Ends E) (j : JobView) (places : List Place) (phase : ℕ) (old new : List (Slot P E)) (f : FinalsView) : Type 0 where
   pub before : StandBefore course j places (phase + 1) new
   pub extras : HaveExtras ends j places phase (set_at f) new
   pub others : KeepsOthers j phase old new

@@ -9,7 +9,7 @@ ghost use Rattle.job_run.specs.Outcomes.{AreExtras, ComesTo};
 ghost use Rattle.job_run.specs.Passes.{IsOfPhase};
 ghost use Rattle.job_run.specs.Runs.{Grows, HasGrown, LeavesSets};
 ghost use Rattle.job_run.specs.Sets.{IsSized, sets_of};
-ghost use Rattle.job_run.specs.Slots.{HasRoom, HaveJobExtras, HavePassed, StandBefore, dones, extras_of};
+ghost use Rattle.job_run.specs.Slots.{HasRoom, HaveJobExtras, Passed, StandBefore, dones, extras_of};
 ghost use Rattle.job_run.specs.Tasks.{AllRun};
 
 use crate::area::{AreaCrew, equip_all};
@@ -46,7 +46,7 @@ fn run_planned<'a, T: Threads + Sync, A: Areas, G: Gate + Sync, R: Runner<A::C> 
     requires its { IsOfPhase plan.now job.now tables.now phase }
     requires before { StandBefore (R.course runner.now) job.now tables.now.places phase slots.old }
     ensures grown { IfOk result (Grows A.Areas (R.course runner.now) job.now tables.now phase areas.old areas.new) }
-    ensures passed { IfOk result (HavePassed (R.course runner.now) R.ends job.now tables.now.places phase slots.old slots.new) }
+    ensures passed { IfOk result (Passed (R.course runner.now) R.ends job.now tables.now.places phase slots.old slots.new) }
 {
     equip_all::<A::C, R>(alloc, runner, job, tables, plan, phase, slots)?;
     let (cells, mut root) = areas.make(alloc, plan)?;
@@ -81,7 +81,7 @@ fn run_phase<'a, T: Threads + Sync, A: Areas, G: Gate + Sync, R: Runner<A::C> + 
     requires codes { AreCodes job.now.images tables.now }
     requires before { StandBefore (R.course runner.now) job.now tables.now.places phase slots.old }
     ensures grown { IfOk result (Grows A.Areas (R.course runner.now) job.now tables.now phase areas.old areas.new) }
-    ensures passed { IfOk result (HavePassed (R.course runner.now) R.ends job.now tables.now.places phase slots.old slots.new) }
+    ensures passed { IfOk result (Passed (R.course runner.now) R.ends job.now tables.now.places phase slots.old slots.new) }
 {
     let plan = plan_of(alloc, job, tables, phase)?;
     // the proof reads the rules that a plan keeps off this look at one
