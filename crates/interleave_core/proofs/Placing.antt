@@ -161,6 +161,9 @@ pub step_by : (w : World) (c : Parts) (closes : Bool) (s : SessNo) (p : PlaceNo)
 step_by w c true s p t x by h = ap (by_controller w c true s.0 p.0 None) by ∙ h
 step_by w c false s p t x by h = ap (by_controller w c false s.0 p.0 (whole_step w c s.0 p.0)) by ∙ h
 
+pub step_whole : (w : World) (c : Parts) (s : SessNo) (p : PlaceNo) (x : Option Stepped) → controller_of w s.0 ≡ None → whole_step w c s.0 p.0 ≡ x → parts_step w c (Plant s p) ≡ x
+step_whole w c s p x by h = ap (by_controller w c false s.0 p.0 (whole_step w c s.0 p.0)) by ∙ h
+
 pub changed_core : (w : World) (cells : List Cell) (sets : List FactSet) (plan : PlanView) (tasks : List RunningView) (closes : Bool) (s : SessNo) (p : PlaceNo) (t : ℕ) (m n : RunningView) (x : Cell) →
     IsCore w cells sets plan tasks → controller_of w s.0 ≡ Some t → t < length tasks → m ≡ get_or tasks t m →
     is_some (of_existing (record { cells = cells; sets = sets; tasks = parts_of tasks }) t (change_step w (record { cells = cells; sets = sets; tasks = parts_of tasks }) closes s.0 p.0 t)) ≡ true →

@@ -1,5 +1,5 @@
 -- What a task of a core keeps besides what the core stores of it, and what holds of a core at every moment.
-use Rattle.std.specs.Prelude.{◌≡◌, ◌≢◌, ℕ, ◌+◌, ◌-◌, ◌*◌, ◌<◌, ◌≤◌, Bool, true, false, nat_le, nat_lt, if◌then◌else◌, Option, Some, None, option_map, option_and_then, Result, IfOk, List, [], length, get_or, map, All, filter, nat_eq}
+use Rattle.std.specs.Prelude.{◌≡◌, ◌≢◌, ℕ, ◌+◌, ◌-◌, ◌*◌, ◌<◌, ◌≤◌, Bool, true, false, nat_le, nat_lt, if◌then◌else◌, Option, Some, None, option_map, option_and_then, Result, IfOk, OnErr, List, [], length, get_or, map, All, filter, nat_eq}
 use Rattle.std.specs.List.{list_all}
 use Rattle.cov_base.specs.Meaning.{is_within, FactSet}
 use Rattle.cov_base.specs.declared.numbers.PlaceNo.{PlaceNo}
@@ -181,6 +181,13 @@ pub record CoreView : Type 0 where
 -- the event leaves these parts, and shows this
 abbrev pub Leaves : Option Stepped → Parts → Shown → Type 0
 Leaves step parts shown = step ≡ Some (record { parts = parts; shown = shown })
+
+-- what comes of a try at this step: it was made, or isn't possible and leaves the core as it was
+pub record Tries {E : Type 0} (old : CoreView) (step : Option Stepped) (new : CoreView) (answer : Result Shown E) : Type 0 where
+  pub possible : IfOk answer (Leaves step new.parts)
+  pub refused : OnErr answer (step ≡ None)
+  pub kept : OnErr answer (new ≡ old)
+  pub world : new.world ≡ old.world
 
 -- the planting or closing of session s at place p by task t
 abbrev pub change_by : CoreView → Bool → ℕ → ℕ → ℕ → Option Stepped

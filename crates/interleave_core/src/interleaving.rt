@@ -1,5 +1,5 @@
 //! The core.
-ghost use Rattle.std.specs.Prelude.{◌≡◌, ℕ, ◌+◌, ◌*◌, ◌<◌, ◌≤◌, nat_lt, true, false, [], length, All, IfOk, OnErr, IfSome, is_some, IsTrue, IsNone, ◌↔◌};
+ghost use Rattle.std.specs.Prelude.{◌≡◌, ℕ, ◌+◌, ◌*◌, ◌<◌, ◌≤◌, nat_lt, ◌||◌, true, false, [], length, All, IfOk, OnErr, IfSome, is_some, IsTrue, IsNone, ◌↔◌};
 ghost use Rattle.std.specs.declared.option.Option.TheVariants.{Some, None};
 ghost use Rattle.module_area.specs.Meaning.{word_at};
 ghost use Rattle.module_area.specs.Notes.{is_closed};
@@ -15,7 +15,7 @@ ghost use Rattle.interleave_core.specs.declared.events.Event.TheVariants as even
 ghost use Rattle.interleave_core.specs.Going.{HasGone, all_events};
 ghost use Rattle.interleave_core.specs.Results.{IsDue, IsOver, Fits};
 ghost use Rattle.interleave_core.specs.Quiet.{any_unmarked, is_quiet, StayQuiet, DrainedStay, QuietAsDrained};
-ghost use Rattle.interleave_core.specs.Views.{AreSteady, IsPlaced, Leaves, change_by};
+ghost use Rattle.interleave_core.specs.Views.{AreSteady, IsPlaced, Leaves, Tries, change_by};
 
 use crate::control::{controller_of, is_closed};
 use crate::events::{Event, NotPossible, Shown};
@@ -57,19 +57,17 @@ impl<'a> Model for Core<'a> {
 
 impl<'a> Core<'a> {
     fn fetch(&mut self, t: TaskNo) -> Result<Shown, NotPossible>
-        ensures possible { IfOk result (Leaves (parts_step self.old.world self.old.parts (event.Fetch t)) self.new.parts) }
-        ensures refused { OnErr result (parts_step self.old.world self.old.parts (event.Fetch t) ≡ None) }
-        ensures kept { OnErr result (self.new ≡ self.old) }
-        ensures world { self.new.world ≡ self.old.world }
+        ensures { Tries self.old (parts_step self.old.world self.old.parts (event.Fetch t)) self.new result }
     {
         let n = t.0 as usize;
         if n >= self.tasks.len() {
             return Err(NotPossible);
         }
-        let Some(place) = self.tasks[n].place_due(self.tables) else {
+        let task = &self.tasks[n];
+        let Some(place) = task.place_due(self.tables) else {
             return Err(NotPossible);
         };
-        let subject = self.tasks[n].is_awaiting();
+        let subject = task.is_awaiting();
         let cell = self.cells[place.0 as usize];
         let due = due_after_fetch(self.tables, subject, place, cell);
         let hand = Hand {
@@ -83,20 +81,18 @@ impl<'a> Core<'a> {
     }
 
     fn mark(&mut self, t: TaskNo) -> Result<Shown, NotPossible>
-        ensures possible { IfOk result (Leaves (parts_step self.old.world self.old.parts (event.Mark t)) self.new.parts) }
-        ensures refused { OnErr result (parts_step self.old.world self.old.parts (event.Mark t) ≡ None) }
-        ensures kept { OnErr result (self.new ≡ self.old) }
-        ensures world { self.new.world ≡ self.old.world }
+        ensures { Tries self.old (parts_step self.old.world self.old.parts (event.Mark t)) self.new result }
     {
         let n = t.0 as usize;
         if n >= self.tasks.len() {
             return Err(NotPossible);
         }
-        let Some(hand) = self.tasks[n].in_hand(Due::Marking) else {
+        let task = &self.tasks[n];
+        let Some(hand) = task.in_hand(Due::Marking) else {
             return Err(NotPossible);
         };
         let kind = self.tables.place(hand.place).kind;
-        let went = self.tasks[n].went(hand.subject);
+        let went = task.went(hand.subject);
         let at = (hand.cell.tag / 2) as usize * self.cells.len() + hand.place.0 as usize;
         let found = self.sets[at];
         let facts = found.with(kind.fact(went));
@@ -106,10 +102,7 @@ impl<'a> Core<'a> {
     }
 
     fn lift(&mut self, t: TaskNo) -> Result<Shown, NotPossible>
-        ensures possible { IfOk result (Leaves (parts_step self.old.world self.old.parts (event.Lift t)) self.new.parts) }
-        ensures refused { OnErr result (parts_step self.old.world self.old.parts (event.Lift t) ≡ None) }
-        ensures kept { OnErr result (self.new ≡ self.old) }
-        ensures world { self.new.world ≡ self.old.world }
+        ensures { Tries self.old (parts_step self.old.world self.old.parts (event.Lift t)) self.new result }
     {
         let n = t.0 as usize;
         if n >= self.tasks.len() {
@@ -128,10 +121,7 @@ impl<'a> Core<'a> {
     }
 
     fn run(&mut self, t: TaskNo) -> Result<Shown, NotPossible>
-        ensures possible { IfOk result (Leaves (parts_step self.old.world self.old.parts (event.Do t)) self.new.parts) }
-        ensures refused { OnErr result (parts_step self.old.world self.old.parts (event.Do t) ≡ None) }
-        ensures kept { OnErr result (self.new ≡ self.old) }
-        ensures world { self.new.world ≡ self.old.world }
+        ensures { Tries self.old (parts_step self.old.world self.old.parts (event.Do t)) self.new result }
     {
         let n = t.0 as usize;
         if n >= self.tasks.len() {
@@ -144,10 +134,7 @@ impl<'a> Core<'a> {
     }
 
     fn plant_whole(&mut self, s: SessNo, p: PlaceNo) -> Result<Shown, NotPossible>
-        ensures possible { IfOk result (Leaves (whole_step self.old.world self.old.parts s.0 p.0) self.new.parts) }
-        ensures refused { OnErr result (whole_step self.old.world self.old.parts s.0 p.0 ≡ None) }
-        ensures kept { OnErr result (self.new ≡ self.old) }
-        ensures world { self.new.world ≡ self.old.world }
+        ensures { Tries self.old (whole_step self.old.world self.old.parts s.0 p.0) self.new result }
     {
         let n = p.0 as usize;
         if n >= self.cells.len() {
@@ -163,12 +150,12 @@ impl<'a> Core<'a> {
         Ok(Shown::Planted)
     }
 
-    /// Whether the session may be planted there under its tag, which rises.
-    fn is_below(&self, s: SessNo, p: PlaceNo) -> bool
+    /// Whether the session may be closed there, or else planted under its tag, which rises.
+    fn may_follow(&self, closes: bool, s: SessNo, p: PlaceNo) -> bool
         requires { p.0 < length self.now.world.places }
-        ensures { result ≡ nat_lt ((word_at self.now.parts.cells p.0).tag + 1) (2 * s.0) }
+        ensures { result ≡ (closes || nat_lt ((word_at self.now.parts.cells p.0).tag + 1) (2 * s.0)) }
     {
-        u64::from(self.cells[p.0 as usize].tag) + 1 < 2 * u64::from(s.0)
+        closes || u64::from(self.cells[p.0 as usize].tag) + 1 < 2 * u64::from(s.0)
     }
 
     /// Whether this is the place at which task t is to plant or close this session.
@@ -186,7 +173,7 @@ impl<'a> Core<'a> {
         if x.closes != closes || x.session.0 != s.0 || x.place.0 != p.0 {
             return false;
         }
-        closes || self.is_below(s, p)
+        self.may_follow(closes, s, p)
     }
 
     /// What the session leaves there as it is planted or closed.
@@ -215,10 +202,7 @@ impl<'a> Core<'a> {
         t: TaskNo,
     ) -> Result<Shown, NotPossible>
         requires { controller_of self.old.world s.0 ≡ Some t.0 }
-        ensures possible { IfOk result (Leaves (change_by self.old closes s.0 p.0 t.0) self.new.parts) }
-        ensures refused { OnErr result (change_by self.old closes s.0 p.0 t.0 ≡ None) }
-        ensures kept { OnErr result (self.new ≡ self.old) }
-        ensures world { self.new.world ≡ self.old.world }
+        ensures { Tries self.old (change_by self.old closes s.0 p.0 t.0) self.new result }
     {
         if !self.may_change(closes, s, p, t) {
             return Err(NotPossible);
@@ -229,10 +213,7 @@ impl<'a> Core<'a> {
     }
 
     fn plant(&mut self, s: SessNo, p: PlaceNo) -> Result<Shown, NotPossible>
-        ensures possible { IfOk result (Leaves (parts_step self.old.world self.old.parts (event.Plant s p)) self.new.parts) }
-        ensures refused { OnErr result (parts_step self.old.world self.old.parts (event.Plant s p) ≡ None) }
-        ensures kept { OnErr result (self.new ≡ self.old) }
-        ensures world { self.new.world ≡ self.old.world }
+        ensures { Tries self.old (parts_step self.old.world self.old.parts (event.Plant s p)) self.new result }
     {
         match controller_of(&self.plan.controlled, s) {
             Some(t) => self.change_by(false, s, p, t),
@@ -241,10 +222,7 @@ impl<'a> Core<'a> {
     }
 
     fn close(&mut self, s: SessNo, p: PlaceNo) -> Result<Shown, NotPossible>
-        ensures possible { IfOk result (Leaves (parts_step self.old.world self.old.parts (event.Close s p)) self.new.parts) }
-        ensures refused { OnErr result (parts_step self.old.world self.old.parts (event.Close s p) ≡ None) }
-        ensures kept { OnErr result (self.new ≡ self.old) }
-        ensures world { self.new.world ≡ self.old.world }
+        ensures { Tries self.old (parts_step self.old.world self.old.parts (event.Close s p)) self.new result }
     {
         match controller_of(&self.plan.controlled, s) {
             Some(t) => self.change_by(true, s, p, t),
@@ -253,10 +231,7 @@ impl<'a> Core<'a> {
     }
 
     fn step(&mut self, e: Event) -> Result<Shown, NotPossible>
-        ensures possible { IfOk result (Leaves (parts_step self.old.world self.old.parts e) self.new.parts) }
-        ensures refused { OnErr result (parts_step self.old.world self.old.parts e ≡ None) }
-        ensures kept { OnErr result (self.new ≡ self.old) }
-        ensures world { self.new.world ≡ self.old.world }
+        ensures { Tries self.old (parts_step self.old.world self.old.parts e) self.new result }
     {
         match e {
             Event::Fetch(t) => self.fetch(t),
@@ -409,7 +384,6 @@ pub fn start<'a>(alloc: Global, job: &'a Job, tables: &'a Tables) -> Result<Core
     ensures stands { IfOk result (λ c. Stands c.world [] c.parts) }
     ensures rule { IfOk result (λ c. KeepsRule c.world [] (core_start c.world)) }
 {
-    let tasks = make_tasks(alloc, job, tables)?;
     let plan = plan_of(alloc, job, tables, 0)?;
     // the proof reads the rules that the job, a plan and its places keep off these looks at them
     let _ = job.task_count();
@@ -417,6 +391,7 @@ pub fn start<'a>(alloc: Global, job: &'a Job, tables: &'a Tables) -> Result<Core
     let _ = tables.len();
     let cells = fresh_cells(alloc, &plan.places)?;
     let sets = fresh_sets(alloc, plan.sessions as usize * plan.places.len())?;
+    let tasks = make_tasks(alloc, job, tables)?;
     let core = Core {
         job,
         tables,

@@ -18,11 +18,13 @@ invariant_of-self c =
     (lift_possible w c.self.inside.cells.items c.exchange-taken.new.cells.items c.self.inside.sets.items c.self.inside.tasks.items c.args.t.0 c.index.result.now c.index_mut.result.now c.hold.new.self c.in-Some.hand c.with_due.result c.exchange-taken.result
     c.place.result.now.original lt c.index.ensures c.index_mut.ensures.value (sym c.in-Some.ensures) (ap (λ x. x.original) c.place.ensures.value) c.exchange-taken.ensures.taken c.exchange-taken.ensures.cells c.with_due.ensures c.hold.ensures))
 
-pub returns-clause-possible : goal.returns-clause-possible
-returns-clause-possible c =
+pub returns : goal.returns
+returns c =
     let w : World = record { job = c.self.inside.job.now; places = c.self.inside.tables.now.places } in
     let lt : c.args.t.0 < length c.self.inside.tasks.items = omega (arith, c.if-n-len.false, c.len.ensures) in
     let target : Stepped = record { parts = record { cells = c.exchange-taken.new.cells.items; sets = c.self.inside.sets.items; tasks = parts_of (set c.self.inside.tasks.items c.args.t.0 c.hold.new.self) }; shown = Lifted c.exchange-taken.result } in
+    let possible =
     subst (λ (v : CoreView). of_existing v.parts c.args.t.0 (λ (u : TaskPart). option_map (lifted v.world v.parts c.args.t.0 u) (in_hand Lifting u.stage)) ≡ Some target) c.self.view_is
     (lift_possible w c.self.inside.cells.items c.exchange-taken.new.cells.items c.self.inside.sets.items c.self.inside.tasks.items c.args.t.0 c.index.result.now c.index_mut.result.now c.hold.new.self c.in-Some.hand c.with_due.result c.exchange-taken.result
-    c.place.result.now.original lt c.index.ensures c.index_mut.ensures.value (sym c.in-Some.ensures) (ap (λ x. x.original) c.place.ensures.value) c.exchange-taken.ensures.taken c.exchange-taken.ensures.cells c.with_due.ensures c.hold.ensures)
+    c.place.result.now.original lt c.index.ensures c.index_mut.ensures.value (sym c.in-Some.ensures) (ap (λ x. x.original) c.place.ensures.value) c.exchange-taken.ensures.taken c.exchange-taken.ensures.cells c.with_due.ensures c.hold.ensures) in
+    record { possible = possible; refused = tt; kept = tt; world = ap (λ (v : CoreView). v.world) c.self.view_is }

@@ -12,44 +12,46 @@ pub index-found-requires : goal.index-found-requires
 index-found-requires c =
     let w : World = record { job = c.self.inside.job.now; places = c.self.inside.tables.now.places } in
     let lt : c.args.t.0 < length c.self.inside.tasks.items = omega (arith, c.if-n-len.false, c.len.ensures) in
-    let due = hand_due w c.self.inside.cells.items c.self.inside.sets.items c.self.inside.plan c.self.inside.tasks.items c.args.t.0 c.index.result.now Marking c.in-Some.hand c.self.invariant lt c.index.ensures (sym c.in-Some.ensures) (λ e. absurd cc) in
-    let at = mark_index w c.self.inside.cells.items c.self.inside.sets.items c.self.inside.plan c.self.inside.tasks.items c.args.t.0 c.index.result.now.part c.in-Some.hand c.len-2.result c.self.invariant due (c.len-2.ensures ∙ c.self.inside.cells.ok.0) in
+    let due = hand_due w c.self.inside.cells.items c.self.inside.sets.items c.self.inside.plan c.self.inside.tasks.items c.args.t.0 c.index-task.result.now Marking c.in-Some.hand c.self.invariant lt c.index-task.ensures (sym c.in-Some.ensures) (λ e. absurd cc) in
+    let at = mark_index w c.self.inside.cells.items c.self.inside.sets.items c.self.inside.plan c.self.inside.tasks.items c.args.t.0 c.index-task.result.now.part c.in-Some.hand c.len-2.result c.self.invariant due (c.len-2.ensures ∙ c.self.inside.cells.ok.0) in
     subst (λ (n : ℕ). c.in-Some.hand.cell.tag / 2 * c.len-2.result + c.in-Some.hand.place.0 < n) (sym c.self.inside.sets.ok.0)
-    (subst (λ (i : ℕ). i < length c.self.inside.sets.items) (sym at) (mark_fits w c.self.inside.cells.items c.self.inside.sets.items c.self.inside.plan c.self.inside.tasks.items c.args.t.0 c.index.result.now.part c.in-Some.hand c.self.invariant due))
+    (subst (λ (i : ℕ). i < length c.self.inside.sets.items) (sym at) (mark_fits w c.self.inside.cells.items c.self.inside.sets.items c.self.inside.plan c.self.inside.tasks.items c.args.t.0 c.index-task.result.now.part c.in-Some.hand c.self.invariant due))
 
 pub index_mut-requires : goal.index_mut-requires
 index_mut-requires c =
     let w : World = record { job = c.self.inside.job.now; places = c.self.inside.tables.now.places } in
     let lt : c.args.t.0 < length c.self.inside.tasks.items = omega (arith, c.if-n-len.false, c.len.ensures) in
-    let due = hand_due w c.self.inside.cells.items c.self.inside.sets.items c.self.inside.plan c.self.inside.tasks.items c.args.t.0 c.index.result.now Marking c.in-Some.hand c.self.invariant lt c.index.ensures (sym c.in-Some.ensures) (λ e. absurd cc) in
-    let at = mark_index w c.self.inside.cells.items c.self.inside.sets.items c.self.inside.plan c.self.inside.tasks.items c.args.t.0 c.index.result.now.part c.in-Some.hand c.len-2.result c.self.invariant due (c.len-2.ensures ∙ c.self.inside.cells.ok.0) in
+    let due = hand_due w c.self.inside.cells.items c.self.inside.sets.items c.self.inside.plan c.self.inside.tasks.items c.args.t.0 c.index-task.result.now Marking c.in-Some.hand c.self.invariant lt c.index-task.ensures (sym c.in-Some.ensures) (λ e. absurd cc) in
+    let at = mark_index w c.self.inside.cells.items c.self.inside.sets.items c.self.inside.plan c.self.inside.tasks.items c.args.t.0 c.index-task.result.now.part c.in-Some.hand c.len-2.result c.self.invariant due (c.len-2.ensures ∙ c.self.inside.cells.ok.0) in
     subst (λ (n : ℕ). c.in-Some.hand.cell.tag / 2 * c.len-2.result + c.in-Some.hand.place.0 < n) (sym c.self.inside.sets.ok.0)
-    (subst (λ (i : ℕ). i < length c.self.inside.sets.items) (sym at) (mark_fits w c.self.inside.cells.items c.self.inside.sets.items c.self.inside.plan c.self.inside.tasks.items c.args.t.0 c.index.result.now.part c.in-Some.hand c.self.invariant due))
+    (subst (λ (i : ℕ). i < length c.self.inside.sets.items) (sym at) (mark_fits w c.self.inside.cells.items c.self.inside.sets.items c.self.inside.plan c.self.inside.tasks.items c.args.t.0 c.index-task.result.now.part c.in-Some.hand c.self.invariant due))
 
 pub invariant_of-self : goal.invariant_of-self
 invariant_of-self c =
     let w : World = record { job = c.self.inside.job.now; places = c.self.inside.tables.now.places } in
     let lt : c.args.t.0 < length c.self.inside.tasks.items = omega (arith, c.if-n-len.false, c.len.ensures) in
-    let due = hand_due w c.self.inside.cells.items c.self.inside.sets.items c.self.inside.plan c.self.inside.tasks.items c.args.t.0 c.index.result.now Marking c.in-Some.hand c.self.invariant lt c.index.ensures (sym c.in-Some.ensures) (λ e. absurd cc) in
-    let at = mark_index w c.self.inside.cells.items c.self.inside.sets.items c.self.inside.plan c.self.inside.tasks.items c.args.t.0 c.index.result.now.part c.in-Some.hand c.len-2.result c.self.invariant due (c.len-2.ensures ∙ c.self.inside.cells.ok.0) in
-    let runs = read_running w c.self.inside.cells.items c.self.inside.sets.items c.self.inside.plan c.self.inside.tasks.items c.args.t.0 c.index-2.result.now c.self.invariant lt c.index-2.ensures in
-    marked_core w _ _ _ _ c.args.t.0 c.index.result.now c.index_mut-2.result.now c.hold.new.self c.in-Some.hand c.with_due.result c.due_after_mark.result _ c.index-found.result.now c.with-facts.result
-    c.place.result.now.kind c.went-went.result c.self.invariant lt c.index.ensures c.index_mut-2.ensures.value due at c.index-found.ensures (ap (λ x. x.kind) c.place.ensures.value)
+    let due = hand_due w c.self.inside.cells.items c.self.inside.sets.items c.self.inside.plan c.self.inside.tasks.items c.args.t.0 c.index-task.result.now Marking c.in-Some.hand c.self.invariant lt c.index-task.ensures (sym c.in-Some.ensures) (λ e. absurd cc) in
+    let at = mark_index w c.self.inside.cells.items c.self.inside.sets.items c.self.inside.plan c.self.inside.tasks.items c.args.t.0 c.index-task.result.now.part c.in-Some.hand c.len-2.result c.self.invariant due (c.len-2.ensures ∙ c.self.inside.cells.ok.0) in
+    let runs = read_running w c.self.inside.cells.items c.self.inside.sets.items c.self.inside.plan c.self.inside.tasks.items c.args.t.0 c.index-task.result.now c.self.invariant lt c.index-task.ensures in
+    marked_core w _ _ _ _ c.args.t.0 c.index-task.result.now c.index_mut-2.result.now c.hold.new.self c.in-Some.hand c.with_due.result c.due_after_mark.result _ c.index-found.result.now c.with-facts.result
+    c.place.result.now.kind c.went-went.result c.self.invariant lt c.index-task.ensures c.index_mut-2.ensures.value due at c.index-found.ensures (ap (λ x. x.kind) c.place.ensures.value)
     (c.with-facts.ensures ∙ ap (with_fact c.index-found.result.now) c.fact.ensures) c.with_due.ensures c.hold.ensures
     (tied_by w c.self.inside.cells.items c.self.inside.cells.items c.self.inside.sets.items (set c.self.inside.sets.items (c.in-Some.hand.cell.tag / 2 * c.len-2.result + c.in-Some.hand.place.0) c.with-facts.result) c.self.inside.plan c.self.inside.tasks.items (set c.self.inside.tasks.items c.args.t.0 c.hold.new.self) (Mark c.args.t) (Marked c.index-found.result.now) c.self.invariant
-    (mark_possible w c.self.inside.cells.items c.self.inside.sets.items c.self.inside.plan c.self.inside.tasks.items c.args.t.0 c.index.result.now c.index_mut-2.result.now c.index-2.result.now c.hold.new.self c.in-Some.hand c.with_due.result c.due_after_mark.result (c.in-Some.hand.cell.tag / 2 * c.len-2.result + c.in-Some.hand.place.0)
-    c.index-found.result.now c.with-facts.result c.place.result.now.kind c.went-went.result c.self.invariant lt c.index.ensures c.index_mut-2.ensures.value c.index-2.ensures (sym c.in-Some.ensures) due at c.index-found.ensures
+    (mark_possible w c.self.inside.cells.items c.self.inside.sets.items c.self.inside.plan c.self.inside.tasks.items c.args.t.0 c.index-task.result.now c.index_mut-2.result.now c.index-task.result.now c.hold.new.self c.in-Some.hand c.with_due.result c.due_after_mark.result (c.in-Some.hand.cell.tag / 2 * c.len-2.result + c.in-Some.hand.place.0)
+    c.index-found.result.now c.with-facts.result c.place.result.now.kind c.went-went.result c.self.invariant lt c.index-task.ensures c.index_mut-2.ensures.value c.index-task.ensures (sym c.in-Some.ensures) due at c.index-found.ensures
     (ap (λ x. x.kind) c.place.ensures.value) (c.with-facts.ensures ∙ ap (with_fact c.index-found.result.now) c.fact.ensures) (c.went-went.ensures w c.args.t.0 runs) c.due_after_mark.ensures c.with_due.ensures c.hold.ensures))
 
-pub returns-clause-possible : goal.returns-clause-possible
-returns-clause-possible c =
+pub returns : goal.returns
+returns c =
     let w : World = record { job = c.self.inside.job.now; places = c.self.inside.tables.now.places } in
     let lt : c.args.t.0 < length c.self.inside.tasks.items = omega (arith, c.if-n-len.false, c.len.ensures) in
-    let due = hand_due w c.self.inside.cells.items c.self.inside.sets.items c.self.inside.plan c.self.inside.tasks.items c.args.t.0 c.index.result.now Marking c.in-Some.hand c.self.invariant lt c.index.ensures (sym c.in-Some.ensures) (λ e. absurd cc) in
-    let at = mark_index w c.self.inside.cells.items c.self.inside.sets.items c.self.inside.plan c.self.inside.tasks.items c.args.t.0 c.index.result.now.part c.in-Some.hand c.len-2.result c.self.invariant due (c.len-2.ensures ∙ c.self.inside.cells.ok.0) in
-    let runs = read_running w c.self.inside.cells.items c.self.inside.sets.items c.self.inside.plan c.self.inside.tasks.items c.args.t.0 c.index-2.result.now c.self.invariant lt c.index-2.ensures in
+    let due = hand_due w c.self.inside.cells.items c.self.inside.sets.items c.self.inside.plan c.self.inside.tasks.items c.args.t.0 c.index-task.result.now Marking c.in-Some.hand c.self.invariant lt c.index-task.ensures (sym c.in-Some.ensures) (λ e. absurd cc) in
+    let at = mark_index w c.self.inside.cells.items c.self.inside.sets.items c.self.inside.plan c.self.inside.tasks.items c.args.t.0 c.index-task.result.now.part c.in-Some.hand c.len-2.result c.self.invariant due (c.len-2.ensures ∙ c.self.inside.cells.ok.0) in
+    let runs = read_running w c.self.inside.cells.items c.self.inside.sets.items c.self.inside.plan c.self.inside.tasks.items c.args.t.0 c.index-task.result.now c.self.invariant lt c.index-task.ensures in
     let target : Stepped = record { parts = record { cells = c.self.inside.cells.items; sets = set c.self.inside.sets.items (c.in-Some.hand.cell.tag / 2 * c.len-2.result + c.in-Some.hand.place.0) c.with-facts.result; tasks = parts_of (set c.self.inside.tasks.items c.args.t.0 c.hold.new.self) }; shown = Marked c.index-found.result.now } in
+    let possible =
     subst (λ (v : CoreView). of_existing v.parts c.args.t.0 (λ (u : TaskPart). option_map (fact_marked v.world v.parts c.args.t.0 u) (in_hand Marking u.stage)) ≡ Some target) c.self.view_is
-    (mark_possible w c.self.inside.cells.items c.self.inside.sets.items c.self.inside.plan c.self.inside.tasks.items c.args.t.0 c.index.result.now c.index_mut-2.result.now c.index-2.result.now c.hold.new.self c.in-Some.hand c.with_due.result c.due_after_mark.result (c.in-Some.hand.cell.tag / 2 * c.len-2.result + c.in-Some.hand.place.0)
-    c.index-found.result.now c.with-facts.result c.place.result.now.kind c.went-went.result c.self.invariant lt c.index.ensures c.index_mut-2.ensures.value c.index-2.ensures (sym c.in-Some.ensures) due at c.index-found.ensures
-    (ap (λ x. x.kind) c.place.ensures.value) (c.with-facts.ensures ∙ ap (with_fact c.index-found.result.now) c.fact.ensures) (c.went-went.ensures w c.args.t.0 runs) c.due_after_mark.ensures c.with_due.ensures c.hold.ensures)
+    (mark_possible w c.self.inside.cells.items c.self.inside.sets.items c.self.inside.plan c.self.inside.tasks.items c.args.t.0 c.index-task.result.now c.index_mut-2.result.now c.index-task.result.now c.hold.new.self c.in-Some.hand c.with_due.result c.due_after_mark.result (c.in-Some.hand.cell.tag / 2 * c.len-2.result + c.in-Some.hand.place.0)
+    c.index-found.result.now c.with-facts.result c.place.result.now.kind c.went-went.result c.self.invariant lt c.index-task.ensures c.index_mut-2.ensures.value c.index-task.ensures (sym c.in-Some.ensures) due at c.index-found.ensures
+    (ap (λ x. x.kind) c.place.ensures.value) (c.with-facts.ensures ∙ ap (with_fact c.index-found.result.now) c.fact.ensures) (c.went-went.ensures w c.args.t.0 runs) c.due_after_mark.ensures c.with_due.ensures c.hold.ensures) in
+    record { possible = possible; refused = tt; kept = tt; world = ap (λ (v : CoreView). v.world) c.self.view_is }
