@@ -7,6 +7,7 @@ ghost use Rattle.s370_state.specs.Meaning.{is_even};
 ghost use Rattle.s370_state.specs.Row.{Performs};
 ghost use Rattle.s370_state.specs.Parts.{Follows};
 ghost use Rattle.s370_storage.specs.Meaning.{long, passed, lesser, overlaps, padded_bytes, long_moved, moves_apart, long_moves, extended, unequal, compares, long_compares, storage_row};
+ghost use Rattle.s370_storage.specs.Tested.{InPairs};
 
 use cov_base::Addr;
 use s370_decode::{Decoded, Op};
@@ -29,8 +30,7 @@ fn long_of(cpu: &Cpu, r: u8, q: u8) -> Long
     requires r { r < 15 }
     requires q { q < 15 }
     ensures operands { result ≡ long cpu.now.regs r q }
-    ensures first { result.first_length < 16777216 }
-    ensures second { result.second_length < 16777216 }
+    ensures pairs { InPairs r q result }
 {
     Long {
         first: Addr::of(cpu.reg(r)),
@@ -44,10 +44,7 @@ fn long_of(cpu: &Cpu, r: u8, q: u8) -> Long
 /// Passes j bytes of the first operand and k of the second; the addresses get zeros in bits 0-7, and what stands
 /// beside the lengths stays.
 fn pass(cpu: &mut Cpu, r: u8, q: u8, o: &Long, j: u32, k: u32)
-    requires r { r < 15 }
-    requires q { q < 15 }
-    requires first { o.now.first_length < 16777216 }
-    requires second { o.now.second_length < 16777216 }
+    requires pairs { InPairs r q o.now }
     requires j { j ≤ o.now.first_length }
     requires k { k ≤ o.now.second_length }
     ensures { cpu.new ≡ record cpu.old { regs = passed cpu.old.regs r q o.now j k } }
@@ -105,11 +102,8 @@ fn move_and_fill<P: Space>(space: &mut P, o: &Long)
 
 /// Moves operands that do not overlap so that a byte is moved after it was stored into.
 fn move_apart<P: Space>(cpu: &mut Cpu, space: &mut P, r: u8, q: u8, o: &Long) -> Next
-    requires r { r < 15 }
-    requires q { q < 15 }
+    requires pairs { InPairs r q o.now }
     requires even { (is_even r && is_even q) ≡ true }
-    requires first { o.now.first_length < 16777216 }
-    requires second { o.now.second_length < 16777216 }
     ensures { Performs P.memory P.bytes (moves_apart r q o.now) cpu.old space.old cpu.new space.new result }
 {
     let n = o.first_length.min(o.second_length);
@@ -180,10 +174,7 @@ fn unequal<P: Space>(space: &P, o: &Long) -> Option<u32>
 
 /// The registers and the condition code by the unequal pair, if any.
 fn set_compared<P: Space>(cpu: &mut Cpu, space: &P, r: u8, q: u8, o: &Long, unequal: Option<u32>)
-    requires r { r < 15 }
-    requires q { q < 15 }
-    requires first { o.now.first_length < 16777216 }
-    requires second { o.now.second_length < 16777216 }
+    requires pairs { InPairs r q o.now }
     requires reach { can_reach (P.memory space.now) o.now.first o.now.first_length ≡ true }
     requires reach_second { can_reach (P.memory space.now) o.now.second o.now.second_length ≡ true }
     ensures { Follows P.memory P.bytes (λ m s. compares m s r q o.now unequal) cpu.old space.now cpu.new space.now Next.On }

@@ -2,10 +2,10 @@
 #![tactic(auto, using(s370_state::proofs::Laws::passes, s370_state::proofs::Laws::refuses))]
 
 ghost use Rattle.std.specs.Prelude.{◌≡◌, ◌+◌, ◌-◌, ◌*◌, ◌/◌, ◌%◌, ◌<◌, ◌≤◌, ◌∷◌, [], Some, None, true, slice_set, IfOk, IfErr, if◌then◌else◌, ◌==◌};
-ghost use Rattle.cov_base.specs.Meaning.{can_reach, can_store};
 ghost use Rattle.s370_state.specs.Row.{Performs};
 ghost use Rattle.s370_state.specs.Parts.{Tested};
 ghost use Rattle.s370_storage.specs.Meaning.{fields, source, result_at, exchanged, packed_byte, packed, with_zoned, unpacked, shifted, field_uses, storage_row};
+ghost use Rattle.s370_storage.specs.Tested.{AreOpen};
 
 use cov_base::Addr;
 use s370_decode::{Decoded, Op};
@@ -39,17 +39,14 @@ fn test_fields<P: Space>(space: &P, o: &Fields) -> Result<(), Ending>
     requires to { o.now.to_last < 16 }
     requires from { o.now.from_last < 16 }
     ensures tested { Tested (P.memory space.now) (field_uses o.now) result }
-    ensures reach { IfOk result (λ _. can_reach (P.memory space.now) o.now.to (o.now.to_last + 1) ≡ true) }
-    ensures store { IfOk result (λ _. can_store (P.memory space.now) o.now.to (o.now.to_last + 1) ≡ true) }
-    ensures source { IfOk result (λ _. can_reach (P.memory space.now) o.now.from (o.now.from_last + 1) ≡ true) }
+    ensures open { IfOk result (λ _. AreOpen (P.memory space.now) o.now) }
 {
     test_store_read(space, o.to, o.to_last + 1, o.from, o.from_last + 1)
 }
 
 /// Source byte k from the right; zero where the source has ended.
 fn source<P: Space>(space: &P, o: &Fields, k: u32) -> u8
-    requires from { o.now.from_last < 16 }
-    requires source { can_reach (P.memory space.now) o.now.from (o.now.from_last + 1) ≡ true }
+    requires { AreOpen (P.memory space.now) o.now }
     ensures { result ≡ source (P.memory space.now) (P.bytes space.now) o.now k }
 {
     if k <= o.from_last {
@@ -61,9 +58,8 @@ fn source<P: Space>(space: &P, o: &Fields, k: u32) -> u8
 
 /// Stores result byte k from the right.
 fn put_result<P: Space>(space: &mut P, o: &Fields, k: u32, value: u8)
-    requires to { o.now.to_last < 16 }
     requires within { k ≤ o.now.to_last }
-    requires store { can_store (P.memory space.old) o.now.to (o.now.to_last + 1) ≡ true }
+    requires open { AreOpen (P.memory space.old) o.now }
     ensures memory { P.memory space.new ≡ P.memory space.old }
     ensures bytes { P.bytes space.new ≡ slice_set (P.bytes space.old) (result_at o.now k) value }
 {
@@ -80,8 +76,7 @@ fn exchanged(value: u8) -> u8
 /// Result byte k of PACK.
 fn packed_byte<P: Space>(space: &P, o: &Fields, k: u32) -> u8
     requires k { k < 16 }
-    requires from { o.now.from_last < 16 }
-    requires source { can_reach (P.memory space.now) o.now.from (o.now.from_last + 1) ≡ true }
+    requires open { AreOpen (P.memory space.now) o.now }
     ensures { result ≡ packed_byte (P.memory space.now) (P.bytes space.now) o.now k }
 {
     if k == 0 {
@@ -95,10 +90,7 @@ fn packed_byte<P: Space>(space: &P, o: &Fields, k: u32) -> u8
 /// Forms each result byte of PACK.
 #[tactic(auto, using(crate::proofs::Digits::packed_none, crate::proofs::Digits::packed_more))]
 fn pack_bytes<P: Space>(space: &mut P, o: &Fields)
-    requires to { o.now.to_last < 16 }
-    requires from { o.now.from_last < 16 }
-    requires store { can_store (P.memory space.old) o.now.to (o.now.to_last + 1) ≡ true }
-    requires source { can_reach (P.memory space.old) o.now.from (o.now.from_last + 1) ≡ true }
+    requires { AreOpen (P.memory space.old) o.now }
     ensures memory { P.memory space.new ≡ P.memory space.old }
     ensures bytes { P.bytes space.new ≡ packed (P.memory space.old) (P.bytes space.old) o.now (o.now.to_last + 1) }
 {
@@ -122,9 +114,8 @@ pub fn pack<P: Space>(cpu: &mut Cpu, space: &mut P, it: &Decoded) -> Next
 
 /// Stores result byte k, and the next to its left if there is one, from the halves of a source byte.
 fn put_zoned<P: Space>(space: &mut P, o: &Fields, k: u32, value: u8)
-    requires to { o.now.to_last < 16 }
     requires within { k ≤ o.now.to_last }
-    requires store { can_store (P.memory space.old) o.now.to (o.now.to_last + 1) ≡ true }
+    requires open { AreOpen (P.memory space.old) o.now }
     ensures memory { P.memory space.new ≡ P.memory space.old }
     ensures bytes { P.bytes space.new ≡ with_zoned (P.bytes space.old) o.now k value }
 {
@@ -137,10 +128,7 @@ fn put_zoned<P: Space>(space: &mut P, o: &Fields, k: u32, value: u8)
 /// Forms each result byte of UNPK; a source byte is read once, and gives two.
 #[tactic(auto, using(crate::proofs::Digits::unpacked_none, crate::proofs::Digits::unpacked_more))]
 fn unpack_bytes<P: Space>(space: &mut P, o: &Fields)
-    requires to { o.now.to_last < 16 }
-    requires from { o.now.from_last < 16 }
-    requires store { can_store (P.memory space.old) o.now.to (o.now.to_last + 1) ≡ true }
-    requires source { can_reach (P.memory space.old) o.now.from (o.now.from_last + 1) ≡ true }
+    requires { AreOpen (P.memory space.old) o.now }
     ensures memory { P.memory space.new ≡ P.memory space.old }
     ensures bytes { P.bytes space.new ≡ unpacked (P.memory space.old) (P.bytes space.old) o.now ((o.now.to_last + 1) / 2) }
 {
@@ -167,11 +155,7 @@ pub fn unpack<P: Space>(cpu: &mut Cpu, space: &mut P, it: &Decoded) -> Next
 /// Forms each result byte of MVO; the left half of a source byte waits for the next.
 #[tactic(auto, using(crate::proofs::Digits::shifted_none, crate::proofs::Digits::shifted_more))]
 fn shift_bytes<P: Space>(space: &mut P, o: &Fields)
-    requires to { o.now.to_last < 16 }
-    requires from { o.now.from_last < 16 }
-    requires reach { can_reach (P.memory space.old) o.now.to (o.now.to_last + 1) ≡ true }
-    requires store { can_store (P.memory space.old) o.now.to (o.now.to_last + 1) ≡ true }
-    requires source { can_reach (P.memory space.old) o.now.from (o.now.from_last + 1) ≡ true }
+    requires { AreOpen (P.memory space.old) o.now }
     ensures memory { P.memory space.new ≡ P.memory space.old }
     ensures bytes { P.bytes space.new ≡ (shifted (P.memory space.old) (P.bytes space.old) o.now (o.now.to_last + 1)).bytes }
 {
