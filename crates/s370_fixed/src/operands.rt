@@ -11,7 +11,6 @@ use s370_state::{Cpu, Ending, Next, Space, byte_of, next_after, signed, test_rea
 
 /// The halfword at the address, extended by its sign.
 #[inline(always)]
-#[tactic(auto, unfolding(crate::specs::Meaning::signed_half), using(crate::proofs::Halves::half_of_bytes))]
 pub fn half_at<P: Space>(space: &P, at: Addr) -> Result<i64, Ending>
     ensures tested { Tested (P.memory space.now) (reads at 2 ∷ []) result }
     ensures value { IfOk result (λ z. z ≡ signed_half_at (P.memory space.now) (P.bytes space.now) at) }

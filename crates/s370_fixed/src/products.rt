@@ -16,7 +16,7 @@ use s370_decode::{Decoded, Op};
 use s370_state::{Cpu, Ending, Next, Space, read_word, signed};
 
 /// The product of the pair's second register and a signed word goes to the pair.
-#[tactic(auto, unfolding(crate::specs::Meaning::product))]
+#[tactic(auto)]
 fn multiply(cpu: &mut Cpu, r: u8, z: i64) -> Next
     requires r { r < 15 }
     requires low { neg_ℤ (pos 2147483648) ≤ℤ z }

@@ -27,7 +27,7 @@ fn distance(cpu: &Cpu, it: &Decoded) -> u32
 }
 
 /// The number times 2^n.
-#[tactic(auto, using(crate::proofs::Powers::power_below, crate::proofs::Powers::power_is, crate::proofs::Powers::left_fits), unfolding(crate::specs::Meaning::left_by))]
+#[tactic(auto, using(crate::proofs::Powers::power_below))]
 fn left_by(x: i64, n: u32) -> i128
     requires { n < 64 }
     ensures { result ≡ left_by x n }
