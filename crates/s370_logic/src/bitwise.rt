@@ -4,8 +4,8 @@
 ghost use Rattle.std.specs.Prelude.{◌≡◌, ◌+◌, ◌<◌, ◌≤◌, ◌^◌, true, ◌==◌, if◌then◌else◌, slice_set, slice_index};
 ghost use Rattle.cov_base.specs.Meaning.{can_reach, can_store};
 ghost use Rattle.s370_state.specs.Row.{Performs};
-ghost use Rattle.s370_logic.specs.Meaning.{zero_code, bytes_joined, are_zero, row_registers, row_word, row_immediate, row_fields};
-ghost use Rattle.s370_logic.specs.Bitwise.{connected, with_result};
+ghost use Rattle.s370_logic.specs.Meaning.{zero_code, bytes_joined, are_zero};
+ghost use Rattle.s370_logic.specs.Bitwise.{connected, with_result, joins_registers, joins_word, joins_immediate, joins_fields};
 
 use cov_base::Addr;
 use s370_decode::Decoded;
@@ -82,14 +82,14 @@ fn join_bytes<P: Space>(f: Connective, space: &mut P, a: Addr, b: Addr, n: u32) 
 
 /// NR, OR, XR: joins R2 to R1.
 pub fn join_registers<P: Space>(cpu: &mut Cpu, space: &mut P, it: &Decoded, f: Connective) -> Next
-    ensures { Performs P.memory P.bytes (row_registers (connected f) it.now.code) cpu.old space.old cpu.new space.new result }
+    ensures { Performs P.memory P.bytes (joins_registers f it.now.code) cpu.old space.old cpu.new space.new result }
 {
     join(cpu, it.first, cpu.reg(it.second), f)
 }
 
 /// N, O, X: joins a word to R1.
 pub fn join_word<P: Space>(cpu: &mut Cpu, space: &mut P, it: &Decoded, f: Connective) -> Next
-    ensures { Performs P.memory P.bytes (row_word (connected f) it.now.code) cpu.old space.old cpu.new space.new result }
+    ensures { Performs P.memory P.bytes (joins_word f it.now.code) cpu.old space.old cpu.new space.new result }
 {
     match read_word(space, cpu.second_indexed(it)) {
         Ok(v) => join(cpu, it.first, v, f),
@@ -99,7 +99,7 @@ pub fn join_word<P: Space>(cpu: &mut Cpu, space: &mut P, it: &Decoded, f: Connec
 
 /// NI, OI, XI: joins I2 to a byte.
 pub fn join_immediate<P: Space>(cpu: &mut Cpu, space: &mut P, it: &Decoded, f: Connective) -> Next
-    ensures { Performs P.memory P.bytes (row_immediate (connected f) it.now.code) cpu.old space.old cpu.new space.new result }
+    ensures { Performs P.memory P.bytes (joins_immediate f it.now.code) cpu.old space.old cpu.new space.new result }
 {
     let at = cpu.first_based(it);
     if let Err(e) = test_store(space, at, 1) {
@@ -113,7 +113,7 @@ pub fn join_immediate<P: Space>(cpu: &mut Cpu, space: &mut P, it: &Decoded, f: C
 
 /// NC, OC, XC: joins the second operand to the first, left to right.
 pub fn join_fields<P: Space>(cpu: &mut Cpu, space: &mut P, it: &Decoded, f: Connective) -> Next
-    ensures { Performs P.memory P.bytes (row_fields (connected f) it.now.code) cpu.old space.old cpu.new space.new result }
+    ensures { Performs P.memory P.bytes (joins_fields f it.now.code) cpu.old space.old cpu.new space.new result }
 {
     let n = u32::from(it.code.i2()) + 1;
     let a = cpu.first_based(it);
