@@ -19,7 +19,7 @@ use Rattle.module_area.specs.Rule.{window_tag, IsForm, planted, lifted as lifted
 use Rattle.module_area.specs.declared.cells.Cell.{Cell}
 use Rattle.session_book.specs.Meaning.{no_task}
 use Rattle.interleave_core.specs.Meaning.{World, TaskPart, Parts, plan_in, place_at, first_part, Stepped, of_existing, task_replaced, with_stage, with_due, with_cell, place_due, is_spent, is_awaiting, subject_place, step_of, due_after_fetch, in_hand, same_due, cell_fetched, fact_marked, lifted, done_by, task_done, task_goes_on, parts_step, set_of, fact_in, original_under, same_cell, hand_at, executed, stage_after, awaits_or, instruction_executed}
-use Rattle.interleave_core.specs.Views.{RunningView, IsRunning, IsStage, IsHand, AreTied, IsCore, parts_of}
+use Rattle.interleave_core.specs.Views.{CoreView, RunningView, IsRunning, IsStage, IsHand, AreTied, IsCore, parts_of}
 use Rattle.interleave_core.proofs.Changes.{goes_on}
 use Rattle.interleave_core.proofs.Runs.{same_or, in_hand-stage}
 use Rattle.interleave_core.proofs.Tied.{tied_step}
@@ -145,6 +145,20 @@ of_task-read cells sets tasks t m step x lt read e =
     let there : nat_lt t (length (parts_of tasks)) ≡ true = lt-ltb t (length (parts_of tasks)) (subst (λ n. t < n) (sym (length-map tasks (λ (r : RunningView). r.part))) lt) in
     let part : get_or (parts_of tasks) t (first_part no_task) ≡ m.part = get_or-map (λ (r : RunningView). r.part) tasks t m (first_part no_task) lt ∙ ap (λ (r : RunningView). r.part) (sym read) in
     rw (there, part) e
+
+-- none is possible of a task that doesn't exist, and none where the task has none
+pub none_missing : (v : CoreView) (w : World) (cells : List Cell) (sets : List FactSet) (tasks : List RunningView) (t : ℕ) (step : World → Parts → TaskPart → Option Stepped) →
+    ◌≡◌ {A = CoreView} (record { world = w; parts = record { cells = cells; sets = sets; tasks = parts_of tasks } }) v → length tasks ≤ t → of_existing v.parts t (step v.world v.parts) ≡ None
+none_missing v w cells sets tasks t step view most =
+    let count : length (parts_of tasks) ≡ length tasks = length-map tasks (λ (r : RunningView). r.part) in
+    let missing : nat_lt t (length (parts_of tasks)) ≡ false = grind (arith, nat_tests) in
+    subst (λ (x : CoreView). of_existing x.parts t (step x.world x.parts) ≡ None) view (rw missing refl)
+
+pub none_due : (v : CoreView) (w : World) (cells : List Cell) (sets : List FactSet) (tasks : List RunningView) (t : ℕ) (m : RunningView) (step : World → Parts → TaskPart → Option Stepped) →
+    ◌≡◌ {A = CoreView} (record { world = w; parts = record { cells = cells; sets = sets; tasks = parts_of tasks } }) v → t < length tasks → m ≡ get_or tasks t m →
+    step w (record { cells = cells; sets = sets; tasks = parts_of tasks }) m.part ≡ None → of_existing v.parts t (step v.world v.parts) ≡ None
+none_due v w cells sets tasks t m step view lt read e =
+    subst (λ (x : CoreView). of_existing x.parts t (step x.world x.parts) ≡ None) view (of_task-read cells sets tasks t m (step w (record { cells = cells; sets = sets; tasks = parts_of tasks })) None lt read e)
 
 pub due_unspent : (w : World) (t : ℕ) (u : TaskPart) (stage : Stage) (p : ℕ) → IsStage w t u stage → place_due w t u stage ≡ Some p → is_spent w t u.state ≡ false
 due_unspent w t u Ready p is h = ready (has_returned u.state) (is_spent w t u.state) (place_at w u.state.machine.cpu.ia) h

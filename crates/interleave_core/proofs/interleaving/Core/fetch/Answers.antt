@@ -1,9 +1,9 @@
-use Rattle.std.proofs.Common.{◌≡◌, ◌<◌, false, length, set, Some, sym, refl, ap, subst, arith, option_map}
-use Rattle.interleave_core.specs.Meaning.{World, Stepped, of_existing, place_due, is_spent, TaskPart, cell_fetched}
+use Rattle.std.proofs.Common.{◌≡◌, ◌<◌, false, length, set, Some, sym, refl, ap, subst, arith, option_map, ◌≤◌}
+use Rattle.interleave_core.specs.Meaning.{World, Parts, Stepped, of_existing, place_due, is_spent, TaskPart, cell_fetched}
 use Rattle.interleave_core.specs.Views.{RunningView, CoreView, parts_of}
 use Rattle.interleave_core.specs.declared.events.Event.TheVariants.{Fetch}
 use Rattle.interleave_core.specs.declared.events.Shown.TheVariants.{Fetched}
-use Rattle.interleave_core.proofs.Kept.{held_core, read_running, read_stage, same_read, due_unspent, fetched_hand, fetch_possible, tied_by}
+use Rattle.interleave_core.proofs.Kept.{held_core, read_running, read_stage, same_read, due_unspent, fetched_hand, fetch_possible, none_missing, none_due, tied_by}
 use Rattle.interleave_core.proofs.interleaving.Core.fetch.Goals as goal
 
 pub invariant_of-self : goal.invariant_of-self
@@ -36,3 +36,26 @@ returns c =
     c.index-cell.result.now c.due_after_fetch-due.result lt c.index-task.ensures c.index_mut.ensures.value c.index-task.ensures at c.is_awaiting-subject.ensures p_in c.index-cell.ensures
     (c.due_after_fetch-due.ensures w refl) c.hold.ensures) in
     record { possible = possible; refused = tt; kept = tt; world = ap (λ (v : CoreView). v.world) c.self.view_is }
+
+pub returns-then-n-len : goal.returns-then-n-len
+returns-then-n-len c =
+    let most : length c.self.inside.tasks.items ≤ c.args.t.0 = omega (arith, c.if-n-len.true, c.len.ensures) in
+    record {
+      possible = tt;
+      refused = none_missing c.args.self.now _ c.self.inside.cells.items c.self.inside.sets.items c.self.inside.tasks.items c.args.t.0 (λ (w : World) (p : Parts) (u : TaskPart). option_map (cell_fetched w p c.args.t.0 u) (place_due w c.args.t.0 u u.stage)) c.self.view_is most;
+      kept = refl;
+      world = refl;
+    }
+
+pub returns-in_default : goal.returns-in_default
+returns-in_default c =
+    let w : World = record { job = c.self.inside.job.now; places = c.self.inside.tables.now.places } in
+    let P : Parts = record { cells = c.self.inside.cells.items; sets = c.self.inside.sets.items; tasks = parts_of c.self.inside.tasks.items } in
+    let lt : c.args.t.0 < length c.self.inside.tasks.items = omega (arith, c.if-n-len.false, c.len.ensures) in
+    let runs = read_running w c.self.inside.cells.items c.self.inside.sets.items c.self.inside.plan c.self.inside.tasks.items c.args.t.0 c.index-task.result.now c.self.invariant lt c.index-task.ensures in
+    record {
+      possible = tt;
+      refused = none_due c.args.self.now w c.self.inside.cells.items c.self.inside.sets.items c.self.inside.tasks.items c.args.t.0 c.index-task.result.now (λ (w : World) (p : Parts) (u : TaskPart). option_map (cell_fetched w p c.args.t.0 u) (place_due w c.args.t.0 u u.stage)) c.self.view_is lt c.index-task.ensures (ap (option_map (cell_fetched w P c.args.t.0 c.index-task.result.now.part)) (sym (c.in_default.ensures.value w c.args.t.0 refl runs)));
+      kept = refl;
+      world = refl;
+    }

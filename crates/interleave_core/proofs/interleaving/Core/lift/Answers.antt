@@ -1,10 +1,10 @@
-use Rattle.std.proofs.Common.{◌≡◌, ◌<◌, length, set, Some, ap, sym, subst, arith, option_map}
-use Rattle.interleave_core.specs.Meaning.{World, Stepped, of_existing, TaskPart, lifted, in_hand}
+use Rattle.std.proofs.Common.{◌≡◌, ◌<◌, length, set, Some, ap, sym, subst, arith, option_map, ◌≤◌, refl}
+use Rattle.interleave_core.specs.Meaning.{World, Parts, Stepped, of_existing, TaskPart, lifted, in_hand}
 use Rattle.interleave_core.specs.Views.{CoreView, parts_of}
 use Rattle.interleave_core.specs.declared.events.Event.TheVariants.{Lift}
 use Rattle.interleave_core.specs.declared.events.Shown.TheVariants.{Lifted}
 use Rattle.interleave_core.specs.declared.stage.Due.TheVariants.{Lifting}
-use Rattle.interleave_core.proofs.Kept.{hand_due, lifted_core, lift_possible, tied_by}
+use Rattle.interleave_core.proofs.Kept.{hand_due, lifted_core, lift_possible, none_missing, none_due, tied_by}
 use Rattle.interleave_core.proofs.interleaving.Core.lift.Goals as goal
 
 pub invariant_of-self : goal.invariant_of-self
@@ -28,3 +28,25 @@ returns c =
     (lift_possible w c.self.inside.cells.items c.exchange-taken.new.cells.items c.self.inside.sets.items c.self.inside.tasks.items c.args.t.0 c.index.result.now c.index_mut.result.now c.hold.new.self c.in-Some.hand c.with_due.result c.exchange-taken.result
     c.place.result.now.original lt c.index.ensures c.index_mut.ensures.value (sym c.in-Some.ensures) (ap (λ x. x.original) c.place.ensures.value) c.exchange-taken.ensures.taken c.exchange-taken.ensures.cells c.with_due.ensures c.hold.ensures) in
     record { possible = possible; refused = tt; kept = tt; world = ap (λ (v : CoreView). v.world) c.self.view_is }
+
+pub returns-then-n-len : goal.returns-then-n-len
+returns-then-n-len c =
+    let most : length c.self.inside.tasks.items ≤ c.args.t.0 = omega (arith, c.if-n-len.true, c.len.ensures) in
+    record {
+      possible = tt;
+      refused = none_missing c.args.self.now _ c.self.inside.cells.items c.self.inside.sets.items c.self.inside.tasks.items c.args.t.0 (λ (w : World) (p : Parts) (u : TaskPart). option_map (lifted w p c.args.t.0 u) (in_hand Lifting u.stage)) c.self.view_is most;
+      kept = refl;
+      world = refl;
+    }
+
+pub returns-in_default : goal.returns-in_default
+returns-in_default c =
+    let w : World = record { job = c.self.inside.job.now; places = c.self.inside.tables.now.places } in
+    let P : Parts = record { cells = c.self.inside.cells.items; sets = c.self.inside.sets.items; tasks = parts_of c.self.inside.tasks.items } in
+    let lt : c.args.t.0 < length c.self.inside.tasks.items = omega (arith, c.if-n-len.false, c.len.ensures) in
+    record {
+      possible = tt;
+      refused = none_due c.args.self.now w c.self.inside.cells.items c.self.inside.sets.items c.self.inside.tasks.items c.args.t.0 c.index.result.now (λ (w : World) (p : Parts) (u : TaskPart). option_map (lifted w p c.args.t.0 u) (in_hand Lifting u.stage)) c.self.view_is lt c.index.ensures (ap (option_map (lifted w P c.args.t.0 c.index.result.now.part)) (sym c.in_default.ensures));
+      kept = refl;
+      world = refl;
+    }

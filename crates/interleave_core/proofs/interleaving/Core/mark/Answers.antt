@@ -1,11 +1,11 @@
-use Rattle.std.proofs.Common.{◌≡◌, ℕ, ◌+◌, ◌*◌, ◌/◌, ◌<◌, length, set, Some, ap, sym, ◌∙◌, subst, arith, option_map}
+use Rattle.std.proofs.Common.{◌≡◌, ℕ, ◌+◌, ◌*◌, ◌/◌, ◌<◌, length, set, Some, ap, sym, ◌∙◌, subst, arith, option_map, ◌≤◌, refl}
 use Rattle.cov_base.specs.Meaning.{with_fact}
-use Rattle.interleave_core.specs.Meaning.{World, Stepped, of_existing, TaskPart, fact_marked, in_hand}
+use Rattle.interleave_core.specs.Meaning.{World, Parts, Stepped, of_existing, TaskPart, fact_marked, in_hand}
 use Rattle.interleave_core.specs.Views.{CoreView, parts_of}
 use Rattle.interleave_core.specs.declared.events.Event.TheVariants.{Mark}
 use Rattle.interleave_core.specs.declared.events.Shown.TheVariants.{Marked}
 use Rattle.interleave_core.specs.declared.stage.Due.TheVariants.{Marking}
-use Rattle.interleave_core.proofs.Kept.{read_running, hand_due, mark_index, mark_fits, marked_core, mark_possible, tied_by}
+use Rattle.interleave_core.proofs.Kept.{read_running, hand_due, mark_index, mark_fits, marked_core, mark_possible, none_missing, none_due, tied_by}
 use Rattle.interleave_core.proofs.interleaving.Core.mark.Goals as goal
 
 pub index-found-requires : goal.index-found-requires
@@ -55,3 +55,25 @@ returns c =
     c.index-found.result.now c.with-facts.result c.place.result.now.kind c.went-went.result c.self.invariant lt c.index-task.ensures c.index_mut-2.ensures.value c.index-task.ensures (sym c.in-Some.ensures) due at c.index-found.ensures
     (ap (λ x. x.kind) c.place.ensures.value) (c.with-facts.ensures ∙ ap (with_fact c.index-found.result.now) c.fact.ensures) (c.went-went.ensures w c.args.t.0 runs) c.due_after_mark.ensures c.with_due.ensures c.hold.ensures) in
     record { possible = possible; refused = tt; kept = tt; world = ap (λ (v : CoreView). v.world) c.self.view_is }
+
+pub returns-then-n-len : goal.returns-then-n-len
+returns-then-n-len c =
+    let most : length c.self.inside.tasks.items ≤ c.args.t.0 = omega (arith, c.if-n-len.true, c.len.ensures) in
+    record {
+      possible = tt;
+      refused = none_missing c.args.self.now _ c.self.inside.cells.items c.self.inside.sets.items c.self.inside.tasks.items c.args.t.0 (λ (w : World) (p : Parts) (u : TaskPart). option_map (fact_marked w p c.args.t.0 u) (in_hand Marking u.stage)) c.self.view_is most;
+      kept = refl;
+      world = refl;
+    }
+
+pub returns-in_default : goal.returns-in_default
+returns-in_default c =
+    let w : World = record { job = c.self.inside.job.now; places = c.self.inside.tables.now.places } in
+    let P : Parts = record { cells = c.self.inside.cells.items; sets = c.self.inside.sets.items; tasks = parts_of c.self.inside.tasks.items } in
+    let lt : c.args.t.0 < length c.self.inside.tasks.items = omega (arith, c.if-n-len.false, c.len.ensures) in
+    record {
+      possible = tt;
+      refused = none_due c.args.self.now w c.self.inside.cells.items c.self.inside.sets.items c.self.inside.tasks.items c.args.t.0 c.index-task.result.now (λ (w : World) (p : Parts) (u : TaskPart). option_map (fact_marked w p c.args.t.0 u) (in_hand Marking u.stage)) c.self.view_is lt c.index-task.ensures (ap (option_map (fact_marked w P c.args.t.0 c.index-task.result.now.part)) (sym c.in_default.ensures));
+      kept = refl;
+      world = refl;
+    }
