@@ -1,3 +1,4 @@
+mod OnData
 mod Powers
 mod Refusals
 mod Shifting

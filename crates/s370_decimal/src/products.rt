@@ -1,5 +1,5 @@
 //! Multiplication and division.
-#![tactic(auto, using(s370_state::proofs::Laws::ill_formed, s370_state::proofs::Laws::well_passes, s370_state::proofs::Laws::well_refuses, s370_state::proofs::Laws::good_data, s370_state::proofs::Laws::bad_data))]
+#![tactic(auto, using(s370_state::proofs::Laws::ill_formed))]
 
 ghost use Rattle.std.specs.Prelude.{◌≡◌, ◌+◌, ◌-◌, ◌*◌, ◌/◌, ◌%◌, ◌^◌, ◌<◌, true, if◌then◌else◌};
 ghost use Rattle.cov_base.specs.Meaning.{can_store};

@@ -1,6 +1,4 @@
 //! Sums, differences and comparisons.
-#![tactic(auto, using(s370_state::proofs::Laws::passes, s370_state::proofs::Laws::refuses, s370_state::proofs::Laws::good_data, s370_state::proofs::Laws::bad_data))]
-
 ghost use Rattle.std.specs.Prelude.{◌≡◌, ◌<◌, ◌≤◌, ◌+ℤ◌, ◌-ℤ◌};
 ghost use Rattle.std.specs.Ordering.{int_cmp};
 ghost use Rattle.s370_state.specs.Row.{Performs};
