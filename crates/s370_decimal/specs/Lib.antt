@@ -1,3 +1,4 @@
 pub mod Kept
 pub mod Meaning
+pub mod Reached
 pub mod Taking

@@ -1,5 +1,5 @@
 -- The working of a pattern over a source whose bytes may not all be reached.
-use Rattle.std.specs.Prelude.{◌≡◌, ℕ, Bool, false, Option, IfSome, IfNone, List}
+use Rattle.std.specs.Prelude.{◌≡◌, ℕ, ◌+◌, ◌<◌, ◌≤◌, Bool, true, false, Option, IfSome, IfNone, List}
 use Rattle.cov_base.specs.Meaning.{Memory, can_reach}
 use Rattle.s370_decimal.specs.Meaning.{next_digit, digit_selected, pattern_stepped, worked}
 use Rattle.s370_decimal.specs.declared.working.Digit.{Digit}
@@ -11,6 +11,18 @@ pub record Takes {A : Type 0} (m : Memory) (bytes : List ℕ) (b : ℕ) (taken :
     (answer : Option A) : Type 0 where
   pub value : IfSome answer (λ x. x ≡ it m bytes b)
   pub none : IfNone answer (can_reach m b (taken (it m bytes b)) ≡ false)
+
+-- A digit can be taken: fewer than 256 source bytes were read, all of them accessible, and what waits is a half byte.
+pub record CanTake (m : Memory) (b : ℕ) (w : Working) : Type 0 where
+  pub taken : w.taken < 256
+  pub right : IfSome w.right (λ d. d < 16)
+  pub reach : can_reach m b w.taken ≡ true
+
+-- so many bytes were read behind those of a working, one at most, all of them accessible, and what waits now is a half byte
+pub record IsTaken (m : Memory) (b : ℕ) (w : Working) (taken : ℕ) (right : Option ℕ) : Type 0 where
+  pub most : taken ≤ w.taken + 1
+  pub waits : IfSome right (λ d. d < 16)
+  pub reach : can_reach m b taken ≡ true
 
 abbrev pub digit_taken : Digit → ℕ
 digit_taken d = d.taken

@@ -1,8 +1,8 @@
 //! The working of a pattern, a byte at a time from left to right.
 ghost use Rattle.std.specs.Prelude.{◌≡◌, ◌+◌, ◌*◌, ◌/◌, ◌%◌, ◌<◌, ◌≤◌, true, false, not, ◌&&◌, ◌||◌, ◌==◌, if◌then◌else◌, Some, None, IfSome, IfNone};
-ghost use Rattle.cov_base.specs.Meaning.{byte_at, is_accessible, can_reach, wrap};
+ghost use Rattle.cov_base.specs.Meaning.{byte_at, is_accessible, wrap};
 ghost use Rattle.s370_decimal.specs.Meaning.{fresh, left_digit, next_digit, digit_selected, separated, byte_kept, pattern_stepped};
-ghost use Rattle.s370_decimal.specs.Taking.{Takes, digit_taken, step_taken, digit_after, digit_step, byte_step};
+ghost use Rattle.s370_decimal.specs.Taking.{CanTake, IsTaken, Takes, digit_taken, step_taken, digit_after, digit_step, byte_step};
 
 use cov_base::Addr;
 use s370_state::{Space, is_digit, is_minus, is_sign};
@@ -91,14 +91,10 @@ fn left_digit(w: &Working, v: u8) -> Digit
 /// The next source digit; none where its byte is inaccessible.
 #[tactic(auto, unfolding(crate::specs::Meaning::next_digit), using(s370_state::proofs::Laws::reach_more, s370_state::proofs::Laws::reach_fails))]
 fn next_digit<P: Space>(space: &P, b: Addr, w: &Working) -> Option<Digit>
-    requires taken { w.now.taken < 256 }
-    requires right { IfSome w.now.right (λ d. d < 16) }
-    requires reach { can_reach (P.memory space.now) b w.now.taken ≡ true }
+    requires { CanTake (P.memory space.now) b w.now }
     ensures digit { Takes (P.memory space.now) (P.bytes space.now) b digit_taken (digit_after w.now) result }
     ensures below { IfSome result (λ d. d.value < 16) }
-    ensures right { IfSome result (λ d. IfSome d.right (λ r. r < 16)) }
-    ensures most { IfSome result (λ d. d.taken ≤ w.now.taken + 1) }
-    ensures reach { IfSome result (λ d. can_reach (P.memory space.now) b d.taken ≡ true) }
+    ensures taken { IfSome result (λ d. IsTaken (P.memory space.now) b w.now d.taken d.right) }
 {
     match w.right {
         Some(value) => Some(Digit {
@@ -148,13 +144,9 @@ fn take_digit<P: Space>(
     fill: u8,
     at: Addr,
 ) -> Option<PatternStep>
-    requires taken { w.now.taken < 256 }
-    requires right { IfSome w.now.right (λ d. d < 16) }
-    requires reach { can_reach (P.memory space.now) b w.now.taken ≡ true }
+    requires { CanTake (P.memory space.now) b w.now }
     ensures step { Takes (P.memory space.now) (P.bytes space.now) b step_taken (digit_step w.now starts fill at) result }
-    ensures right { IfSome result (λ s. IfSome s.working.right (λ r. r < 16)) }
-    ensures most { IfSome result (λ s. s.working.taken ≤ w.now.taken + 1) }
-    ensures reach { IfSome result (λ s. can_reach (P.memory space.now) b s.working.taken ≡ true) }
+    ensures taken { IfSome result (λ s. IsTaken (P.memory space.now) b w.now s.working.taken s.working.right) }
 {
     match next_digit(space, b, w) {
         Some(d) => Some(select(w, &d, starts, fill, at)),
@@ -197,13 +189,9 @@ pub fn work_byte<P: Space>(
     at: Addr,
     w: &Working,
 ) -> Option<PatternStep>
-    requires taken { w.now.taken < 256 }
-    requires right { IfSome w.now.right (λ d. d < 16) }
-    requires reach { can_reach (P.memory space.now) b w.now.taken ≡ true }
+    requires { CanTake (P.memory space.now) b w.now }
     ensures step { Takes (P.memory space.now) (P.bytes space.now) b step_taken (byte_step w.now fill p at) result }
-    ensures right { IfSome result (λ s. IfSome s.working.right (λ r. r < 16)) }
-    ensures most { IfSome result (λ s. s.working.taken ≤ w.now.taken + 1) }
-    ensures reach { IfSome result (λ s. can_reach (P.memory space.now) b s.working.taken ≡ true) }
+    ensures taken { IfSome result (λ s. IsTaken (P.memory space.now) b w.now s.working.taken s.working.right) }
 {
     if w.bad {
         return Some(PatternStep {
