@@ -93,12 +93,6 @@ pairs_most n v l h = let b : 100 ^ n ≤ 100 ^ 15 = pow-le-pow_right {n = 100} (
 hundreds : (n : ℕ) → 100 ^ n ≡ 10 ^ (n + n)
 hundreds n = mul-pow 10 10 n ∙ sym (pow-add 10 n n)
 
-pub digit_last : (l v d : ℕ) → v < 100 ^ l → d < 10 → v * 10 + d < 10 ^ (2 * l + 1)
-digit_last l v d h e =
-    let two : 2 * l + 1 ≡ suc (l + l) = omega arith in
-    let b : v < 10 ^ (l + l) = rw (hundreds l) at h in
-    rw (two, pow-suc 10 (l + l)) (omega arith)
-
 pub field_good : (m : Memory) (bytes : List ℕ) (a l b v : ℕ) → b ≡ byte_at m bytes (wrap (a + l)) → list_all is_digit (halves_at m bytes a l) ≡ true → v ≡ decimal 0 (halves_at m bytes a l) → (is_digit (b / 16) && is_sign (b % 16)) ≡ true →
     Some (record { magnitude = v * 10 + b / 16; minus = is_minus (b % 16) }) ≡ field_at m bytes a l
 unfolding field_at

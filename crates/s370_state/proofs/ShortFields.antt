@@ -1,5 +1,5 @@
 -- Fields that end a doubleword.
-use Rattle.std.proofs.Common.{◌≡◌, ℕ, ◌+◌, ◌-◌, ◌*◌, ◌/◌, ◌%◌, ◌^◌, ◌<◌, ◌≤◌, zero, suc, Bool, true, false, if◌then◌else◌, ◌&&◌, sym, Option, Some, None, List, length, length-append, lit<, [], ◌∷◌, ◌++◌, slice_index, append_assoc, append-nil, refl, ◌∙◌, arith}
+use Rattle.std.proofs.Common.{◌≡◌, ℕ, ◌+◌, ◌-◌, ◌*◌, ◌/◌, ◌%◌, ◌^◌, ◌<◌, ◌≤◌, zero, suc, Bool, true, false, if◌then◌else◌, ◌&&◌, sym, Option, Some, None, List, length, length-append, lit<, IfSome, [], ◌∷◌, ◌++◌, slice_index, append_assoc, append-nil, refl, ◌∙◌, arith}
 use Rattle.std.specs.List.{list_all}
 use Rattle.std.proofs.lemmas.Bool.{and_parts}
 use Rattle.std.proofs.lemmas.Bool.Decides.{nat_tests}
@@ -134,6 +134,15 @@ pub field_most : (m : Memory) (bytes : List ℕ) (a l : ℕ) (f : Field) → l �
 field_most m bytes a l f h e =
     let b : 10 ^ (2 * l + 1) ≤ 10 ^ 31 = pow-le-pow_right {n = 10} (lit< tt) {i = 2 * l + 1} {j = 31} (omega (arith, h)) in
     omega (arith, b, field_below m bytes a l f e)
+
+-- so of what a field holds, if anything
+pub fields_below : (m : Memory) (bytes : List ℕ) (a l : ℕ) (o : Option Field) → o ≡ field_at m bytes a l → IfSome o (λ (f : Field). f.magnitude < 10 ^ (2 * l + 1))
+fields_below m bytes a l None e = tt
+fields_below m bytes a l (Some f) e = field_below m bytes a l f e
+
+pub fields_most : (m : Memory) (bytes : List ℕ) (a l : ℕ) (o : Option Field) → l ≤ 15 → o ≡ field_at m bytes a l → IfSome o (λ (f : Field). f.magnitude < 10000000000000000000000000000000)
+fields_most m bytes a l None h e = tt
+fields_most m bytes a l (Some f) h e = field_most m bytes a l f h e
 
 -- fields of more than 8 bytes
 

@@ -88,9 +88,7 @@ fn pairs<P: Space>(_from: &P, at: Addr, n: u32, row: &[u8]) -> Option<u128>
 fn field_in<P: Space>(_from: &P, at: Addr, l: u8, row: &[u8]) -> Option<Field>
     requires length { l ≤ 15 }
     requires row { AreBytes (P.memory _from.now) (P.bytes _from.now) at (l + 1) row.now }
-    ensures field { result ≡ field_at (P.memory _from.now) (P.bytes _from.now) at l }
-    ensures below { IfSome result (λ f. f.magnitude < 10 ^ (2 * l + 1)) }
-    ensures most { IfSome result (λ f. f.magnitude < 10000000000000000000000000000000) }
+    ensures { result ≡ field_at (P.memory _from.now) (P.bytes _from.now) at l }
 {
     let n = u32::from(l);
     let last = row[usize::from(l)];
@@ -128,9 +126,7 @@ fn gathered<P: Space>(space: &P, at: Addr, n: u32) -> [u8; 16]
 fn any_field<P: Space>(space: &P, at: Addr, l: u8) -> Option<Field>
     requires length { l ≤ 15 }
     requires reach { can_reach (P.memory space.now) at (l + 1) ≡ true }
-    ensures field { result ≡ field_at (P.memory space.now) (P.bytes space.now) at l }
-    ensures below { IfSome result (λ f. f.magnitude < 10 ^ (2 * l + 1)) }
-    ensures most { IfSome result (λ f. f.magnitude < 10000000000000000000000000000000) }
+    ensures { result ≡ field_at (P.memory space.now) (P.bytes space.now) at l }
 {
     let n = u32::from(l) + 1;
     field_in(space, at, l, &gathered(space, at, n)[..n as usize])
@@ -253,13 +249,10 @@ fn long_field<P: Space>(space: &P, at: Addr, l: u8) -> Option<Field>
 /// What a field holds that isn't a short one, good and in a row. Marked cold, so that the way of those stays straight.
 #[cold]
 #[inline(never)]
-#[tactic(auto, using(crate::proofs::ShortFields::field_below, crate::proofs::ShortFields::field_most))]
 fn other_field<P: Space>(space: &P, at: Addr, l: u8) -> Option<Field>
     requires length { l ≤ 15 }
     requires reach { can_reach (P.memory space.now) at (l + 1) ≡ true }
-    ensures field { result ≡ field_at (P.memory space.now) (P.bytes space.now) at l }
-    ensures below { IfSome result (λ f. f.magnitude < 10 ^ (2 * l + 1)) }
-    ensures most { IfSome result (λ f. f.magnitude < 10000000000000000000000000000000) }
+    ensures { result ≡ field_at (P.memory space.now) (P.bytes space.now) at l }
 {
     match long_field(space, at, l) {
         Some(f) => Some(f),

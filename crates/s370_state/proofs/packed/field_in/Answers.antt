@@ -1,5 +1,5 @@
 use Rattle.std.proofs.Common.{◌∙◌, slice_index, sym, arith}
-use Rattle.s370_state.proofs.Digits.{pairs_most, digit_last, last_digit, field_good, field_pairs_bad, field_last_bad}
+use Rattle.s370_state.proofs.Digits.{pairs_most, last_digit, field_good, field_pairs_bad, field_last_bad}
 use Rattle.s370_state.proofs.packed.field_in.Goals as goal
 
 pub overflow_mul-result : goal.overflow_mul-result
@@ -11,25 +11,14 @@ overflow_add-result g c =
     let d = last_digit (slice_index c.args.row.now c.args.l) (rw c.from.ensures at (sym c.is_last.ensures ∙ c.if-is_last.true)) in
     omega (arith, b, d, rw c.from.ensures at c.from-then-is_last.ensures)
 
-pub returns-then-is_last-clause-field : goal.returns-then-is_last-clause-field
-returns-then-is_last-clause-field g c =
+pub returns-then-is_last : goal.returns-then-is_last
+returns-then-is_last g c =
     rw (c.from-then-is_last.ensures, c.is_minus.ensures, c.from.ensures)
     (field_good _ _ _ c.args.l (slice_index c.args.row.now c.args.l) c.in-Some.high (c.requires.row.each c.args.l (omega arith)) (rw c.from-n.ensures at c.in-Some.ensures.good) (rw c.from-n.ensures at c.in-Some.ensures.value) (rw c.from.ensures at (sym c.is_last.ensures ∙ c.if-is_last.true)))
 
-pub returns-then-is_last-clause-below : goal.returns-then-is_last-clause-below
-returns-then-is_last-clause-below g c =
-    let d = last_digit (slice_index c.args.row.now c.args.l) (rw c.from.ensures at (sym c.is_last.ensures ∙ c.if-is_last.true)) in
-    rw (c.from-then-is_last.ensures, c.from.ensures) (digit_last c.args.l c.in-Some.high _ (rw c.from-n.ensures at c.in-Some.ensures.below) d)
-
-pub returns-then-is_last-clause-most : goal.returns-then-is_last-clause-most
-returns-then-is_last-clause-most g c =
-    let b = pairs_most c.args.l c.in-Some.high c.requires.length (rw c.from-n.ensures at c.in-Some.ensures.below) in
-    let d = last_digit (slice_index c.args.row.now c.args.l) (rw c.from.ensures at (sym c.is_last.ensures ∙ c.if-is_last.true)) in
-    omega (arith, b, d, rw c.from.ensures at c.from-then-is_last.ensures)
-
-pub returns-else-is_last-clause-field : goal.returns-else-is_last-clause-field
-returns-else-is_last-clause-field g c =
+pub returns-else-is_last : goal.returns-else-is_last
+returns-else-is_last g c =
     field_last_bad _ _ _ c.args.l (slice_index c.args.row.now c.args.l) (c.requires.row.each c.args.l (omega arith)) (rw c.from-n.ensures at c.in-Some.ensures.good) (rw c.from.ensures at (sym c.is_last.ensures ∙ c.if-is_last.false))
 
-pub returns-in-None-clause-field : goal.returns-in-None-clause-field
-returns-in-None-clause-field g c = field_pairs_bad _ _ _ c.args.l (rw c.from-n.ensures at c.in-None.ensures.bad)
+pub returns-in-None : goal.returns-in-None
+returns-in-None g c = field_pairs_bad _ _ _ c.args.l (rw c.from-n.ensures at c.in-None.ensures.bad)
