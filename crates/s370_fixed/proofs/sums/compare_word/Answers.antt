@@ -1,0 +1,16 @@
+use Rattle.std.proofs.Common.{sym, refl, FitsSigned}
+use Rattle.std.specs.Int.{w64}
+use Rattle.std.proofs.lemmas.Int.{to_z-of_z}
+use Rattle.s370_state.proofs.Laws.{passes, refuses}
+use Rattle.s370_fixed.proofs.sums.compare_word.Goals as goal
+
+pub returns-in-Err : goal.returns-in-Err
+returns-in-Err g c = record { memory = refl; effect = sym (refuses _ _ _ _ _ (rw c.second_indexed.ensures at c.in-Err.ensures.tested.refused)) }
+
+pub returns-in-Ok : goal.returns-in-Ok
+returns-in-Ok g c =
+    let f : FitsSigned w64 c.signed.result = record { sfits = c.signed.type_inv } in
+    record {
+      memory = refl;
+      effect = rw (c.compare.ensures.cpu, c.compare.ensures.next, to_z-of_z w64 _ f, c.signed.ensures.value, c.in-Ok.ensures.value, c.second_indexed.ensures, c.args.it.now.is_first) (sym (passes _ _ _ _ (rw c.second_indexed.ensures at c.in-Ok.ensures.tested.passed)));
+    }
