@@ -1,0 +1,10 @@
+use Rattle.std.proofs.Common.{ap, ◌∙◌}
+use Rattle.s370_exec.specs.Meaning.{effect, onward}
+use Rattle.s370_exec.proofs.stored.subtract_half_apart.Goals as goal
+
+pub returns : goal.returns
+unfolding effect
+returns g c = record {
+  memory = c.subtract_half-n.ensures.memory;
+  effect = λ io link. c.onward.ensures _ io ∙ ap (onward c.args.it.now.next io) c.subtract_half-n.ensures.effect;
+}
