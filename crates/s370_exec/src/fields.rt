@@ -2,7 +2,6 @@
 //! each a call in a frame of its own.
 ghost use Rattle.std.specs.Prelude.{◌≡◌};
 ghost use Rattle.s370_exec.specs.Does.{CarriesOn};
-ghost use Rattle.s370_exec.specs.Meaning.{effect};
 
 use crate::instruction::{Told, onward};
 use s370_decode::{Decoded, Op};
@@ -18,7 +17,6 @@ use s370_storage::{
 
 /// STM.
 #[inline(never)]
-#[tactic(auto, unfolding(crate::specs::Meaning::effect))]
 pub(crate) fn store_multiple_apart<P: Space>(
     cpu: &mut Cpu,
     space: &mut P,
@@ -37,7 +35,6 @@ pub(crate) fn store_multiple_apart<P: Space>(
 /// The same where not all is in private storage.
 #[cold]
 #[inline(never)]
-#[tactic(auto, unfolding(crate::specs::Meaning::effect))]
 fn store_multiple_far<P: Space>(
     cpu: &mut Cpu,
     space: &mut P,
@@ -52,7 +49,6 @@ fn store_multiple_far<P: Space>(
 
 /// LM.
 #[inline(never)]
-#[tactic(auto, unfolding(crate::specs::Meaning::effect))]
 pub(crate) fn load_multiple_apart<P: Space>(
     cpu: &mut Cpu,
     space: &mut P,
@@ -71,7 +67,6 @@ pub(crate) fn load_multiple_apart<P: Space>(
 /// The same where not all is in private storage.
 #[cold]
 #[inline(never)]
-#[tactic(auto, unfolding(crate::specs::Meaning::effect))]
 fn load_multiple_far<P: Space>(cpu: &mut Cpu, space: &mut P, it: &Decoded, end: &mut Ending) -> Told
     ensures { CarriesOn P.memory P.bytes it.now Op.LM cpu.old space.old cpu.new space.new result end.new }
 {
@@ -81,7 +76,6 @@ fn load_multiple_far<P: Space>(cpu: &mut Cpu, space: &mut P, it: &Decoded, end: 
 
 /// IC.
 #[inline(always)]
-#[tactic(auto, unfolding(crate::specs::Meaning::effect))]
 pub(crate) fn insert_character_onward<P: Space>(
     cpu: &mut Cpu,
     space: &mut P,
@@ -96,7 +90,6 @@ pub(crate) fn insert_character_onward<P: Space>(
 
 /// STC.
 #[inline(always)]
-#[tactic(auto, unfolding(crate::specs::Meaning::effect))]
 pub(crate) fn store_character_onward<P: Space>(
     cpu: &mut Cpu,
     space: &mut P,
@@ -111,7 +104,6 @@ pub(crate) fn store_character_onward<P: Space>(
 
 /// MVI.
 #[inline(always)]
-#[tactic(auto, unfolding(crate::specs::Meaning::effect))]
 pub(crate) fn move_immediate_onward<P: Space>(
     cpu: &mut Cpu,
     space: &mut P,
@@ -126,7 +118,6 @@ pub(crate) fn move_immediate_onward<P: Space>(
 
 /// CLI.
 #[inline(always)]
-#[tactic(auto, unfolding(crate::specs::Meaning::effect))]
 pub(crate) fn compare_immediate_onward<P: Space>(
     cpu: &mut Cpu,
     space: &mut P,
@@ -141,7 +132,6 @@ pub(crate) fn compare_immediate_onward<P: Space>(
 
 /// TM.
 #[inline(always)]
-#[tactic(auto, unfolding(crate::specs::Meaning::effect))]
 pub(crate) fn test_under_mask_onward<P: Space>(
     cpu: &mut Cpu,
     space: &mut P,
@@ -156,7 +146,6 @@ pub(crate) fn test_under_mask_onward<P: Space>(
 
 /// MVC.
 #[inline(never)]
-#[tactic(auto, unfolding(crate::specs::Meaning::effect))]
 pub(crate) fn move_characters_apart<P: Space>(
     cpu: &mut Cpu,
     space: &mut P,
@@ -175,7 +164,6 @@ pub(crate) fn move_characters_apart<P: Space>(
 /// The same where not all is in private storage.
 #[cold]
 #[inline(never)]
-#[tactic(auto, unfolding(crate::specs::Meaning::effect))]
 fn move_characters_far<P: Space>(
     cpu: &mut Cpu,
     space: &mut P,
@@ -190,7 +178,6 @@ fn move_characters_far<P: Space>(
 
 /// CLC.
 #[inline(never)]
-#[tactic(auto, unfolding(crate::specs::Meaning::effect))]
 pub(crate) fn compare_fields_apart<P: Space>(
     cpu: &mut Cpu,
     space: &mut P,
@@ -209,7 +196,6 @@ pub(crate) fn compare_fields_apart<P: Space>(
 /// The same where not all is in private storage.
 #[cold]
 #[inline(never)]
-#[tactic(auto, unfolding(crate::specs::Meaning::effect))]
 fn compare_fields_far<P: Space>(
     cpu: &mut Cpu,
     space: &mut P,

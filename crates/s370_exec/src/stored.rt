@@ -2,7 +2,6 @@
 //! apart, the others each a call in a frame of its own; but for L and ST, which stand in the match of all operations.
 ghost use Rattle.std.specs.Prelude.{◌≡◌};
 ghost use Rattle.s370_exec.specs.Does.{CarriesOn};
-ghost use Rattle.s370_exec.specs.Meaning.{effect};
 
 use crate::instruction::{Told, onward};
 use s370_decode::{Decoded, Op};
@@ -15,7 +14,6 @@ use s370_state::{Cpu, Ending, Space};
 
 /// LH.
 #[inline(always)]
-#[tactic(auto, unfolding(crate::specs::Meaning::effect))]
 pub(crate) fn load_half_onward<P: Space>(
     cpu: &mut Cpu,
     space: &mut P,
@@ -30,7 +28,6 @@ pub(crate) fn load_half_onward<P: Space>(
 
 /// STH.
 #[inline(always)]
-#[tactic(auto, unfolding(crate::specs::Meaning::effect))]
 pub(crate) fn store_half_onward<P: Space>(
     cpu: &mut Cpu,
     space: &mut P,
@@ -45,7 +42,6 @@ pub(crate) fn store_half_onward<P: Space>(
 
 /// A.
 #[inline(always)]
-#[tactic(auto, unfolding(crate::specs::Meaning::effect))]
 pub(crate) fn add_word_onward<P: Space>(
     cpu: &mut Cpu,
     space: &mut P,
@@ -60,7 +56,6 @@ pub(crate) fn add_word_onward<P: Space>(
 
 /// AH.
 #[inline(never)]
-#[tactic(auto, unfolding(crate::specs::Meaning::effect))]
 pub(crate) fn add_half_apart<P: Space>(
     cpu: &mut Cpu,
     space: &mut P,
@@ -75,7 +70,6 @@ pub(crate) fn add_half_apart<P: Space>(
 
 /// S.
 #[inline(never)]
-#[tactic(auto, unfolding(crate::specs::Meaning::effect))]
 pub(crate) fn subtract_word_apart<P: Space>(
     cpu: &mut Cpu,
     space: &mut P,
@@ -90,7 +84,6 @@ pub(crate) fn subtract_word_apart<P: Space>(
 
 /// SH.
 #[inline(never)]
-#[tactic(auto, unfolding(crate::specs::Meaning::effect))]
 pub(crate) fn subtract_half_apart<P: Space>(
     cpu: &mut Cpu,
     space: &mut P,
@@ -105,7 +98,6 @@ pub(crate) fn subtract_half_apart<P: Space>(
 
 /// AL.
 #[inline(never)]
-#[tactic(auto, unfolding(crate::specs::Meaning::effect))]
 pub(crate) fn add_logical_word_apart<P: Space>(
     cpu: &mut Cpu,
     space: &mut P,
@@ -120,7 +112,6 @@ pub(crate) fn add_logical_word_apart<P: Space>(
 
 /// SL.
 #[inline(never)]
-#[tactic(auto, unfolding(crate::specs::Meaning::effect))]
 pub(crate) fn subtract_logical_word_apart<P: Space>(
     cpu: &mut Cpu,
     space: &mut P,
@@ -135,7 +126,6 @@ pub(crate) fn subtract_logical_word_apart<P: Space>(
 
 /// C.
 #[inline(never)]
-#[tactic(auto, unfolding(crate::specs::Meaning::effect))]
 pub(crate) fn compare_word_apart<P: Space>(
     cpu: &mut Cpu,
     space: &mut P,
@@ -150,7 +140,6 @@ pub(crate) fn compare_word_apart<P: Space>(
 
 /// CH.
 #[inline(never)]
-#[tactic(auto, unfolding(crate::specs::Meaning::effect))]
 pub(crate) fn compare_half_apart<P: Space>(
     cpu: &mut Cpu,
     space: &mut P,
