@@ -15,7 +15,7 @@ pub record Takes {A : Type 0} (m : Memory) (bytes : List ℕ) (b : ℕ) (taken :
 -- A digit can be taken: fewer than 256 source bytes were read, all of them accessible, and what waits is a half byte.
 pub record CanTake (m : Memory) (b : ℕ) (w : Working) : Type 0 where
   pub taken : w.taken < 256
-  pub right : IfSome w.right (λ d. d < 16)
+  pub waits : IfSome w.right (λ d. d < 16)
   pub reach : can_reach m b w.taken ≡ true
 
 -- so many bytes were read behind those of a working, one at most, all of them accessible, and what waits now is a half byte
