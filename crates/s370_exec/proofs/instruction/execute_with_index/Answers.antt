@@ -1,22 +1,16 @@
-use Rattle.std.proofs.Common.{None, sym, ap, ◌∙◌}
-use Rattle.s370_decode.specs.declared.op.Op.TheVariants.{LA, L, ST, LH, STH, A, AH, S, SH, AL, SL, C, CH, IC, STC}
+use Rattle.std.proofs.Common.{rules, None, sym, ap, ◌∙◌}
+use Rattle.s370_decode.specs.declared.op.Op.TheVariants.{ST, LH, STH, A, AH, S, SH, AL, SL, C, CH, IC, STC}
 use Rattle.s370_exec.specs.Meaning.{effect, onward}
 use Rattle.s370_exec.proofs.Groups.{as_executed}
 use Rattle.s370_exec.proofs.instruction.execute_with_index.Goals as goal
 
 pub returns-in-LA-clause-tries : goal.returns-in-LA-clause-tries
 unfolding effect
-returns-in-LA-clause-tries g c = record {
-  memory = c.load_address-n.ensures.memory;
-  effect = as_executed _ _ _ _ None LA _ _ (sym c.in-LA.is ∙ c.args.it.now.operates) c.args.it.now.follows (c.onward.ensures _ _ ∙ ap (onward c.args.it.now.next c.args.io.now) c.load_address-n.ensures.effect);
-}
+returns-in-LA-clause-tries g c = record { memory = search rules; effect = search rules }
 
 pub returns-in-L-clause-tries : goal.returns-in-L-clause-tries
 unfolding effect
-returns-in-L-clause-tries g c = record {
-  memory = c.load_word-n.ensures.memory;
-  effect = as_executed _ _ _ _ None L _ _ (sym c.in-L.is ∙ c.args.it.now.operates) c.args.it.now.follows (c.onward-in-L.ensures _ _ ∙ ap (onward c.args.it.now.next c.args.io.now) c.load_word-n.ensures.effect);
-}
+returns-in-L-clause-tries g c = record { memory = search rules; effect = search rules }
 
 pub returns-in-ST-clause-tries : goal.returns-in-ST-clause-tries
 unfolding effect
