@@ -63,14 +63,6 @@ fn put_cards(block: &mut [u8], from: usize, task: &TaskCard)
     }
 }
 
-/// Whether a row isn't what it was as the task began.
-fn is_changed(first: &[u8], now: &[u8]) -> bool
-    requires { length now.now ≤ length first.now }
-    ensures { result ≡ not (bytes_eq (take (length now.now) first.now) now.now) }
-{
-    &first[..now.len()] != now
-}
-
 /// Row n where it isn't what it was as the task began.
 fn storage_row<K: Sink>(sink: &mut K, first: &[u8], now: &[u8], n: u32) -> Result<(), Failed>
     requires at { 16 * n < 16777216 }
@@ -78,7 +70,7 @@ fn storage_row<K: Sink>(sink: &mut K, first: &[u8], now: &[u8], n: u32) -> Resul
     requires first { length now.now ≤ length first.now }
     ensures { Prints K.Sink sink.old sink.new result (row_lines (16 * n) (take (length now.now) first.now) now.now) }
 {
-    if is_changed(first, now) {
+    if &first[..now.len()] != now {
         put(sink, storage_line(16 * n, now))
     } else {
         Ok(())

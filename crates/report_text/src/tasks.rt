@@ -61,14 +61,6 @@ fn bytes_line(bytes: &[u8]) -> ArrayVec<u8, 160>
     line
 }
 
-/// Registers 8 to 15.
-fn high(regs: &[u32]) -> &[u32]
-    requires { 8 ≤ length regs.now }
-    ensures { result.now ≡ drop 8 regs.now }
-{
-    &regs[8..]
-}
-
 /// What has become of a task, and its processor.
 fn state_part<K: Sink>(
     sink: &mut K,
@@ -81,7 +73,7 @@ fn state_part<K: Sink>(
 {
     put(sink, task_line(name, ending, done, cpu.condition()))?;
     put(sink, register_line(b"R0", &cpu.regs()[..8]))?;
-    put(sink, register_line(b"R8", high(cpu.regs())))
+    put(sink, register_line(b"R8", &cpu.regs()[8..]))
 }
 
 /// Row n of the output.

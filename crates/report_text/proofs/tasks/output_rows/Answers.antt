@@ -8,7 +8,7 @@ pub returns-in_err-put : goal.returns-in_err-put
 returns-in_err-put g c =
     let output = c.args.output.now in
     let n = c.loop-n.n in
-    let line : c.bytes_line.result.items ≡ hex_bytes (hexadecimal_row 32 output n) ++ 10 ∷ [] = search rules in
+    let line : c.bytes_line.result.items ≡ hex_bytes (hexadecimal_row 32 output n) ++ 10 ∷ [] = rw c.output_row.ensures.value at c.bytes_line.ensures in
     let here : n < row_count 32 output = search rules in
     progress_exit _ c.from_residual.ensures.0 (c.in_err-put.ensures _ line) (progress_at (lines_from-next (λ k. hex_bytes (hexadecimal_row 32 output k) ∷ []) n n (row_count 32 output) here) c.loop-n.invariant)
 
@@ -16,6 +16,6 @@ pub loop-n-preserved : goal.loop-n-preserved
 loop-n-preserved g c =
     let output = c.args.output.now in
     let n = c.loop-n.n in
-    let line : c.bytes_line.result.items ≡ hex_bytes (hexadecimal_row 32 output n) ++ 10 ∷ [] = search rules in
+    let line : c.bytes_line.result.items ≡ hex_bytes (hexadecimal_row 32 output n) ++ 10 ∷ [] = rw c.output_row.ensures.value at c.bytes_line.ensures in
     let here : n < row_count 32 output = search rules in
     progress_more (c.in_ok-put.ensures _ line) (progress_at (lines_from-next (λ k. hex_bytes (hexadecimal_row 32 output k) ∷ []) n n (row_count 32 output) here) c.loop-n.invariant)

@@ -1,4 +1,4 @@
-use Rattle.std.proofs.Common.{◌≡◌, [], ◌∷◌, ◌++◌, codes, rules}
+use Rattle.std.proofs.Common.{◌≡◌, [], ◌∷◌, ◌++◌, codes}
 use Rattle.report_text.proofs.WriteLemmas.{progress_start, progress_more, progress_exit, progress_last}
 use Rattle.report_text.proofs.whole.results_part.Goals as goal
 
@@ -13,7 +13,7 @@ returns-in_err-sessions_text g c =
 
 pub returns : goal.returns
 returns g c =
-    let end : c.words_line.result.items ≡ codes "END" ++ 10 ∷ [] = search rules in
+    let end : c.words_line.result.items ≡ codes "END" ++ 10 ∷ [] = c.words_line.ensures in
     let first = progress_more c.in_ok-tasks_text.ensures progress_start in
     let second = progress_more c.in_ok-sessions_text.ensures first in
     progress_last (c.put.ensures _ end) second
