@@ -1,5 +1,5 @@
 -- What the lines say that a reader has taken.
-use Rattle.std.proofs.Common.{◌≡◌, ℕ, ◌+◌, ◌-◌, ◌<◌, ◌≤◌, Bool, true, false, Some, List, [], ◌∷◌, ◌++◌, length, take, drop, refl, ap, subst, sym, ◌∙◌, arith, append_assoc, append-nil, length-append, length-take, inl, inr}
+use Rattle.std.proofs.Common.{◌≡◌, ℕ, ◌+◌, ◌-◌, ◌<◌, ◌≤◌, Bool, true, false, Some, Ok, Err, List, [], ◌∷◌, ◌++◌, length, take, drop, refl, ap, subst, sym, ◌∙◌, arith, append_assoc, append-nil, length-append, length-take, inl, inr}
 use Rattle.std.proofs.Math.Seq.{take-length, drop-length}
 use Rattle.std.proofs.lemmas.Bool.{cases_lt, true_from_ne_false}
 use Rattle.std.proofs.lemmas.List.{take-take}
@@ -8,7 +8,7 @@ use Rattle.session_book.specs.Meaning.{JobView}
 use Rattle.job_text.specs.Meaning.{Present, bound, LineView, lines_of, keeps, IsWithin, Passes, GoesOn, IsBadAt, IsOverAt, IsRefusal, Spells}
 use Rattle.job_text.specs.Lines.{ended_lines, span}
 use Rattle.job_text.specs.Pieces.{fault_line, IsTold, IsOpen, IsEnded, used_of}
-use Rattle.job_text.specs.Refusals.{IsRead, IsRefused}
+use Rattle.job_text.specs.Refusals.{IsRead, IsRefused, IsAnswer}
 use Rattle.job_text.specs.Steps.{State, start, plain, is_done, step, run}
 use Rattle.job_text.specs.Taken.{IsNext, IsFaultOf, HasRun, has_lf, HasTaken, size_of}
 use Rattle.job_text.specs.declared.grammar.Grammar.{Grammar}
@@ -275,7 +275,7 @@ last_refused bytes p e some h f =
     some_cut (x ∷ xs) h e = absurd cc
 
 -- the input ends early
-pub early_refuted : (bytes : List ℕ) (t : Taken) (e : JobFault) → HasRun bytes t → is_done t.reader.part ≡ false → e ≡ fault.BadJob (t.lines + 1) → IsRefusal t.grammar (lines_of bytes) e × ((n : ℕ) (job : JobView) → n ≤ length (lines_of bytes) → Spells t.grammar Present (take n (lines_of bytes)) job → IsWithin job → e ≡ fault.NoMemory)
+early_refuted : (bytes : List ℕ) (t : Taken) (e : JobFault) → HasRun bytes t → is_done t.reader.part ≡ false → e ≡ fault.BadJob (t.lines + 1) → IsRefusal t.grammar (lines_of bytes) e × ((n : ℕ) (job : JobView) → n ≤ length (lines_of bytes) → Spells t.grammar Present (take n (lines_of bytes)) job → IsWithin job → e ≡ fault.NoMemory)
 early_refuted bytes t e h reading is =
     let ls : List LineView = lines_of bytes in
     let s : State = plain t.reader in
@@ -283,9 +283,28 @@ early_refuted bytes t e h reading is =
     let b : IsBadAt t.grammar ls (length ls + 1) = ends_early ls (length ls) s (drop-length ls) (omega arith) runs (within_of ls s h.runs h.goes_on) reading in
     (rw (is, h.count) b, λ n job i p w. absurd (bad_none ls (length ls) n s job (omega arith) runs reading b i p))
 
+pub early_answer : (bytes : List ℕ) (t : Taken) → HasRun bytes t → is_done t.reader.part ≡ false → IsAnswer t.grammar bytes (Err (fault.BadJob (t.lines + 1)))
+early_answer bytes t h reading =
+    let x = early_refuted bytes t (fault.BadJob (t.lines + 1)) h reading refl in
+    record { job = tt; whole = tt; only = x.1; fault = x.0 }
+
+-- a fault that was told, and want of memory
+
+pub refused_answer : {cards : Grammar} {e : JobFault} (bytes : List ℕ) → IsRefused cards (lines_of bytes) e → IsAnswer cards bytes (Err e)
+refused_answer bytes x = record { job = tt; whole = tt; only = x.only; fault = x.refusal }
+
+pub told_answer : {cards : Grammar} {e : JobFault} (bytes : List ℕ) → IsTold cards bytes e → IsAnswer cards bytes (Err e)
+told_answer bytes x = record { job = tt; whole = tt; only = x.only; fault = x.refusal }
+
+pub no_memory_told : (cards : Grammar) (bytes : List ℕ) → IsTold cards bytes fault.NoMemory
+no_memory_told cards bytes = record { refusal = tt; ended = omega arith; only = λ n job i p w. refl }
+
+pub no_memory : (cards : Grammar) (bytes : List ℕ) → IsAnswer cards bytes (Err fault.NoMemory)
+no_memory cards bytes = told_answer bytes (no_memory_told cards bytes)
+
 -- the job was taken
 
-pub taken_job : (bytes : List ℕ) (t : Taken) (r : ReadJob) → HasRun bytes t → is_done t.reader.part ≡ true → r.job ≡ bound t.reader.job → r.end ≡ t.bytes → r.lines ≡ t.lines → IsRead t.grammar bytes r
+taken_job : (bytes : List ℕ) (t : Taken) (r : ReadJob) → HasRun bytes t → is_done t.reader.part ≡ true → r.job ≡ bound t.reader.job → r.end ≡ t.bytes → r.lines ≡ t.lines → IsRead t.grammar bytes r
 taken_job bytes t r h done job end count =
     let ls : List LineView = lines_of bytes in
     let s : State = plain t.reader in
@@ -298,11 +317,19 @@ taken_job bytes t r h done job end count =
       within = rw job (job_within s done (within_of ls s h.runs h.goes_on));
     }
 
-pub taken_only : (bytes : List ℕ) (t : Taken) → HasRun bytes t → is_done t.reader.part ≡ true → (n : ℕ) (job : JobView) → n ≤ length (lines_of bytes) → Spells t.grammar Present (take n (lines_of bytes)) job → (bound t.reader.job ≡ job) × (t.lines ≡ n)
+taken_only : (bytes : List ℕ) (t : Taken) → HasRun bytes t → is_done t.reader.part ≡ true → (n : ℕ) (job : JobView) → n ≤ length (lines_of bytes) → Spells t.grammar Present (take n (lines_of bytes)) job → (bound t.reader.job ≡ job) × (t.lines ≡ n)
 taken_only bytes t h done n job i p =
     let ls : List LineView = lines_of bytes in
     let a = alone Present ls (length ls) n (plain t.reader) job (omega arith) (rw (take-length ls) h.runs) done i p in
     (a.0, h.count ∙ a.1)
+
+pub taken_answer : (bytes : List ℕ) (t : Taken) (r : ReadJob) → HasRun bytes t → is_done t.reader.part ≡ true → r.job ≡ bound t.reader.job → r.end ≡ t.bytes → r.lines ≡ t.lines → IsAnswer t.grammar bytes (Ok r)
+taken_answer bytes t r h done job end count = record {
+  job = taken_job bytes t r h done job end count;
+  whole = end ∙ h.size;
+  only = λ n other i p w. let a = taken_only bytes t h done n other i p in (job ∙ a.0, count ∙ a.1);
+  fault = tt;
+}
 
 -- what is answered to a piece
 

@@ -1,5 +1,5 @@
 -- The job that was read, and that first lines that spell one have no other answer.
-use Rattle.std.specs.Prelude.{◌≡◌, ℕ, ◌≤◌, Result, Ok, Err, List, ◌++◌, length, take, drop}
+use Rattle.std.specs.Prelude.{◌≡◌, ℕ, ◌≤◌, Result, Ok, Err, IfOk, IfErr, List, ◌++◌, length, take, drop}
 use Rattle.session_book.specs.Meaning.{JobView}
 use Rattle.job_text.specs.Meaning.{LineView, lines_of, Present, Spells, IsWithin, IsRefusal}
 use Rattle.job_text.specs.declared.grammar.Grammar.{Grammar}
@@ -29,3 +29,10 @@ AnswersOnly g lines answer = (n : ℕ) (job : JobView) → n ≤ length lines �
 pub record IsRefused (g : Grammar) (lines : List LineView) (e : JobFault) : Type 0 where
   pub refusal : IsRefusal g lines e
   pub only : AnswersOnly g lines (Err e)
+
+-- what is answered to all bytes of an input
+pub record IsAnswer (g : Grammar) (bytes : List ℕ) (answer : Result ReadJob JobFault) : Type 0 where
+  pub job : IfOk answer (IsRead g bytes)
+  pub whole : IfOk answer (λ r. r.end ≡ length bytes)
+  pub only : AnswersOnly g (lines_of bytes) answer
+  pub fault : IfErr answer (IsRefusal g (lines_of bytes))

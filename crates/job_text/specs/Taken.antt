@@ -5,11 +5,12 @@ use Rattle.cov_base.specs.declared.constants.TheConstants.{INPUT_LIMIT}
 use Rattle.job_text.specs.Meaning.{LineView, lines_of, Present, GoesOn}
 use Rattle.job_text.specs.Lines.{span, IsClosed}
 use Rattle.job_text.specs.Steps.{State, start, plain, is_done, step, run}
-use Rattle.job_text.specs.Pieces.{IsTold}
+use Rattle.job_text.specs.Pieces.{IsTold, Feeds, used_of, used_count, is_end}
 use Rattle.job_text.specs.declared.grammar.Grammar.{Grammar}
 use Rattle.job_text.specs.declared.jobs.JobFault.{JobFault}
 use Rattle.job_text.specs.declared.jobs.JobFault.TheVariants as fault
 use Rattle.job_text.specs.declared.taken.Taken.{Taken}
+use Rattle.job_text.specs.declared.pieces.Fed.{Fed}
 use Rattle.job_text.specs.declared.pieces.Pieces.{Pieces}
 
 -- the line was taken
@@ -47,6 +48,14 @@ pub record HasTaken (bytes : List ℕ) (p : Pieces) : Type 0 where
   pub ran : HasRun front p.taken
   pub partial : has_lf p.cut.items ≡ false
   pub end : is_done p.taken.reader.part ≡ true → p.cut.items ≡ []
+
+-- what is answered to a piece that no fault has, and what was taken then
+pub record HasFed (p : Pieces) (piece : List ℕ) (q : Pieces) (f : Fed) : Type 0 where
+  pub taken : (before : List ℕ) → HasTaken before p → HasTaken (before ++ used_of piece f) q
+  pub fed : (before : List ℕ) → HasTaken before p → Feeds p.taken.grammar before piece f
+  pub grammar : q.taken.grammar ≡ p.taken.grammar
+  pub used : used_count piece f ≤ length piece
+  pub ended : is_done q.taken.reader.part ≡ is_end f
 
 abbrev pub size_of : Pieces → ℕ
 size_of p = p.taken.bytes + length p.cut.items

@@ -1,12 +1,11 @@
 //! Takes the lines of a job from pieces of bytes.
 ghost use Rattle.std.specs.Prelude.{◌≡◌, ◌+◌, ◌<◌, ◌≤◌, ◌++◌, ◌^◌, ℕ, List, [], true, false, IfOk, IfErr, length, take};
 ghost use Rattle.cov_base.specs.declared.constants.TheConstants.{INPUT_LIMIT};
-ghost use Rattle.session_book.specs.Meaning.{JobView};
-ghost use Rattle.job_text.specs.Meaning.{Present, as_line, lines_of, IsWithin, IsRefusal, Spells};
-ghost use Rattle.job_text.specs.Pieces.{IsTold, Feeds, used_of, used_count, is_end};
-ghost use Rattle.job_text.specs.Refusals.{IsRead, IsRefused, AnswersOnly};
-ghost use Rattle.job_text.specs.Steps.{is_done, step};
-ghost use Rattle.job_text.specs.Taken.{IsNext, IsFaultAt, HasRun, HasTaken, size_of};
+ghost use Rattle.job_text.specs.Meaning.{as_line, lines_of};
+ghost use Rattle.job_text.specs.Pieces.{IsTold};
+ghost use Rattle.job_text.specs.Refusals.{IsAnswer, IsRefused};
+ghost use Rattle.job_text.specs.Steps.{is_done};
+ghost use Rattle.job_text.specs.Taken.{IsNext, IsFaultAt, HasRun, HasTaken, HasFed, size_of};
 
 use crate::jobs::{JobFault, ReadJob};
 use crate::lines::first_of;
@@ -52,11 +51,7 @@ impl Pieces {
         requires taken { (before : List ℕ) × HasTaken before self.old }
         requires reading { is_done self.old.taken.reader.part ≡ false }
         requires room { size_of self.old + length piece.now ≤ INPUT_LIMIT }
-        ensures taken { (b : List ℕ) → HasTaken b self.old → IfOk result (λ f. HasTaken (b ++ used_of piece.now f) self.new) }
-        ensures fed { (b : List ℕ) → HasTaken b self.old → IfOk result (Feeds self.old.taken.grammar b piece.now) }
-        ensures grammar { IfOk result (λ _. self.new.taken.grammar ≡ self.old.taken.grammar) }
-        ensures used { IfOk result (λ f. used_count piece.now f ≤ length piece.now) }
-        ensures ended { IfOk result (λ f. is_done self.new.taken.reader.part ≡ is_end f) }
+        ensures fed { IfOk result (HasFed self.old piece.now self.new) }
         ensures fault { (b : List ℕ) → HasTaken b self.old → IfErr result (IsTold self.old.taken.grammar (b ++ piece.now)) }
     {
         let mut used = 0;
@@ -89,10 +84,7 @@ impl Pieces {
     pub(crate) fn finish(&mut self, alloc: Global) -> Result<ReadJob, JobFault>
         requires taken { (bytes : List ℕ) × HasTaken bytes self.old }
         requires room { size_of self.old ≤ INPUT_LIMIT }
-        ensures job { (b : List ℕ) → HasTaken b self.old → IfOk result (IsRead self.old.taken.grammar b) }
-        ensures whole { (b : List ℕ) → HasTaken b self.old → IfOk result (λ r. r.end ≡ length b) }
-        ensures only { (b : List ℕ) → HasTaken b self.old → AnswersOnly self.old.taken.grammar (lines_of b) result }
-        ensures fault { (b : List ℕ) → HasTaken b self.old → IfErr result (IsRefusal self.old.taken.grammar (lines_of b)) }
+        ensures { (bytes : List ℕ) → HasTaken bytes self.old → IsAnswer self.old.taken.grammar bytes result }
     {
         match self.last_line(alloc) {
             Ok(()) => self.taken.finish(alloc),

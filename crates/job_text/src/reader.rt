@@ -4,7 +4,7 @@ ghost use Rattle.cov_base.specs.declared.constants.TheConstants.{INPUT_LIMIT};
 ghost use Rattle.session_book.specs.Meaning.{JobView};
 ghost use Rattle.job_text.specs.Meaning.{Present, lines_of, IsWithin, IsRefusal, Spells};
 ghost use Rattle.job_text.specs.Pieces.{IsTold, Feeds, used_of, used_count, is_end};
-ghost use Rattle.job_text.specs.Refusals.{IsRead, AnswersOnly};
+ghost use Rattle.job_text.specs.Refusals.{IsRead, IsAnswer, AnswersOnly};
 ghost use Rattle.job_text.specs.Taken.{Finds, IsFed, WasFed, stage_of, grammar_of, told, has_ended, fed_size};
 
 use crate::grammar::Grammar;
@@ -124,10 +124,7 @@ fn finished(
     failed: Option<(Grammar, JobFault)>,
 ) -> Result<ReadJob, JobFault>
     requires { WasFed (stage_of pieces.old failed) }
-    ensures job { Finds pieces.old failed (λ g bytes. IfOk result (IsRead g bytes)) }
-    ensures whole { Finds pieces.old failed (λ _ bytes. IfOk result (λ r. r.end ≡ length bytes)) }
-    ensures only { Finds pieces.old failed (λ g bytes. AnswersOnly g (lines_of bytes) result) }
-    ensures fault { Finds pieces.old failed (λ g bytes. IfErr result (IsRefusal g (lines_of bytes))) }
+    ensures answer { Finds pieces.old failed (λ g bytes. IsAnswer g bytes result) }
     ensures same { (e : JobFault) → told (stage_of pieces.old failed) ≡ Some e → result ≡ Err e }
 {
     match failed {

@@ -210,17 +210,8 @@ impl LineReader {
         if has_task(&self.job, &name) {
             return Err(LineRefused::Bad);
         }
-        if self.job.tasks.len() >= TASK_LIMIT {
-            return Err(LineRefused::TooLarge(Limit::Tasks));
-        }
-        if private > PRIVATE_LIMIT {
-            return Err(LineRefused::TooLarge(Limit::Private));
-        }
-        if budget > BUDGET_LIMIT {
-            return Err(LineRefused::TooLarge(Limit::Budget));
-        }
-        if room > ROOM_LIMIT {
-            return Err(LineRefused::TooLarge(Limit::Room));
+        if let Some(what) = task_over(&self.job, private, budget, room) {
+            return Err(LineRefused::TooLarge(what));
         }
         let task = fresh_task(alloc, name, entry, private, budget, room);
         put_part(&mut self.part, Part::Task(task));
@@ -380,6 +371,23 @@ fn no_job(alloc: Global, grammar: Grammar) -> Draft
             sessions: NameList::new(alloc),
             tasks: NameList::new(alloc),
         },
+    }
+}
+
+/// The limit that a further task of these sizes passes.
+fn task_over(job: &Draft, private: u32, budget: u32, room: u32) -> Option<Limit>
+    ensures { result ≡ machine.task_over job.now private budget room }
+{
+    if job.tasks.len() >= TASK_LIMIT {
+        Some(Limit::Tasks)
+    } else if private > PRIVATE_LIMIT {
+        Some(Limit::Private)
+    } else if budget > BUDGET_LIMIT {
+        Some(Limit::Budget)
+    } else if room > ROOM_LIMIT {
+        Some(Limit::Room)
+    } else {
+        None
     }
 }
 

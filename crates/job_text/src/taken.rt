@@ -1,8 +1,7 @@
 //! The whole lines of a job that were taken.
-ghost use Rattle.std.specs.Prelude.{◌≡◌, ◌+◌, ◌<◌, ◌≤◌, ◌^◌, ℕ, List, IfOk, IfErr, length, take};
-ghost use Rattle.session_book.specs.Meaning.{JobView};
-ghost use Rattle.job_text.specs.Meaning.{Present, as_line, lines_of, IsWithin, IsRefusal, Spells};
-ghost use Rattle.job_text.specs.Refusals.{IsRead, AnswersOnly};
+ghost use Rattle.std.specs.Prelude.{◌+◌, ◌<◌, ◌^◌, ℕ, List, IfOk, IfErr, length};
+ghost use Rattle.job_text.specs.Meaning.{Present, as_line};
+ghost use Rattle.job_text.specs.Refusals.{IsAnswer};
 ghost use Rattle.job_text.specs.Steps.{step};
 ghost use Rattle.job_text.specs.Taken.{IsNext, IsFaultAt, HasRun};
 
@@ -51,10 +50,7 @@ impl Taken {
     pub(crate) fn finish(&mut self, alloc: Global) -> Result<ReadJob, JobFault>
         requires ran { (bytes : List ℕ) × HasRun bytes self.old }
         requires room { self.old.bytes + 1 < 2 ^ 32 }
-        ensures job { (b : List ℕ) → HasRun b self.old → IfOk result (IsRead self.old.grammar b) }
-        ensures whole { (b : List ℕ) → HasRun b self.old → IfOk result (λ r. r.end ≡ length b) }
-        ensures only { (b : List ℕ) → HasRun b self.old → AnswersOnly self.old.grammar (lines_of b) result }
-        ensures fault { (b : List ℕ) → HasRun b self.old → IfErr result (IsRefusal self.old.grammar (lines_of b)) }
+        ensures { (bytes : List ℕ) → HasRun bytes self.old → IsAnswer self.old.grammar bytes result }
     {
         if self.reader.is_done() {
             return Ok(ReadJob {

@@ -1,4 +1,4 @@
-use Rattle.std.proofs.Common.{◌≡◌, ℕ, ◌+◌, ◌-◌, List, [], ◌∷◌, ◌++◌, false, length, take, drop, suc, refl, ap, subst, sym, ◌∙◌, arith, append_assoc, length-take, length-drop, nat_eq, position, None}
+use Rattle.std.proofs.Common.{◌≡◌, ℕ, ◌+◌, ◌-◌, ◌≤◌, List, [], ◌∷◌, ◌++◌, false, length, take, drop, suc, refl, ap, subst, sym, ◌∙◌, arith, append_assoc, length-take, length-drop, nat_eq, position, None}
 use Rattle.std.proofs.lemmas.Result.{err_from_is_err_and}
 use Rattle.job_text.specs.Steps.{is_done, step}
 use Rattle.job_text.specs.Pieces.{IsTold}
@@ -8,7 +8,7 @@ use Rattle.job_text.specs.Meaning.{Present}
 use Rattle.job_text.specs.declared.pieces.Pieces.{Pieces}
 use Rattle.job_text.proofs.EndedLines.{LfNext, lf_next, lf_none, used_all}
 use Rattle.job_text.proofs.LineLemmas.{ended_line}
-use Rattle.job_text.proofs.Readings.{taken_few, taken_on, line_taken, line_told, rest_taken, is_open, is_ended}
+use Rattle.job_text.proofs.Readings.{taken_few, taken_on, line_taken, line_told, rest_taken, no_memory_told, is_open, is_ended}
 use Rattle.job_text.proofs.pieces.Pieces.feed.Goals as goal
 
 pub ended_line-requires-clause-few : goal.ended_line-requires-clause-few
@@ -41,6 +41,9 @@ told_at before piece used size p e n t reading f =
     let whole : (before ++ take used piece) ++ (line ++ 10 ∷ rest) ≡ before ++ piece = append_assoc before (take used piece) (line ++ 10 ∷ rest) ∙ ap (λ (x : List ℕ). before ++ x) (sym n.whole) in
     subst (λ (x : List ℕ). IsTold p.taken.grammar x e) whole (line_told (before ++ take used piece) line rest p e n.partial t reading (rw same at f))
 
+pub returns-in_err-ended_line-clause-fed : goal.returns-in_err-ended_line-clause-fed
+returns-in_err-ended_line-clause-fed c = let p = err_from_is_err_and c.from_residual.result c.from_residual.ensures.1 in rw p.1 tt
+
 pub returns-in_err-ended_line-clause-fault : goal.returns-in_err-ended_line-clause-fault
 returns-in_err-ended_line-clause-fault c = λ before h.
     let p = err_from_is_err_and c.from_residual.result c.from_residual.ensures.1 in
@@ -60,22 +63,21 @@ taken_at before piece used size p q n t next none =
     let whole : (before ++ take used piece) ++ (line ++ 10 ∷ []) ≡ before ++ take (used + (size + 1)) piece = append_assoc before (take used piece) (line ++ 10 ∷ []) ∙ ap (λ (x : List ℕ). before ++ x) (sym n.taken) in
     subst (λ (x : List ℕ). HasTaken x q) whole (line_taken (before ++ take used piece) line p q n.partial t (rw same at next) none)
 
-pub returns-then-is_done-clause-taken : goal.returns-then-is_done-clause-taken
-returns-then-is_done-clause-taken c = λ before h.
-    let n = lf_next c.args.piece.now c.loop-size.used c.in-Some.size c.loop-size.invariant.inside (sym c.in-Some.ensures) in
-    taken_at before c.args.piece.now c.loop-size.used c.in-Some.size c.loop-size.self c.ended_line.new.self n (c.loop-size.invariant.taken before h) c.in_ok-ended_line.ensures.next c.in_ok-ended_line.ensures.none
-
 pub returns-then-is_done-clause-fed : goal.returns-then-is_done-clause-fed
-returns-then-is_done-clause-fed c = λ before h.
+returns-then-is_done-clause-fed c =
     let n = lf_next c.args.piece.now c.loop-size.used c.in-Some.size c.loop-size.invariant.inside (sym c.in-Some.ensures) in
-    let t = taken_at before c.args.piece.now c.loop-size.used c.in-Some.size c.loop-size.self c.ended_line.new.self n (c.loop-size.invariant.taken before h) c.in_ok-ended_line.ensures.next c.in_ok-ended_line.ensures.none in
     let grammar = c.in_ok-ended_line.ensures.next.grammar ∙ c.loop-size.invariant.grammar in
-    rw (← grammar) (is_ended before c.args.piece.now (c.loop-size.used + (c.in-Some.size + 1)) c.ended_line.new.self (omega arith) (omega (arith, n.inside)) t (sym c.is_done.ensures ∙ c.if-is_done.true))
-
-pub returns-then-is_done-clause-used : goal.returns-then-is_done-clause-used
-returns-then-is_done-clause-used c =
-    let n = lf_next c.args.piece.now c.loop-size.used c.in-Some.size c.loop-size.invariant.inside (sym c.in-Some.ensures) in
-    omega (arith, n.inside)
+    let done = sym c.is_done.ensures ∙ c.if-is_done.true in
+    let inside : c.loop-size.used + (c.in-Some.size + 1) ≤ length c.args.piece.now = omega (arith, n.inside) in
+    let taken : (before : List ℕ) → HasTaken before c.args.self.now → HasTaken (before ++ take (c.loop-size.used + (c.in-Some.size + 1)) c.args.piece.now) c.ended_line.new.self =
+    λ before h. taken_at before c.args.piece.now c.loop-size.used c.in-Some.size c.loop-size.self c.ended_line.new.self n (c.loop-size.invariant.taken before h) c.in_ok-ended_line.ensures.next c.in_ok-ended_line.ensures.none in
+    record {
+      taken = taken;
+      fed = λ before h. rw (← grammar) (is_ended before c.args.piece.now (c.loop-size.used + (c.in-Some.size + 1)) c.ended_line.new.self (omega arith) inside (taken before h) done);
+      grammar = grammar;
+      used = inside;
+      ended = done;
+    }
 
 pub loop-size-preserved : goal.loop-size-preserved
 loop-size-preserved c =
@@ -95,11 +97,27 @@ rest_at before piece used p q none t reading same cut =
     let still : is_done q.taken.reader.part ≡ false = rw same reading in
     subst (λ (x : List ℕ). HasTaken x q) (used_all before piece used) (rest_taken (before ++ take used piece) (take (length piece - used) (drop used piece)) p q (lf_none piece used none) t same cut still)
 
-pub returns-clause-taken : goal.returns-clause-taken
-returns-clause-taken c = λ before h. rest_at before c.args.piece.now c.loop-size.used c.loop-size.self (record { taken = c.loop-size.self.taken; cut = c.extend_from_slice.new.self }) (sym c.in_default.ensures) (c.loop-size.invariant.taken before h) c.loop-size.invariant.reading refl c.in_ok-extend_from_slice.ensures.items
+pub returns-in_err-extend_from_slice-clause-fed : goal.returns-in_err-extend_from_slice-clause-fed
+returns-in_err-extend_from_slice-clause-fed c =
+    let p = err_from_is_err_and c.from_residual-in_err-extend_from_slice.result c.from_residual-in_err-extend_from_slice.ensures.1 in
+    rw p.1 tt
+
+pub returns-in_err-extend_from_slice-clause-fault : goal.returns-in_err-extend_from_slice-clause-fault
+returns-in_err-extend_from_slice-clause-fault c = λ before h.
+    let p = err_from_is_err_and c.from_residual-in_err-extend_from_slice.result c.from_residual-in_err-extend_from_slice.ensures.1 in
+    rw (p.1, p.2) (no_memory_told c.args.self.now.taken.grammar (before ++ c.args.piece.now))
 
 pub returns-clause-fed : goal.returns-clause-fed
-returns-clause-fed c = λ before h.
-    rw (← c.loop-size.invariant.grammar) (is_open (before ++ c.args.piece.now) (record { taken = c.loop-size.self.taken; cut = c.extend_from_slice.new.self })
-    (rest_at before c.args.piece.now c.loop-size.used c.loop-size.self (record { taken = c.loop-size.self.taken; cut = c.extend_from_slice.new.self }) (sym c.in_default.ensures) (c.loop-size.invariant.taken before h) c.loop-size.invariant.reading refl c.in_ok-extend_from_slice.ensures.items)
-    c.loop-size.invariant.reading)
+returns-clause-fed c =
+    let q : Pieces = record { taken = c.loop-size.self.taken; cut = c.extend_from_slice.new.self } in
+    let reading = c.loop-size.invariant.reading in
+    let all : length c.args.piece.now ≤ length c.args.piece.now = omega arith in
+    let taken : (before : List ℕ) → HasTaken before c.args.self.now → HasTaken (before ++ c.args.piece.now) q =
+    λ before h. rest_at before c.args.piece.now c.loop-size.used c.loop-size.self q (sym c.in_default.ensures) (c.loop-size.invariant.taken before h) reading refl c.in_ok-extend_from_slice.ensures.items in
+    record {
+      taken = taken;
+      fed = λ before h. rw (← c.loop-size.invariant.grammar) (is_open (before ++ c.args.piece.now) q (taken before h) reading);
+      grammar = c.loop-size.invariant.grammar;
+      used = all;
+      ended = reading;
+    }

@@ -7,7 +7,7 @@ use Rattle.job_text.proofs.reader.JobReader.feed.Goals as goal
 pub invariant_of-self : goal.invariant_of-self
 invariant_of-self c =
     let h = rw c.in-None.is at c.self.invariant.fed in
-    let k = c.in-Ok.ensures.taken c.self.invariant.bytes h in
+    let k = c.in-Ok.ensures.fed.taken c.self.invariant.bytes h in
     let size = ap fed_size (sym c.self.view_is ∙ ap (λ f. stage_of c.self.inside.pieces f) c.in-None.is) in
     rw c.in-None.is (record {
       bytes = c.self.invariant.bytes ++ used_of c.args.piece.now c.in-Ok.fed;
@@ -35,4 +35,4 @@ returns-in-Ok-clause-size c =
     let h = rw c.in-None.is at c.self.invariant.fed in
     let was = ap fed_size (sym c.self.view_is ∙ ap (λ f. stage_of c.self.inside.pieces f) c.in-None.is) in
     let now = ap (λ f. fed_size (stage_of c.feed.new.self f)) c.in-None.is in
-    omega (arith, fed_on c.self.invariant.bytes c.args.piece.now c.self.inside.pieces c.feed.new.self c.in-Ok.fed h (c.in-Ok.ensures.taken c.self.invariant.bytes h), was, now)
+    omega (arith, fed_on c.self.invariant.bytes c.args.piece.now c.self.inside.pieces c.feed.new.self c.in-Ok.fed h (c.in-Ok.ensures.fed.taken c.self.invariant.bytes h), was, now)
