@@ -4,7 +4,7 @@ use Rattle.cov_base.specs.declared.constants.TheConstants.{INPUT_LIMIT}
 use Rattle.cov_base.specs.Meaning.{FactSet, is_within}
 use Rattle.module_area.specs.Meaning.{place_of}
 use Rattle.module_area.specs.declared.places.Place.{Place}
-use Rattle.brk_table.specs.Meaning.{TablesView}
+use Rattle.brk_table.specs.Meaning.{TablesView, first_place, place_count}
 use Rattle.brk_table.specs.Places.{IsIn}
 use Rattle.session_book.specs.Meaning.{JobView, ResultView, session_of, task_of}
 use Rattle.phase_plan.specs.Sets.{AreWithin}
@@ -33,6 +33,12 @@ pub record HasSession (tables : TablesView) (sessions places s : ℕ) : Type 0 w
   pub some : 0 < s
   pub exists : s < sessions + 1
   pub size : places ≡ length tables.places
+
+-- there is such a session, and it has a set at each place of module m, within the place's kind
+pub record HasModule (tables : TablesView) (sessions places : ℕ) (sets : ℕ → FactSet) (s m : ℕ) : Type 0 where
+  pub session : HasSession tables sessions places s
+  pub exist : first_place tables.tables m + place_count tables.tables m ≤ length tables.places
+  pub within : AreWithin tables sets m
 
 -- for each session of the job a set at each place, within its kind at those of the session's modules
 pub record AreSetsOf (job : JobView) (tables : TablesView) (sessions places : ℕ) (sets : ℕ → ℕ → FactSet) : Type 0 where

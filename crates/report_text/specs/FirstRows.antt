@@ -1,8 +1,9 @@
 -- A part of the storage that data cards fill, and its rows.
-use Rattle.std.specs.Prelude.{◌≡◌, ℕ, ◌+◌, ◌-◌, ◌<◌, ◌≤◌, List, length, slice_index}
+use Rattle.std.specs.Prelude.{◌≡◌, ℕ, ◌+◌, ◌-◌, ◌<◌, ◌≤◌, List, length, slice_index, All}
+use Rattle.cov_base.specs.declared.limits.TheConstants.{PRIVATE_LIMIT}
 use Rattle.module_area.specs.Meaning.{DataView, first_bytes, with_card}
 use Rattle.report_text.specs.Meaning.{changed_row, lines_from}
-use Rattle.session_book.specs.Meaning.{TaskView}
+use Rattle.session_book.specs.Meaning.{TaskView, ResultView}
 
 -- the bytes from an address on, as far as there are some
 abbrev pub IsPartOf : List ℕ → List ℕ → ℕ → Type 0
@@ -11,6 +12,13 @@ IsPartOf part bytes from = (k : ℕ) → k < length part → from + k < length b
 -- the card's bytes lie in storage of this size
 abbrev pub FitsIn : ℕ → DataView → Type 0
 FitsIn size c = c.offset + length c.bytes ≤ size
+
+-- a result of this number has the bytes of the task's private storage, in which its data cards lie
+pub record HasStorage (task : TaskView) (tasks : ℕ) (results : ℕ → ResultView) (t : ℕ) : Type 0 where
+  pub exists : t < tasks
+  pub most : task.private ≤ PRIVATE_LIMIT
+  pub cards : All (FitsIn task.private) task.cards
+  pub size : length (results t).bytes ≡ task.private
 
 -- into a part of storage what the card has of it was stored
 abbrev pub StoresCard : DataView → ℕ → List ℕ → List ℕ → Type 0

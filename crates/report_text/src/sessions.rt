@@ -3,9 +3,8 @@ ghost use Rattle.std.specs.Prelude.{◌≡◌, ◌+◌, ◌-◌, ◌<◌, ◌≤
 ghost use Rattle.annotator.specs.Meaning.{annotated};
 ghost use Rattle.cov_base.specs.Meaning.{full_of};
 ghost use Rattle.module_area.specs.Meaning.{fact_count};
-ghost use Rattle.brk_table.specs.Meaning.{first_place, place_count};
 ghost use Rattle.brk_table.specs.Places.{IsIn, IsPlace};
-ghost use Rattle.report_text.specs.Conditions.{AreTablesOf, HasSession};
+ghost use Rattle.report_text.specs.Conditions.{AreTablesOf, HasModule, HasSession};
 ghost use Rattle.report_text.specs.Meaning.{lacks, location_of, last_byte_of, line_mark, marked_lines, marked_listing, run_line, executed_count, shown_count, possible_count, totals_line, session_line, module_lines};
 ghost use Rattle.report_text.specs.Sessions.{open_run, runs_from, lines_of, session_text};
 ghost use Rattle.session_book.specs.Meaning.{module_of};
@@ -182,9 +181,7 @@ fn count<R: FactSets>(tables: &Tables, sets: &R, s: SessNo, first: u32, past: u3
 
 /// The mark of line k of module m's listing.
 fn mark_at<R: FactSets>(tables: &Tables, sets: &R, s: SessNo, m: u32, k: u32) -> Mark
-    requires session { HasSession tables.now (R.sessions sets.now) (R.places sets.now) s.0 }
-    requires exist { first_place tables.now.tables m + place_count tables.now.tables m ≤ length tables.now.places }
-    requires within { AreWithin tables.now (R.set_of sets.now s.0) m }
+    requires { HasModule tables.now (R.sessions sets.now) (R.places sets.now) (R.set_of sets.now s.0) s.0 m }
     ensures { result ≡ line_mark tables.now (R.set_of sets.now s.0) m k }
 {
     match tables.line(m, k) {
@@ -204,9 +201,7 @@ fn listing_part<K: Sink, R: FactSets>(
 ) -> Result<(), Failed>
     requires lines { length lines.now ≤ INPUT_LIMIT }
     requires short { All (λ line. length line ≤ LINE_LIMIT) lines.now }
-    requires session { HasSession tables.now (R.sessions sets.now) (R.places sets.now) s.0 }
-    requires exist { first_place tables.now.tables m + place_count tables.now.tables m ≤ length tables.now.places }
-    requires within { AreWithin tables.now (R.set_of sets.now s.0) m }
+    requires sets { HasModule tables.now (R.sessions sets.now) (R.places sets.now) (R.set_of sets.now s.0) s.0 m }
     ensures { Prints K.Sink sink.old sink.new result (marked_lines tables.now (R.set_of sets.now s.0) m lines.now) }
 {
     for i in 0..lines.len() {
@@ -295,9 +290,7 @@ fn listing_text<K: Sink, R: FactSets>(
 ) -> Result<(), Failed>
     requires module { m < length job.now.images }
     requires tables { AreTablesOf job.now tables.now }
-    requires session { HasSession tables.now (R.sessions sets.now) (R.places sets.now) s.0 }
-    requires exist { first_place tables.now.tables m + place_count tables.now.tables m ≤ length tables.now.places }
-    requires within { AreWithin tables.now (R.set_of sets.now s.0) m }
+    requires sets { HasModule tables.now (R.sessions sets.now) (R.places sets.now) (R.set_of sets.now s.0) s.0 m }
     ensures { Prints K.Sink sink.old sink.new result (marked_listing job.now tables.now (R.set_of sets.now s.0) m) }
 {
     match &job.listings[m as usize] {

@@ -1,9 +1,8 @@
 //! Private storage, by blocks and in them row by row.
 ghost use Rattle.std.specs.Prelude.{◌≡◌, ◌+◌, ◌*◌, ◌<◌, ◌≤◌, ◌++◌, ◌∷◌, [], length, take, replicate, not, bytes_eq, codes, All};
 ghost use Rattle.annotator.specs.Meaning.{hex_digits};
-ghost use Rattle.cov_base.specs.declared.limits.TheConstants.{PRIVATE_LIMIT};
 ghost use Rattle.module_area.specs.Meaning.{first_bytes};
-ghost use Rattle.report_text.specs.FirstRows.{IsPartOf, FitsIn, StoresCard, rows_from};
+ghost use Rattle.report_text.specs.FirstRows.{IsPartOf, FitsIn, HasStorage, StoresCard, rows_from};
 ghost use Rattle.report_text.specs.Meaning.{row_lines, stored_lines, hex_bytes, row_count};
 ghost use Rattle.report_text.specs.Writes.{Prints};
 
@@ -86,10 +85,7 @@ fn block_part<K: Sink, R: Results>(
     from: u32,
     past: u32,
 ) -> Result<(), Failed>
-    requires task { t.0 < R.tasks results.now }
-    requires most { task.now.private ≤ PRIVATE_LIMIT }
-    requires cards { All (FitsIn task.now.private) task.now.cards }
-    requires size { length (R.result_of results.now t.0).bytes ≡ task.now.private }
+    requires storage { HasStorage task.now (R.tasks results.now) (R.result_of results.now) t.0 }
     requires from { from ≤ past }
     requires past { past ≤ row_count 16 (R.result_of results.now t.0).bytes }
     requires block { past ≤ from + 4096 }
@@ -112,10 +108,7 @@ pub fn storage_part<K: Sink, R: Results>(
     results: &R,
     t: TaskNo,
 ) -> Result<(), Failed>
-    requires task { t.0 < R.tasks results.now }
-    requires most { task.now.private ≤ PRIVATE_LIMIT }
-    requires cards { All (FitsIn task.now.private) task.now.cards }
-    requires size { length (R.result_of results.now t.0).bytes ≡ task.now.private }
+    requires { HasStorage task.now (R.tasks results.now) (R.result_of results.now) t.0 }
     ensures { Prints K.Sink sink.old sink.new result (stored_lines task.now (R.result_of results.now t.0)) }
 {
     let count = (task.private + 15) / 16;

@@ -6,6 +6,10 @@ use Rattle.report_text.proofs.PlaceFacts.{executed_at, facts_at, possible_at}
 use Rattle.report_text.proofs.WriteLemmas.{progress_start, progress_more, progress_exit, progress_last}
 use Rattle.report_text.proofs.sessions.module_text.Goals as goal
 
+pub listing_text-requires-clause-sets : goal.listing_text-requires-clause-sets
+listing_text-requires-clause-sets g c =
+    record { session = c.requires.session; exist = rw c.range-first.ensures.past at c.range-first.ensures.exist; within = c.requires.within }
+
 pub returns-in_err-put : goal.returns-in_err-put
 unfolding module_lines
 returns-in_err-put g c =

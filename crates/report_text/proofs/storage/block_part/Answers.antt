@@ -15,8 +15,8 @@ returns-in_err-storage_row g c =
     let now = (g.R.Results.result_of c.args.results.now c.args.t.0).bytes in
     let lines = changed_row (first_bytes task.private task.cards) now in
     let n = c.loop-n.n in
-    let exists : 16 * n < task.private = omega (arith, c.requires.size) in
-    let row = part_row_lines c.put_cards.new.block now c.row.result.now task.private task.cards c.args.from n c.requires.cards (omega arith) (search rules) c.put_cards.ensures c.requires.size exists c.row.ensures in
+    let exists : 16 * n < task.private = omega (arith, c.requires.storage.size) in
+    let row = part_row_lines c.put_cards.new.block now c.row.result.now task.private task.cards c.args.from n c.requires.storage.cards (omega arith) (search rules) c.put_cards.ensures c.requires.storage.size exists c.row.ensures in
     progress_exit _ c.from_residual.ensures.0 (rw row at c.in_err-storage_row.ensures) (progress_at (lines_from-next lines n n c.args.past (omega arith)) c.loop-n.invariant)
 
 pub loop-n-preserved : goal.loop-n-preserved
@@ -25,6 +25,6 @@ loop-n-preserved g c =
     let now = (g.R.Results.result_of c.args.results.now c.args.t.0).bytes in
     let lines = changed_row (first_bytes task.private task.cards) now in
     let n = c.loop-n.n in
-    let exists : 16 * n < task.private = omega (arith, c.requires.size) in
-    let row = part_row_lines c.put_cards.new.block now c.row.result.now task.private task.cards c.args.from n c.requires.cards (omega arith) (search rules) c.put_cards.ensures c.requires.size exists c.row.ensures in
+    let exists : 16 * n < task.private = omega (arith, c.requires.storage.size) in
+    let row = part_row_lines c.put_cards.new.block now c.row.result.now task.private task.cards c.args.from n c.requires.storage.cards (omega arith) (search rules) c.put_cards.ensures c.requires.storage.size exists c.row.ensures in
     progress_more (rw row at c.in_ok-storage_row.ensures) (progress_at (lines_from-next lines n n c.args.past (omega arith)) c.loop-n.invariant)
