@@ -1,8 +1,9 @@
 //! Adds to a job what its cards say.
-ghost use Rattle.std.specs.Prelude.{◌≡◌, ◌+◌, ◌≤◌, ◌<◌, ◌&&◌, ◌++◌, ◌∷◌, [], Option, Some, None, IfOk, IfErr, IfSome, false, nat_eq, nat_lt, length, option_map};
+ghost use Rattle.std.specs.Prelude.{◌≡◌, ◌+◌, ◌≤◌, ◌<◌, ◌&&◌, ◌++◌, ◌∷◌, [], Option, Some, None, IfOk, IfErr, IfSome, OnOk, OnErr, false, nat_eq, nat_lt, length, option_map};
 ghost use Rattle.std.specs.List.{list_any, list_all};
 ghost use Rattle.std.specs.Str.{bytes_eq};
 ghost use Rattle.cov_base.specs.declared.limits.TheConstants.{MODULE_LIMIT, PHASE_LIMIT};
+ghost use Rattle.names.specs.Lists.{added};
 ghost use Rattle.job_text.specs.Meaning.{Present};
 ghost use Rattle.job_text.specs.Meaning as adding;
 ghost use Rattle.job_text.specs.Steps as machine;
@@ -16,6 +17,7 @@ use crate::refused::LineRefused;
 use cov_base::{Name, NoMemory};
 use listing_reader::ListingLines;
 use module_area::Image;
+use names::NameList;
 use session_book::{Service, TaskCard};
 use std::alloc::Global;
 
@@ -149,6 +151,27 @@ fn indices(
     Ok(Some(used))
 }
 
+/// Adds an item behind the others, and its name behind theirs; where memory is wanting they stay as they are.
+fn put_named<T: Drop>(
+    names: &mut NameList,
+    items: &mut Vec<T>,
+    name: Name,
+    item: T,
+) -> Result<(), NoMemory>
+    ensures names { OnOk result (names.new ≡ added names.old name) }
+    ensures items { OnOk result (items.new.items ≡ items.old.items ++ item ∷ []) }
+    ensures names_kept { OnErr result (names.new ≡ names.old) }
+    ensures items_kept { OnErr result (items.new.items ≡ items.old.items) }
+{
+    let count = items.len();
+    items.push(item)?;
+    if names.add(name).is_err() {
+        items.truncate(count);
+        return Err(NoMemory);
+    }
+    Ok(())
+}
+
 fn put_module(
     job: &mut Draft,
     image: Image,
@@ -162,16 +185,9 @@ fn put_module(
     ensures room { machine.HasRoom kind.Modules job.new }
 {
     let name = image.name;
-    let count = job.images.len();
     job.listings.push(listing)?;
-    job.images.push(image)?;
-    match job.names.modules.add(name) {
-        Ok(_) => Ok(()),
-        Err(_) => {
-            job.images.truncate(count);
-            Err(LineRefused::NoMemory)
-        }
-    }
+    put_named(&mut job.names.modules, &mut job.images, name, image)?;
+    Ok(())
 }
 
 fn put_task(job: &mut Draft, mut task: TaskCard) -> Result<(), LineRefused>
@@ -183,15 +199,8 @@ fn put_task(job: &mut Draft, mut task: TaskCard) -> Result<(), LineRefused>
 {
     task.phase = this_phase(job);
     let name = task.name;
-    let count = job.tasks.len();
-    job.tasks.push(task)?;
-    match job.names.tasks.add(name) {
-        Ok(_) => Ok(()),
-        Err(_) => {
-            job.tasks.truncate(count);
-            Err(LineRefused::NoMemory)
-        }
-    }
+    put_named(&mut job.names.tasks, &mut job.tasks, name, task)?;
+    Ok(())
 }
 
 fn are_below(services: &[Service], number: u8) -> bool
@@ -236,15 +245,8 @@ pub(crate) fn put_phase(job: &mut Draft, name: Name) -> Result<(), NoMemory>
     ensures value { IfOk result (λ _. job.new ≡ record job.old { phases = job.old.phases ++ name ∷ [] }) }
     ensures room { machine.HasRoom kind.Modules job.new }
 {
-    let count = job.phases.len();
-    job.phases.push(name)?;
-    match job.names.phases.add(name) {
-        Ok(_) => Ok(()),
-        Err(shortage) => {
-            job.phases.truncate(count);
-            Err(shortage)
-        }
-    }
+    put_named(&mut job.names.phases, &mut job.phases, name, name)?;
+    Ok(())
 }
 
 /// Whether a session may have this controller.
@@ -265,15 +267,8 @@ fn put_session(job: &mut Draft, session: SessionDraft) -> Result<(), LineRefused
     ensures room { machine.HasRoom kind.Modules job.new }
 {
     let name = session.name;
-    let count = job.sessions.len();
-    job.sessions.push(session)?;
-    match job.names.sessions.add(name) {
-        Ok(_) => Ok(()),
-        Err(_) => {
-            job.sessions.truncate(count);
-            Err(LineRefused::NoMemory)
-        }
-    }
+    put_named(&mut job.names.sessions, &mut job.sessions, name, session)?;
+    Ok(())
 }
 
 /// Adds a session; bad where a session has the name, it may not have the controller, or a module isn't free.

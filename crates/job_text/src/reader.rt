@@ -113,7 +113,9 @@ impl JobReader {
         ensures same { (e : JobFault) → told self ≡ Some e → result ≡ Err e }
     {
         let JobReader { mut pieces, failed } = self;
-        finished(alloc, &mut pieces, failed)
+        let read = finished(alloc, &mut pieces, failed);
+        drop(pieces);
+        read
     }
 }
 

@@ -1,4 +1,4 @@
-use Rattle.std.proofs.Common.{[], refl, arith}
+use Rattle.std.proofs.Common.{[], refl}
 use Rattle.job_text.proofs.WordLemmas.{card_of_none, card_of_one, card_of_two, card_of_more}
 use Rattle.job_text.proofs.cards.card_of.Goals as goal
 

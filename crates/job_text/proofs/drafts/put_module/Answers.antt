@@ -6,8 +6,8 @@ use Rattle.job_text.specs.DraftInside.{names_in, draft_view}
 use Rattle.job_text.proofs.DraftNames.{with_module_named}
 use Rattle.job_text.proofs.drafts.put_module.Goals as goal
 
-pub invariant_of-job-in-Ok : goal.invariant_of-job-in-Ok
-invariant_of-job-in-Ok c =
+pub invariant_of-job-2 : goal.invariant_of-job-2
+invariant_of-job-2 c =
     let new : has_module (draft_view c.job.inside) c.args.image.name ≡ false = subst (λ (j : DraftView). has_module j c.args.image.name ≡ false) (sym c.job.view_is) c.requires.new in
-    let items : c.push-2.new.self.items ≡ c.job.inside.images.items ++ c.args.image ∷ [] = c.in_ok-push-2.ensures.items in
-    with_module_named c.job.inside c.job.invariant c.args.image new c.add.new.self (c.in-Ok.ensures.names ∙ ap (λ (i : ImageView). added c.job.inside.names.modules i.name) c.image.view_is) ∙ sym (ap (λ (is : List ImageView). names_in (record (draft_view c.job.inside) { images = is })) items)
+    let items : c.put_named.new.items.items ≡ c.job.inside.images.items ++ c.args.image ∷ [] = c.in_ok-put_named.ensures.items in
+    with_module_named c.job.inside c.job.invariant c.args.image new c.put_named.new.names (c.in_ok-put_named.ensures.names ∙ ap (λ (i : ImageView). added c.job.inside.names.modules i.name) c.image.view_is) ∙ sym (ap (λ (is : List ImageView). names_in (record (draft_view c.job.inside) { images = is })) items)

@@ -5,8 +5,8 @@ use Rattle.job_text.specs.DraftInside.{names_in, draft_view}
 use Rattle.job_text.proofs.DraftNames.{with_phase_named}
 use Rattle.job_text.proofs.drafts.put_phase.Goals as goal
 
-pub invariant_of-job-in-Ok : goal.invariant_of-job-in-Ok
-invariant_of-job-in-Ok c =
+pub invariant_of-job-2 : goal.invariant_of-job-2
+invariant_of-job-2 c =
     let new : has c.job.inside.phases.items c.args.name ≡ false = subst (λ (j : DraftView). has j.phases c.args.name ≡ false) (sym c.job.view_is) c.requires.new in
-    let items : c.push.new.self.items ≡ c.job.inside.phases.items ++ c.args.name ∷ [] = c.in_ok-push.ensures.items in
-    with_phase_named c.job.inside c.job.invariant c.args.name new c.add.new.self c.in-Ok.ensures.names ∙ sym (ap (λ (ps : List (List ℕ)). names_in (record (draft_view c.job.inside) { phases = ps })) items)
+    let items : c.put_named.new.items.items ≡ c.job.inside.phases.items ++ c.args.name ∷ [] = c.in_ok-put_named.ensures.items in
+    with_phase_named c.job.inside c.job.invariant c.args.name new c.put_named.new.names c.in_ok-put_named.ensures.names ∙ sym (ap (λ (ps : List (List ℕ)). names_in (record (draft_view c.job.inside) { phases = ps })) items)

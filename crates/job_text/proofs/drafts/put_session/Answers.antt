@@ -7,8 +7,8 @@ use Rattle.job_text.specs.DraftInside.{names_in, draft_view}
 use Rattle.job_text.proofs.DraftNames.{with_session_named}
 use Rattle.job_text.proofs.drafts.put_session.Goals as goal
 
-pub invariant_of-job-in-Ok : goal.invariant_of-job-in-Ok
-invariant_of-job-in-Ok c =
+pub invariant_of-job-2 : goal.invariant_of-job-2
+invariant_of-job-2 c =
     let new : list_any (λ s. bytes_eq s.name c.args.session.name) (draft_view c.job.inside).sessions ≡ false = subst (λ (j : DraftView). list_any (λ s. bytes_eq s.name c.args.session.name) j.sessions ≡ false) (sym c.job.view_is) c.requires.new in
-    let items : c.push.new.self.items ≡ c.job.inside.sessions.items ++ c.args.session ∷ [] = c.in_ok-push.ensures.items in
-    with_session_named c.job.inside c.job.invariant c.args.session new c.add.new.self (c.in-Ok.ensures.names ∙ ap (λ (s : SessionDraft). added c.job.inside.names.sessions s.name) c.session.view_is) ∙ sym (ap (λ (ss : List SessionDraft). names_in (record (draft_view c.job.inside) { sessions = ss })) items)
+    let items : c.put_named.new.items.items ≡ c.job.inside.sessions.items ++ c.args.session ∷ [] = c.in_ok-put_named.ensures.items in
+    with_session_named c.job.inside c.job.invariant c.args.session new c.put_named.new.names (c.in_ok-put_named.ensures.names ∙ ap (λ (s : SessionDraft). added c.job.inside.names.sessions s.name) c.session.view_is) ∙ sym (ap (λ (ss : List SessionDraft). names_in (record (draft_view c.job.inside) { sessions = ss })) items)
