@@ -1,5 +1,5 @@
 -- The lines of a listing in one buffer: the bytes of all, one line behind the other, and where each begins.
-use Rattle.std.specs.Prelude.{ℕ, ◌+◌, ◌*◌, ◌/◌, ◌%◌, ◌<◌, ◌≤◌, nat_lt, if◌then◌else◌, List, length, get_or, map, slice_range}
+use Rattle.std.specs.Prelude.{◌≡◌, ℕ, ◌+◌, ◌*◌, ◌/◌, ◌%◌, ◌<◌, ◌≤◌, nat_lt, if◌then◌else◌, List, length, get_or, map, slice_range}
 use Rattle.std.specs.List.{range_with_len}
 use Rattle.cov_base.specs.declared.limits.TheConstants.{LINE_LIMIT}
 
@@ -14,6 +14,10 @@ buffered_line bytes starts begins i = slice_range bytes (begin_of bytes starts b
 
 unfoldable pub buffered_lines : List ℕ → List ℕ → List ℕ → List (List ℕ)
 buffered_lines bytes starts begins = map (buffered_line bytes starts begins) (range_with_len 0 (length begins))
+
+-- with these starts of blocks the lines are as with those
+abbrev pub KeepsLines : List ℕ → List ℕ → List ℕ → List ℕ → Type 0
+KeepsLines bytes begins old new = buffered_lines bytes new begins ≡ buffered_lines bytes old begins
 
 -- the lines rise in the bytes, and each block that is open has its start
 pub record IsBuffer (bytes starts begins : List ℕ) : Type 0 where

@@ -1,7 +1,7 @@
 //! The lines of a listing.
 ghost use Rattle.std.specs.Prelude.{◌≡◌, ◌+◌, ◌-◌, ◌/◌, ◌<◌, ◌≤◌, [], ◌∷◌, ◌++◌, length, get_or, slice_index_or, IfErr, IfOk, OnErr, OnOk};
 ghost use Rattle.cov_base.specs.declared.limits.TheConstants.{LINE_LIMIT};
-ghost use Rattle.listing_reader.specs.Buffer.{begin_of, IsBuffer, buffered_lines};
+ghost use Rattle.listing_reader.specs.Buffer.{begin_of, IsBuffer, KeepsLines};
 
 use cov_base::NoMemory;
 use std::alloc::Global;
@@ -49,7 +49,7 @@ fn begin_of(bytes: &[u8], starts: &[usize], begins: &[u16], i: usize) -> usize
 fn start_of_next(bytes: &[u8], starts: &mut Vec<usize>, begins: &[u16]) -> Result<usize, NoMemory>
     requires { IsBuffer bytes.now starts.old.items begins.now }
     ensures buffer { IsBuffer bytes.now starts.new.items begins.now }
-    ensures same { buffered_lines bytes.now starts.new.items begins.now ≡ buffered_lines bytes.now starts.old.items begins.now }
+    ensures same { KeepsLines bytes.now begins.now starts.old.items starts.new.items }
     ensures there { IfOk result (λ _. length begins.now / 256 < length starts.new.items) }
     ensures start { IfOk result (λ s. s ≡ get_or starts.new.items (length begins.now / 256) 0) }
 {
