@@ -1,7 +1,8 @@
 -- Packed lines: one that is read, a block that is opened, and one that is added.
-use Rattle.std.proofs.Common.{◌≡◌, ℕ, ◌+◌, ◌-◌, ◌/◌, ◌<◌, ◌≤◌, Bool, true, false, nat_eq, nat_lt, List, [], ◌∷◌, ◌++◌, length, get_or, map, refl, sym, ap, ◌∙◌, length-append, arith}
+use Rattle.std.proofs.Common.{◌≡◌, ℕ, ◌+◌, ◌-◌, ◌/◌, ◌<◌, ◌≤◌, Bool, true, false, nat_eq, nat_lt, List, [], ◌∷◌, ◌++◌, length, get_or, map, refl, sym, ap, ◌∙◌, subst, length-append, inl, inr, arith}
 use Rattle.std.specs.List.{range_with_len}
 use Rattle.std.proofs.Math.Seq.{get_or-append_seam}
+use Rattle.std.proofs.lemmas.Bool.{cases_lt}
 use Rattle.std.proofs.lemmas.Bool.Decides.{nat_tests}
 use Rattle.std.proofs.lemmas.List.{get_or_append_left, append-nil}
 use Rattle.std.proofs.lemmas.List.FromFn.{length-map-range_with_len, get_or-map-range_with_len, map-range_with_len_more, fill_by_all}
@@ -78,6 +79,27 @@ module _ (codes more : List Line) (firsts ordinals : List ℕ) (ordinal : ℕ) (
   before : (i : ℕ) → i < length ordinals → get_or (ordinals ++ ordinal ∷ []) i 0 ≡ get_or ordinals i 0
   before i lt = get_or_append_left ordinals (ordinal ∷ []) 0 i lt
 
+  pub added_packed : IsPacked (codes ++ more) firsts (ordinals ++ ordinal ∷ [])
+  added_packed =
+      let wide : length (codes ++ more) ≡ length codes + length more = length-append codes more in
+      record {
+        started = λ i lt. elim (cases_lt i (length ordinals)) [
+          | inl old ↦ p.started i old
+          | inr new ↦ (let last : i ≡ length ordinals = omega (arith, size, lt, new) in rw last is)
+        ];
+        few = omega (arith, size, p.few);
+        low = λ lt. (let same : (length ordinals + 1) / 255 ≡ length ordinals / 255 = omega (arith, size, p.few, lt) in let block : get_or firsts (length (ordinals ++ ordinal ∷ []) / 255) 0 ≡ get_or firsts (length ordinals / 255) 0 = rw (size, same) refl in omega (arith, block, wide, p.low is));
+        near = λ lt. (let same : (length ordinals + 1) / 255 ≡ length ordinals / 255 = omega (arith, size, p.few, lt) in let block : get_or firsts (length (ordinals ++ ordinal ∷ []) / 255) 0 ≡ get_or firsts (length ordinals / 255) 0 = rw (size, same) refl in omega (arith, size, block, wide, one, p.near is));
+        within = λ i lt some. elim (cases_lt i (length ordinals)) [
+          | inl old ↦ omega (arith, wide, before i old, some, p.within i old (omega (arith, before i old, some)))
+          | inr new ↦
+              let last : i ≡ length ordinals = omega (arith, size, lt, new) in
+              let there : get_or (ordinals ++ ordinal ∷ []) i 0 ≡ ordinal = rw last (get_or-append_seam ordinals ordinal [] 0) in
+              let block : get_or firsts (i / 255) 0 ≡ get_or firsts (length ordinals / 255) 0 = ap (λ k. get_or firsts (k / 255) 0) last in
+              omega (arith, there, block, wide, some, number (omega (arith, there, some)))
+        ];
+      }
+
   pub added_lines : (line : Line) → line_in (codes ++ more) firsts (ordinals ++ ordinal ∷ []) (length ordinals) ≡ line → lines_in (codes ++ more) firsts (ordinals ++ ordinal ∷ []) ≡ lines_in codes firsts ordinals ++ line ∷ []
   unfolding lines_in
   added_lines line says =
@@ -89,6 +111,9 @@ module _ (codes more : List Line) (firsts ordinals : List ℕ) (ordinal : ℕ) (
 
 -- a further text line
 module _ (codes : List Line) (firsts ordinals : List ℕ) (p : IsPacked codes firsts ordinals) (is : length ordinals / 255 < length firsts) where
+  pub text_packed : IsPacked codes firsts (ordinals ++ 0 ∷ [])
+  text_packed = subst (λ x. IsPacked x firsts (ordinals ++ 0 ∷ [])) (append-nil codes) (added_packed codes [] firsts ordinals 0 p is (omega arith) (λ some. absurd (omega arith)))
+
   pub text_added_lines : lines_in codes firsts (ordinals ++ 0 ∷ []) ≡ lines_in codes firsts ordinals ++ Text ∷ []
   text_added_lines =
       let more = added_lines codes [] firsts ordinals 0 p is (omega arith) (λ some. absurd (omega arith)) Text (text_there (codes ++ []) firsts (ordinals ++ 0 ∷ []) (length ordinals) (get_or-append_seam ordinals 0 [] 0)) in
@@ -96,6 +121,9 @@ module _ (codes : List Line) (firsts ordinals : List ℕ) (p : IsPacked codes fi
 
 -- a further instruction line
 module _ (codes : List Line) (firsts ordinals : List ℕ) (code : Line) (ordinal : ℕ) (p : IsPacked codes firsts ordinals) (is : length ordinals / 255 < length firsts) (at : ordinal ≡ length codes - get_or firsts (length ordinals / 255) 0 + 1) where
+  pub code_packed : IsPacked (codes ++ code ∷ []) firsts (ordinals ++ ordinal ∷ [])
+  code_packed = added_packed codes (code ∷ []) firsts ordinals ordinal p is (omega arith) (λ some. omega (arith, p.low is))
+
   pub code_added_lines : lines_in (codes ++ code ∷ []) firsts (ordinals ++ ordinal ∷ []) ≡ lines_in codes firsts ordinals ++ code ∷ []
   code_added_lines =
       let there : get_or (ordinals ++ ordinal ∷ []) (length ordinals) 0 ≡ ordinal = get_or-append_seam ordinals ordinal [] 0 in
