@@ -3,7 +3,6 @@ use Rattle.std.proofs.Common.{◌≡◌, ℕ, ◌+◌, ◌-◌, ◌<◌, ◌≤�
 use Rattle.std.proofs.Math.Seq.{drop-append_seam}
 use Rattle.std.specs.Io.KnownBytes.{Consumes}
 use Rattle.cov_outside.proofs.Laws.{consumes-trans}
-use Rattle.session_book.specs.Meaning.{JobView}
 use Rattle.job_text.specs.Meaning.{lines_of, IsBadAt, IsRefusal}
 use Rattle.job_text.specs.Pieces.{IsEnded}
 use Rattle.job_text.specs.declared.grammar.Grammar.{Grammar}

@@ -1,8 +1,8 @@
 -- What a whole input's size says of its lines.
-use Rattle.std.proofs.Common.{◌≡◌, ◌≤◌, ℕ, ◌+◌, ◌-◌, Bool, true, false, Option, Some, None, Err, List, length, length-append, length-drop, take, drop, get_or, refl, sym, ap, ◌∙◌, arith, All}
+use Rattle.std.proofs.Common.{◌≡◌, ◌≤◌, ℕ, ◌+◌, ◌-◌, true, false, Option, Some, None, Err, List, length, length-append, length-drop, take, drop, get_or, refl, sym, ap, ◌∙◌, arith, All}
 use Rattle.std.proofs.lemmas.List.{length-take-le, take_all, take_at, drop_at}
 use Rattle.session_book.specs.Meaning.{JobView}
-use Rattle.job_text.specs.Meaning.{Present, LineView, lines_of, IsBadAt, IsRefusal, IsWithin, Spells}
+use Rattle.job_text.specs.Meaning.{Present, LineView, lines_of, IsBadAt, IsRefusal, Spells}
 use Rattle.job_text.specs.declared.grammar.Grammar.{Grammar}
 use Rattle.job_text.specs.Refusals.{IsRead, AnswersOnly}
 use Rattle.job_text.specs.declared.jobs.JobFault.{JobFault}

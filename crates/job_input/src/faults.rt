@@ -35,14 +35,3 @@ impl From<ReadFault> for InputFault {
         InputFault::Source(fault)
     }
 }
-
-impl From<JobFault> for InputFault {
-    ghost use Rattle.std.specs.Prelude.{◌≡◌};
-    ghost use Rattle.job_input.specs.declared.faults.InputFault.TheVariants.{Job};
-
-    ghost from_gives = { λ fault e. e ≡ Job fault };
-
-    fn from(fault: JobFault) -> Self {
-        InputFault::Job(fault)
-    }
-}

@@ -39,5 +39,5 @@ pub fn job_of_source<S: Source>(
 {
     let mut incoming = Incoming::new(alloc, form)?;
     incoming.fill(alloc, source)?;
-    Ok(incoming.finish(alloc)?)
+    incoming.finish(alloc).map_err(InputFault::Job)
 }

@@ -1,5 +1,6 @@
 //! The words of the command line.
 ghost use Rattle.std.specs.Prelude.{◌≡◌, map, string_bytes};
+ghost use Rattle.std.specs.Str.{bytes_eq};
 ghost use Rattle.cov_base.specs.Meaning.{name_at};
 ghost use Rattle.job_input.specs.Meaning.{number_word, plain_only, command_alone, command_named, command_numbered, command_in, command_of};
 ghost use Rattle.job_input.specs.Words.{HasFewTasks};
@@ -42,6 +43,13 @@ pub enum Command {
     Unknown,
 }
 
+/// Whether the word is this text.
+fn is(word: &str, text: &str) -> bool
+    ensures { result ≡ bytes_eq word.now text.now }
+{
+    word == text
+}
+
 /// The command, where `services` doesn't stand before its words.
 fn plain_only(grammar: Grammar, command: Command) -> Command
     ensures { result ≡ plain_only grammar command }
@@ -56,25 +64,31 @@ fn plain_only(grammar: Grammar, command: Command) -> Command
 fn command_alone(grammar: Grammar, word: &str) -> Command
     ensures { result ≡ command_alone grammar word.now }
 {
-    if word == "run" {
-        Command::Run(grammar)
-    } else if word == "table" {
-        Command::Table(grammar)
-    } else if word == "count" {
-        Command::Count(grammar)
-    } else if word == "ends" {
-        Command::Ends(grammar)
-    } else if word == "replay" {
-        plain_only(grammar, Command::Replay)
-    } else if word == "combine" {
-        plain_only(grammar, Command::Combine)
-    } else if word == "exits" {
-        plain_only(grammar, Command::Exits)
-    } else if word == "early" {
-        plain_only(grammar, Command::Early)
-    } else {
-        Command::Unknown
+    if is(word, "run") {
+        return Command::Run(grammar);
     }
+    if is(word, "table") {
+        return Command::Table(grammar);
+    }
+    if is(word, "count") {
+        return Command::Count(grammar);
+    }
+    if is(word, "ends") {
+        return Command::Ends(grammar);
+    }
+    if is(word, "replay") {
+        return plain_only(grammar, Command::Replay);
+    }
+    if is(word, "combine") {
+        return plain_only(grammar, Command::Combine);
+    }
+    if is(word, "exits") {
+        return plain_only(grammar, Command::Exits);
+    }
+    if is(word, "early") {
+        return plain_only(grammar, Command::Early);
+    }
+    Command::Unknown
 }
 
 /// The command of a word and a session's name.
@@ -84,17 +98,19 @@ fn command_named(grammar: Grammar, word: &str, name: &str) -> Command
     let Some(name) = Name::read(name.as_bytes()) else {
         return Command::Unknown;
     };
-    if word == "marks" {
-        Command::Marks { name, grammar }
-    } else if word == "show" {
-        Command::Show { name, grammar }
-    } else if word == "prove" {
-        plain_only(grammar, Command::Prove(name))
-    } else if word == "verify" {
-        plain_only(grammar, Command::Verify(name))
-    } else {
-        Command::Unknown
+    if is(word, "marks") {
+        return Command::Marks { name, grammar };
     }
+    if is(word, "show") {
+        return Command::Show { name, grammar };
+    }
+    if is(word, "prove") {
+        return plain_only(grammar, Command::Prove(name));
+    }
+    if is(word, "verify") {
+        return plain_only(grammar, Command::Verify(name));
+    }
+    Command::Unknown
 }
 
 /// The number that the word is the decimal of, below 2^32 and without a leading zero.
