@@ -8,7 +8,7 @@ use Rattle.std.proofs.lemmas.Option.{cond_some}
 use Rattle.cov_base.specs.Meaning.{words, name_at}
 use Rattle.std.specs.Prelude.{codes}
 use Rattle.std.specs.Str.{bytes_eq}
-use Rattle.job_text.specs.Meaning.{CardView, End, names_at, names_on, put_name, as_session, as_controlled, controlled_card, session_card, short_card, pair_card, module_card, task_card, long_card, card_of}
+use Rattle.job_text.specs.Meaning.{End, names_at, names_on, put_name, as_session, as_controlled, controlled_card, session_card, short_card, pair_card, module_card, task_card, long_card, card_of}
 
 abbrev pub end_of : List ℕ → ℕ
 end_of s = position_or_len (λ b. nat_eq b 32) s

@@ -1,8 +1,8 @@
-use Rattle.std.proofs.Common.{◌≡◌, ℕ, Result, Ok, Err, Some, IfOk, IfErr, List, [], ◌++◌, length}
+use Rattle.std.proofs.Common.{◌≡◌, ℕ, Result, Ok, Err, Some, IfOk, IfErr, List, [], length}
 use Rattle.job_text.specs.Meaning.{lines_of, IsRefusal}
 use Rattle.job_text.specs.Pieces.{Feeds, used_of}
 use Rattle.job_text.specs.Refusals.{IsRead, AnswersOnly}
-use Rattle.job_text.specs.Taken.{Stage, IsFed, grammar_of, told}
+use Rattle.job_text.specs.Taken.{Stage, IsFed, told}
 use Rattle.job_text.specs.declared.grammar.Grammar.{Grammar}
 use Rattle.job_text.specs.declared.jobs.JobFault.{JobFault}
 use Rattle.job_text.specs.declared.jobs.ReadJob.{ReadJob}

@@ -1,4 +1,4 @@
-use Rattle.std.proofs.Common.{◌≡◌, ℕ, ◌+◌, ◌-◌, ◌≤◌, List, [], ◌∷◌, ◌++◌, false, length, take, drop, suc, refl, ap, subst, sym, ◌∙◌, arith, append_assoc, length-take, length-drop, nat_eq, position, None}
+use Rattle.std.proofs.Common.{◌≡◌, ℕ, ◌+◌, ◌-◌, ◌≤◌, List, [], ◌∷◌, ◌++◌, false, length, take, drop, suc, refl, ap, subst, sym, ◌∙◌, arith, append_assoc, append-nil, length-take, length-drop, nat_eq, position, None}
 use Rattle.std.proofs.lemmas.Result.{err_from_is_err_and}
 use Rattle.job_text.specs.Steps.{is_done, step}
 use Rattle.job_text.specs.Pieces.{IsTold}
@@ -10,6 +10,14 @@ use Rattle.job_text.proofs.EndedLines.{LfNext, lf_next, lf_none, used_all}
 use Rattle.job_text.proofs.LineLemmas.{ended_line}
 use Rattle.job_text.proofs.Readings.{taken_few, taken_on, line_taken, line_told, rest_taken, no_memory_told, is_open, is_ended}
 use Rattle.job_text.proofs.pieces.Pieces.feed.Goals as goal
+
+pub loop-size-init : goal.loop-size-init
+loop-size-init c = record {
+  inside = omega arith;
+  taken = λ before h. subst (λ (x : List ℕ). HasTaken x c.args.self.now) (sym (append-nil {A = ℕ} before)) h;
+  grammar = refl;
+  reading = c.requires.reading;
+}
 
 pub ended_line-requires-clause-few : goal.ended_line-requires-clause-few
 ended_line-requires-clause-few c =
