@@ -8,7 +8,8 @@ use Rattle.std.proofs.lemmas.List.FromFn.{get_or-map-range_with_len, length-map-
 use Rattle.cov_base.specs.Lists.{Differ}
 use Rattle.cov_base.specs.Meaning.{ImageView, padded}
 use Rattle.module_area.specs.Images.{IsImage, AreClear}
-use Rattle.session_book.specs.Meaning.{TaskView}
+use Rattle.session_book.specs.Meaning.{TaskView, SessionView, JobView}
+use Rattle.session_book.specs.declared.services.Service.{Service}
 use Rattle.session_book.specs.JobView.{IsJob, IsTask, IsSession, IsListing, AreParted, HasController}
 use Rattle.job_gen.specs.declared.instruction.Instruction.{Instruction}
 use Rattle.job_gen.specs.declared.instruction.Operation.{Operation}
@@ -141,3 +142,13 @@ trial_is_job number tasks most = record {
   session_names = alone (λ a b. a ≢ b) trial_session.name;
   task_names = names_differ tasks;
 }
+
+-- a job of these cards, which is the generated one where each kind of them is
+abbrev pub job_with : List ImageView → List (Option (List (List ℕ))) → List Service → List (List ℕ) → List SessionView → List TaskView → JobView
+job_with images listings services phases sessions tasks = record { images = images; listings = listings; services = services; phases = phases; sessions = sessions; tasks = tasks }
+
+pub trial_made : (number count : ℕ) (images : List ImageView) (listings : List (Option (List (List ℕ)))) (services : List Service) (phases : List (List ℕ)) (sessions : List SessionView) (tasks : List TaskView) →
+    images ≡ trial_module number ∷ [] → listings ≡ Some (made_listing (trial_code number)) ∷ [] → services ≡ [] → phases ≡ padded (codes "P") ∷ [] → sessions ≡ trial_session ∷ [] → tasks ≡ map trial_task (range_with_len 1 count) →
+    job_with images listings services phases sessions tasks ≡ trial_job number count
+unfolding trial_job
+trial_made number count images listings services phases sessions tasks a b c d e f = rw (a, b, c, d, e, f) refl
