@@ -32,6 +32,17 @@ BOTH = COUNTED.marks_file(6, 1)
 EVIDENCE = bytes.fromhex("5333373045564431 00000000000000 00000000000100 00000000000200")
 # Where the fields of that file begin in version 1.
 FIELDS = (0, 8, 10, 18, 22, 26, 30, 34, 35, 36, 38, 39, 43, 44, 45, 47)
+# A byte of the file in version 1, another value there, and the field that is then the first bad one; and the same in version 2, where
+# none is in some.
+OLD_BROKEN = ((0, 0, 0), (7, b"2"[0], 8), (9, 0, 8), (9, 17, 8), (10, b" "[0], 10), (38, 3, 38), (42, 2, 39), (47, 2, 47))
+BROKEN: tuple[tuple[int, int, int | None], ...] = (
+    (0, 0, 0), (7, b"3"[0], 0), (8, b" "[0], None), (8, b"1"[0], 8), (10, b"S"[0], 8), (15, 0, 8), (19, 0, 16),
+    (21, 0, 20), (21, 17, 20), (22, b"1"[0], 22), (24, b"M"[0], 22), (22, b" "[0], 22), (33, 4, 30), (31, 0x0F, 30), (30, 1, 30),
+    (37, 7, 34), (37, 0, 34), (35, 4, 34), (39, 1, 38), (38, 1, 38),
+    # Of the places.
+    (45, 1, 42), (45, 6, 42), (46, 5, 46), (45, 4, 46), (47, 2, 47), (47, 0, 48), (48, 0x41, 48),
+    (50, 0, None), (50, 1, 50), (50, 3, 50), (50, 8, 50), (54, 2, 51), (55, 4, 55), (59, 2, 59), (59, 0, None),
+)
 
 
 @dataclass
@@ -103,18 +114,32 @@ def fault_of(command: Command, name: str, data: bytes) -> str | None:
 
 
 def offsets() -> None:
-    """a marks file that is cut is refused at the field that the cut is in, and one with a changed byte at that byte's field"""
+    """a marks file that is cut is refused at the field that the cut is in, and one that breaks a rule at that rule's field"""
     def refused(data: bytes, offset: int) -> None:
         ran = run_command([PROGRAM, "combine"], data)
         equal((ran.status, ran.output, ran.error), (10, b"BAD MARKS OFFSET %d\n" % offset, ""))
 
-    first_version = (COUNTED.marks_file(4, 1, version=1), FIELDS, ((0, 0, 0), (9, 0, 8), (38, 3, 38), (42, 2, 39)))
-    second = (FILE, [0, 8, 16, *(it + 12 for it in FIELDS[1:])], ((0, 0, 0), (21, 0, 20), (50, 3, 50), (54, 2, 51)))
+    def taken(data: bytes) -> None:
+        ran = run_command([PROGRAM, "combine"], data)
+        equal((ran.status, ran.output, ran.error), (0, data, ""))
+
+    first_version = (COUNTED.marks_file(4, 1, version=1), FIELDS, OLD_BROKEN)
+    second = (FILE, [0, 8, 16, *(it + 12 for it in FIELDS[1:])], BROKEN)
     for file, fields, changes in (first_version, second):
         for size in range(len(file)):
             refused(file[:size], max(it for it in fields if it <= size))
         for at, byte, offset in changes:
-            refused(file[:at] + bytes([byte]) + file[at + 1 :], offset)
+            changed = file[:at] + bytes([byte]) + file[at + 1 :]
+            if offset is None:
+                taken(changed)
+            else:
+                refused(changed, offset)
+    # The breakpoint is no original; modules differ in their names, and share no byte.
+    refused(FILE[:57] + b"\x0a\xff" + FILE[59:], 57)
+    taken(FILE[:57] + b"\x0a\xfe" + FILE[59:])
+    two = FILE[:21] + b"\2" + FILE[22:]
+    refused(two + FILE[22:], 60)
+    refused(two + b"N" + FILE[23:], 72)
 
 
 def evidence() -> Iterator[bytes]:
