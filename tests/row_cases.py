@@ -194,14 +194,14 @@ def cases() -> list[Case]:
     return [*rows, *trials, *trials, *usage, *(replace(it, input=b"GO A\n") for it in usage), *(replace(it, input=COUNTED.job()) for it in usage), *unread]
 
 
-def came_of_bytes(words: list[str], data: bytes) -> tuple[int, bytes]:
-    """The status and the output where each read gives one byte: a socket of packets gives one a read."""
+def came_of_pieces(words: list[str], pieces: list[bytes]) -> tuple[int, bytes]:
+    """The status and the output where each read gives one of these pieces: a socket of packets gives one a read."""
     own, other = socket.socketpair(socket.AF_UNIX, socket.SOCK_SEQPACKET)
     with subprocess.Popen([PROGRAM, *words], stdin=other, stdout=subprocess.PIPE, stderr=subprocess.STDOUT) as ran:
         other.close()
         with own:
-            for at in range(len(data)):
-                own.send(data[at : at + 1])
+            for piece in pieces:
+                own.send(piece)
         output, _ = ran.communicate(timeout=SECONDS)
     return ran.returncode, output
 
@@ -209,7 +209,8 @@ def came_of_bytes(words: list[str], data: bytes) -> tuple[int, bytes]:
 def byte_by_byte() -> None:
     """each row of run, where a read gives one byte"""
     for case in cases_of("run"):
-        equal((case.name, *came_of_bytes(case.words, case.input)), (case.name, case.status, case.output))
+        pieces = [case.input[at : at + 1] for at in range(len(case.input))]
+        equal((case.name, *came_of_pieces(case.words, pieces)), (case.name, case.status, case.output))
 
 
 def unites_runs() -> None:
