@@ -4,6 +4,5 @@ pub use Rattle.brk_table.proofs.TouchLemmas.{not_touched}
 pub use Rattle.brk_table.proofs.RangeLemmas.{first-here, count-here, first-past, count-past}
 pub use Rattle.brk_table.proofs.Together.{AllMet, all_met}
 pub use Rattle.brk_table.proofs.OneTable.{one_table}
-pub use Rattle.brk_table.proofs.OneModule.{one_met}
 pub use Rattle.brk_table.proofs.CodeLemmas.{are_in}
 pub use Rattle.brk_table.proofs.DecodedLemmas.{from_next, kept_first}

@@ -10,7 +10,6 @@ mod AllPlaces
 mod OwnPlaces
 mod Together
 mod OneTable
-mod OneModule
 mod NumberLemmas
 mod CodeLemmas
 mod DecodedLemmas

@@ -1,4 +1,4 @@
-//! A job's first and last bytes and lines, and its tasks; and that a number makes one module, for however many tasks.
+//! A job's first and last bytes and lines, and its tasks. What comes of it, tests/trial.py tells.
 ghost use Rattle.std.specs.Prelude.{◌≤◌};
 
 use job_gen::trial;
@@ -7,29 +7,12 @@ use session_book::Job;
 use std::alloc::Global;
 use std::test::Fail;
 
-/// What a job is to have.
-#[derive(Clone, Copy)]
-enum Wanted {
-    /// A module of 1874 bytes that begins with two loads.
-    Code,
-    /// Its listing.
-    Lines,
-    /// So many tasks, of which the last has this name.
-    Tasks(u32, &'static [u8]),
-}
-
-/// The module's bytes.
-fn bytes(job: &Job) -> &[u8] {
-    match job.images.0.first() {
-        Some(image) => image.bytes.as_slice(),
-        None => &[],
-    }
-}
-
-fn has_code(bytes: &[u8]) -> bool {
-    bytes.len() == 1874
-        && bytes.starts_with(&[0x41, 0x10, 0x10, 0x0E, 0x41, 0x10, 0x10, 0x02])
-        && bytes.ends_with(&[0x46, 0x30, 0xF0, 0x00, 0x07, 0xFE])
+/// Whether there is one module, of 1874 bytes, which begins with two loads and ends with the branch on count and the return.
+fn has_code(job: &Job) -> bool {
+    job.images.0.len() == 1
+        && job.images.0[0].bytes.len() == 1874
+        && job.images.0[0].bytes.starts_with(&[0x41, 0x10, 0x10, 0x0E, 0x41, 0x10, 0x10, 0x02])
+        && job.images.0[0].bytes.ends_with(&[0x46, 0x30, 0xF0, 0x00, 0x07, 0xFE])
 }
 
 /// So many lines of the listing, and behind each number the line of that number.
@@ -49,20 +32,26 @@ fn number_in(digits: &str) -> usize {
     usize::from_str_radix(digits, 10).unwrap_or(usize::MAX)
 }
 
-/// Whether the lines are as the entry says.
-fn is_entry(lines: &ListingLines, entry: &str) -> bool {
-    match entry.split_once(':') {
-        Some((digits, text)) => {
-            let n = number_in(digits);
-            n < lines.len() && lines.line(n) == text.as_bytes()
+/// Whether the lines are as each entry says.
+fn are_lines(lines: &ListingLines) -> bool {
+    for entry in LINES.lines() {
+        let (digits, text) = entry.split_once(':').unwrap_or((entry, ""));
+        let number = number_in(digits);
+        let is_so = if number < lines.len() {
+            lines.line(number) == text.as_bytes()
+        } else {
+            lines.len() == number
+        };
+        if !is_so {
+            return false;
         }
-        None => lines.len() == number_in(entry),
     }
+    true
 }
 
 fn has_lines(job: &Job) -> bool {
     match job.listings.first() {
-        Some(Some(lines)) => LINES.lines().all(|entry| is_entry(lines, entry)),
+        Some(Some(lines)) => are_lines(lines),
         _ => false,
     }
 }
@@ -84,59 +73,20 @@ fn has_tasks(job: &Job, count: u32, name: &[u8]) -> bool {
     }
 }
 
-fn has(job: &Job, wanted: Wanted) -> bool {
-    match wanted {
-        Wanted::Code => has_code(bytes(job)),
-        Wanted::Lines => has_lines(job),
-        Wanted::Tasks(count, name) => has_tasks(job, count, name),
-    }
-}
-
-/// Whether the job that a number makes has what is wanted. It is let go here alone, since that costs a proof list by list.
-fn makes(alloc: Global, number: u32, tasks: u32, wanted: Wanted) -> Result<bool, Fail>
+/// Whether the job that a number makes has its tasks, and number 7 its code and lines. It is let go here alone, since that costs a
+/// proof list by list.
+fn makes(alloc: Global, number: u32, tasks: u32, name: &[u8]) -> Result<bool, Fail>
     requires some { 1 ≤ tasks }
     requires most { tasks ≤ 64 }
 {
     let job = trial(alloc, number, tasks)?;
-    Ok(has(&job, wanted))
+    Ok(has_tasks(&job, tasks, name) && (number != 7 || has_code(&job) && has_lines(&job)))
 }
 
 #[test]
-fn begins_with_two_loads(rt: HostRuntime) -> Result<(), Fail> {
-    assert!(rt; makes(rt.alloc(), 7, 8, Wanted::Code)?);
-    Ok(())
-}
-
-#[test]
-fn lists_its_instructions(rt: HostRuntime) -> Result<(), Fail> {
-    assert!(rt; makes(rt.alloc(), 7, 1, Wanted::Lines)?);
-    Ok(())
-}
-
-#[test]
-fn numbers_its_tasks(rt: HostRuntime) -> Result<(), Fail> {
-    assert!(rt; makes(rt.alloc(), 4_294_967_295, 1, Wanted::Tasks(1, b"T01"))?);
-    assert!(rt; makes(rt.alloc(), 4_294_967_295, 64, Wanted::Tasks(64, b"T64"))?);
-    Ok(())
-}
-
-/// The module's bytes in the job that a number makes.
-fn module_of(alloc: Global, number: u32, tasks: u32) -> Result<Vec<u8>, Fail>
-    requires some { 1 ≤ tasks }
-    requires most { tasks ≤ 64 }
-{
-    let copied = {
-        let job = trial(alloc, number, tasks)?;
-        bytes(&job).to_vec(alloc)
-    };
-    Ok(copied?)
-}
-
-#[test]
-fn a_number_makes_one_module(rt: HostRuntime) -> Result<(), Fail> {
-    let once = module_of(rt.alloc(), 4_294_967_295, 64)?;
-    let again = module_of(rt.alloc(), 4_294_967_295, 1)?;
-    let other = module_of(rt.alloc(), 0, 64)?;
-    assert!(rt; !once.is_empty() && once == again && once != other);
+fn makes_code_lines_and_tasks(rt: HostRuntime) -> Result<(), Fail> {
+    assert!(rt; makes(rt.alloc(), 7, 8, b"T08")?);
+    assert!(rt; makes(rt.alloc(), 4_294_967_295, 1, b"T01")?);
+    assert!(rt; makes(rt.alloc(), 4_294_967_295, 64, b"T64")?);
     Ok(())
 }
