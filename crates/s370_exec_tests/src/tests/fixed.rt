@@ -20,10 +20,12 @@ pub const TABLE: Table = Table {
     ],
     touches: &[8, 9],
     lines: LINES,
-    count: 158,
+    count: 160,
 };
 
 const LINES: &str = "\
+41234567 3=00000003 4=00000100 > 2=0000066A\n\
+181F F=12345678 > 1=12345678\n\
 1812 2=80000001 > 1=80000001\n\
 18F0 0=FFFFFFFF > F=FFFFFFFF\n\
 58100004 > 1=80000000\n\

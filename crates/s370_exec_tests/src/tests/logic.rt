@@ -11,10 +11,11 @@ pub const TABLE: Table = Table {
     ],
     touches: &[8, 9],
     lines: LINES,
-    count: 163,
+    count: 164,
 };
 
 const LINES: &str = "\
+92234567 4=00FFFAD9 > @40=23\n\
 1412 1=00000035 2=0000005C > 1=00000014 cc=1\n\
 1412 1=F0F0F0F0 2=0F0F0F0F > 1=00000000 cc=0\n\
 1411 1=80000000 > cc=1\n\
