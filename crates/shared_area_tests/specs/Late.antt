@@ -1,10 +1,11 @@
 -- The plans and passes of tests.
-use Rattle.std.specs.Prelude.{◌≡◌, ℕ, ◌<◌, ◌^◌, true, Some, length}
+use Rattle.std.specs.Prelude.{◌≡◌, ℕ, ◌<◌, ◌≤◌, ◌^◌, true, Some, length}
 use Rattle.cov_base.specs.declared.facts.Fact.{Fact}
 use Rattle.cov_base.specs.declared.facts.Kind.{Kind}
+use Rattle.cov_base.specs.declared.facts.Kind.TheVariants.{Straight}
 use Rattle.cov_base.specs.FactKind.{is_of_kind}
 use Rattle.module_area.specs.Meaning.{PlanView, kind_at, is_controlled}
-use Rattle.module_area.specs.Rule.{is_controller}
+use Rattle.module_area.specs.Rule.{is_controller, has_task}
 use Rattle.module_area.specs.Notes.{Notes, calls, own_number, is_working}
 
 -- it holds of the places, or tasks, 0, 1 and 2
@@ -49,3 +50,11 @@ pub record MayVisit (plan : PlanView) (n : Notes) (p : ℕ) (f : Fact) : Type 0 
   pub working : is_working n ≡ true
   pub place : p < length plan.places
   pub kind : is_of_kind (kind_at plan p) f ≡ true
+
+-- a plan of tasks 0, 1 and 2, and of three instructions under two sessions of task 1
+pub record HasThree (plan : PlanView) : Type 0 where
+  pub places : 2 < length plan.places
+  pub kinds : OfThree (λ p. kind_at plan p ≡ Straight)
+  pub over : OfThree (IsTwice plan)
+  pub tasks : OfThree (λ t. has_task plan.tasks t ≡ true)
+  pub sessions : 2 ≤ plan.sessions

@@ -1,5 +1,6 @@
 //! A branch and a return under one session: two passes in turn, a mark between the look and the addition of another pass, and
 //! two threads at once. How many words an area has.
+mod courses;
 mod drained;
 mod late;
 mod through;
@@ -228,15 +229,6 @@ fn step_by_step<A: Areas>(
     Ok(Some((three, looked(&cells, &mut third))))
 }
 
-/// An area in which nothing is done, and how many sets it ends with.
-fn nothing_done<A: Areas>(alloc: Global, areas: &mut A, plan: &Plan) -> Result<usize, NoMemory>
-    requires { A.made areas.old < 2 ^ 62 }
-{
-    let (cells, root) = areas.make(alloc, plan)?;
-    let finals = areas.finish(alloc, cells, root)?;
-    Ok(finals.sets.len())
-}
-
 /// A branch on count and a return, under session 1 both, and tasks 0, 1 and 2.
 fn branch_and_return(alloc: Global) -> Result<Plan, Fail>
     ensures places { IfOk result (λ p. 2 ≤ length p.places) }
@@ -266,69 +258,41 @@ fn branch_and_return(alloc: Global) -> Result<Plan, Fail>
     Ok(plan)
 }
 
-/// Whether there is one tally, of so many plants, fetches, marks, lifts and closes.
-fn is_only_tally(tallies: &[Tally], counts: [u64; 5]) -> bool {
-    match tallies {
-        [tally] => {
-            tally.plants == counts[0]
-                && tally.fetches == counts[1]
-                && tally.marks == counts[2]
-                && tally.lifts == counts[3]
-                && tally.closes == counts[4]
+/// Whether the tallies are these, each of so many plants, fetches, marks, lifts and closes.
+fn are_tallies(tallies: &[Tally], wanted: &[[u64; 5]]) -> bool {
+    for n in 0..tallies.len() {
+        let tally = &tallies[n];
+        let is_so = match wanted.get(n) {
+            Some(counts) => {
+                tally.plants == counts[0]
+                    && tally.fetches == counts[1]
+                    && tally.marks == counts[2]
+                    && tally.lifts == counts[3]
+                    && tally.closes == counts[4]
+            }
+            None => false,
+        };
+        if !is_so {
+            return false;
         }
-        _ => false,
     }
+    tallies.len() == wanted.len()
 }
 
 #[test]
-fn two_passes_share_the_sets(rt: HostRuntime) -> Result<(), Fail> {
-    let alloc = rt.alloc();
-    let plan = branch_and_return(alloc)?;
-    let mut areas = SharedAreas::new(alloc, 1)?;
-    let (shown, branch, back) = in_turn(alloc, &mut areas, &plan)?;
-    assert_eq!(rt;
-        shown,
-        [(true, false), (true, true), (false, false), (true, true)]
-    );
-    assert!(rt; branch && back);
-    assert!(rt; is_only_tally(areas.ledger(), [2, 4, 3, 2, 0]));
-    assert_eq!(rt; areas.finals().len(), 1);
-    assert_eq!(rt; areas.made(), 1);
-    Ok(())
-}
-
-#[test]
-fn two_threads_at_one_place(rt: HostRuntime) -> Result<(), Fail> {
-    let alloc = rt.alloc();
-    let plan = branch_and_return(alloc)?;
-    let mut areas = SharedAreas::new(alloc, 1)?;
-    let full = at_once(&rt, alloc, &mut areas, &plan)?;
-    assert!(rt; full);
-    assert!(rt; is_only_tally(areas.ledger(), [1, 2, 2, 1, 0]));
-    Ok(())
-}
-
-#[test]
-fn an_area_without_places(rt: HostRuntime) -> Result<(), Fail> {
-    let alloc = rt.alloc();
-    let plan = Plan::checked(alloc, Vec::new(alloc), Vec::new(alloc), Vec::new(alloc), 0).ok_or(
-        "no plan",
-    )?;
-    let mut areas = SharedAreas::new(alloc, 1)?;
-    let sets = nothing_done(alloc, &mut areas, &plan)?;
-    assert_eq!(rt; sets, 0);
-    assert_eq!(rt; areas.made(), 1);
-    Ok(())
-}
-
-#[test]
-fn a_mark_between_a_look_and_its_mark(rt: HostRuntime) -> Result<(), Fail> {
-    let alloc = rt.alloc();
-    let plan = branch_and_return(alloc)?;
-    let mut areas = SharedAreas::new(alloc, 1)?;
-    let found = step_by_step(alloc, &mut areas, &plan)?;
-    let three = [(false, false), (false, false), (false, true)];
-    assert_eq!(rt; found, Some((three, (true, true))));
+fn passes_share_the_sets(rt: HostRuntime) -> Result<(), Fail> {
+    let plan = branch_and_return(rt.alloc())?;
+    let mut areas = SharedAreas::new(rt.alloc(), 1)?;
+    let (shown, branch, back) = in_turn(rt.alloc(), &mut areas, &plan)?;
+    assert!(rt; branch && back && shown == [(true, false), (true, true), (false, false), (true, true)]);
+    assert!(rt; are_tallies(areas.ledger(), &[[2, 4, 3, 2, 0]]));
+    assert!(rt; areas.finals().len() == 1 && areas.made() == 1);
+    let mut areas = SharedAreas::new(rt.alloc(), 1)?;
+    assert!(rt; at_once(&rt, rt.alloc(), &mut areas, &plan)?);
+    assert!(rt; are_tallies(areas.ledger(), &[[1, 2, 2, 1, 0]]));
+    let mut areas = SharedAreas::new(rt.alloc(), 1)?;
+    let found = step_by_step(rt.alloc(), &mut areas, &plan)?;
+    assert!(rt; found == Some(([(false, false), (false, false), (false, true)], (true, true))));
     Ok(())
 }
 

@@ -6,21 +6,18 @@ ghost use Rattle.module_area.specs.Meaning.{kind_at};
 ghost use Rattle.module_area.specs.Rule.{has_task};
 ghost use Rattle.shared_area_tests.specs.Late.{IsTwice, IsFirst, IsPassFor, OfThree};
 
-use super::late::{marks, three_instructions, traps};
-use super::through::{closes_all, plants_all, runs};
-use cov_base::{Fact, NoMemory, PlaceNo, SessNo, TaskNo};
-use module_area::{Areas, Drains, Forks, Plan};
-use shared_area::SharedAreas;
-use std::alloc::Global;
-use std::test::Fail;
+use super::late::{marks, traps};
+use super::through::{closes_all, plants_all};
+use cov_base::{Fact, PlaceNo, SessNo, TaskNo};
+use module_area::Drains;
 
 /// The numbers that the controller notes, and whether the sets that it reads have the run.
-type Seen = ([u64; 5], [bool; 3]);
+pub(crate) type Seen = ([u64; 5], [bool; 3]);
 
 /// Session 1 is closed while task 0 has its breakpoint in hand. Of the numbers the first is that of task 2, which ends at
 /// once; the next three are task 0's before its boundary, behind it and behind its end; the last is the own one. The
 /// sets are the first place's before task 0 marks and behind its boundary, and the second place's.
-fn behind_the_close<C: Drains>(
+pub(crate) fn behind_the_close<C: Drains>(
     cells: &C,
     control: &mut C::Pass,
     pass: &mut C::Pass,
@@ -64,43 +61,4 @@ fn behind_the_close<C: Drains>(
             second.has(Fact::Ran),
         ],
     ))
-}
-
-/// The same by passes split for tasks 0, 1 and 2, and the runs of the session in the end.
-#[tactic(auto, using(module_area::proofs::Laws::session_has_sets))]
-fn closed_in_area<A: Areas>(
-    alloc: Global,
-    areas: &mut A,
-    plan: &Plan,
-) -> Result<(Option<Seen>, [bool; 3]), NoMemory>
-    requires room { A.made areas.old < 2 ^ 62 }
-    requires places { 2 < length plan.now.places }
-    requires kinds { kind_at plan.now 0 ≡ Straight }
-    requires over { OfThree (IsTwice plan.now) }
-    requires tasks { OfThree (λ t. has_task plan.now.tasks t ≡ true) }
-    requires sessions { 1 ≤ plan.now.sessions }
-{
-    let (cells, mut root) = areas.make(alloc, plan)?;
-    let mut pass = cells.split(&mut root, TaskNo(0));
-    let mut control = cells.split(&mut root, TaskNo(1));
-    let mut other = cells.split(&mut root, TaskNo(2));
-    let seen = behind_the_close(&cells, &mut control, &mut pass, &mut other);
-    cells.join(&mut root, pass);
-    cells.join(&mut root, control);
-    cells.join(&mut root, other);
-    let finals = areas.finish(alloc, cells, root)?;
-    Ok((seen, runs(&finals, SessNo(1))))
-}
-
-#[test]
-fn a_boundary_behind_a_closed_session(rt: HostRuntime) -> Result<(), Fail> {
-    let alloc = rt.alloc();
-    let plan = three_instructions(alloc)?;
-    let mut areas = SharedAreas::new(alloc, 1)?;
-    let (seen, finals) = closed_in_area(alloc, &mut areas, &plan)?;
-    let numbers = [1, 0, 2, 3, 2];
-    let sets = [false, true, false];
-    assert_eq!(rt; seen, Some((numbers, sets)));
-    assert_eq!(rt; finals, [true, false, false]);
-    Ok(())
 }

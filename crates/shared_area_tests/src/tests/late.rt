@@ -8,8 +8,7 @@ ghost use Rattle.shared_area_tests.specs.Late.{IsTwice, HasKind, IsPassFor, IsAt
 ghost use Rattle.module_area.specs.Notes.{calls, is_working};
 
 use cov_base::{Addr, Fact, Kind, NoMemory, PlaceNo, SessNo, TaskNo};
-use module_area::{Areas, Cell, Cells, Controlled, Forks, Place, Plan};
-use shared_area::SharedAreas;
+use module_area::{Cell, Cells, Controlled, Place, Plan};
 use std::alloc::Global;
 use std::test::Fail;
 
@@ -179,7 +178,7 @@ fn lifts_late<C: Cells>(
 }
 
 /// Two tasks with traps of two sessions in hand: each marks in its own session, and the later one lifts first.
-fn two_late<C: Cells>(
+pub(crate) fn two_late<C: Cells>(
     cells: &C,
     control: &mut C::Pass,
     pass: &mut C::Pass,
@@ -213,15 +212,15 @@ fn two_late<C: Cells>(
 }
 
 /// When a trap of session 1 is settled. The last two close the session between its mark and its lift.
-#[derive(Clone, Copy, PartialEq, Eq, Debug)]
-enum Order {
+#[derive(Clone, Copy)]
+pub(crate) enum Order {
     MarkAfterClose,
     MarkAfterPlant,
     LiftAfterClose,
     LiftAfterPlant,
 }
 
-fn in_order<C: Cells>(
+pub(crate) fn in_order<C: Cells>(
     cells: &C,
     control: &mut C::Pass,
     pass: &mut C::Pass,
@@ -242,61 +241,6 @@ fn in_order<C: Cells>(
         Order::LiftAfterClose => lifts_late(cells, control, pass, false),
         Order::LiftAfterPlant => lifts_late(cells, control, pass, true),
     }
-}
-
-/// The order in an area of its own: what the trap finds, and whether sessions 1 and 2 have the run in the end.
-#[tactic(auto, using(module_area::proofs::Laws::session_has_sets))]
-fn one_late<A: Areas>(
-    alloc: Global,
-    areas: &mut A,
-    plan: &Plan,
-    order: Order,
-) -> Result<(Option<Late>, bool, bool), NoMemory>
-where
-    A::C: Forks + Sync,
-    requires room { A.made areas.old < 2 ^ 62 }
-    requires place { HasKind plan.now 0 Straight × IsTwice plan.now 0 }
-    requires tasks { (has_task plan.now.tasks 0 ≡ true) × (has_task plan.now.tasks 1 ≡ true) }
-    requires sessions { 2 ≤ plan.now.sessions }
-{
-    let (cells, mut root) = areas.make(alloc, plan)?;
-    let mut pass = cells.split(&mut root, TaskNo(0));
-    let mut control = cells.split(&mut root, TaskNo(1));
-    let late = in_order(&cells, &mut control, &mut pass, order);
-    cells.join(&mut root, pass);
-    cells.join(&mut root, control);
-    let finals = areas.finish(alloc, cells, root)?;
-    let first = finals.set(SessNo(1), PlaceNo(0)).has(Fact::Ran);
-    let second = finals.set(SessNo(2), PlaceNo(0)).has(Fact::Ran);
-    Ok((late, first, second))
-}
-
-/// Two late traps in an area of its own, and whether sessions 1 and 2 have the run in the end.
-#[tactic(auto, using(module_area::proofs::Laws::session_has_sets))]
-fn two_in_area<A: Areas>(
-    alloc: Global,
-    areas: &mut A,
-    plan: &Plan,
-) -> Result<(Option<(Late, Late)>, bool, bool), NoMemory>
-where
-    A::C: Forks + Sync,
-    requires room { A.made areas.old < 2 ^ 62 }
-    requires place { HasKind plan.now 0 Straight × IsTwice plan.now 0 }
-    requires tasks { OfThree (λ t. has_task plan.now.tasks t ≡ true) }
-    requires sessions { 2 ≤ plan.now.sessions }
-{
-    let (cells, mut root) = areas.make(alloc, plan)?;
-    let mut pass = cells.split(&mut root, TaskNo(0));
-    let mut control = cells.split(&mut root, TaskNo(1));
-    let mut other = cells.split(&mut root, TaskNo(2));
-    let late = two_late(&cells, &mut control, &mut pass, &mut other);
-    cells.join(&mut root, pass);
-    cells.join(&mut root, control);
-    cells.join(&mut root, other);
-    let finals = areas.finish(alloc, cells, root)?;
-    let first = finals.set(SessNo(1), PlaceNo(0)).has(Fact::Ran);
-    let second = finals.set(SessNo(2), PlaceNo(0)).has(Fact::Ran);
-    Ok((late, first, second))
 }
 
 /// Load address, add, branch, and tasks 0, 1 and 2.
@@ -333,47 +277,4 @@ pub(crate) fn three_instructions(alloc: Global) -> Result<Plan, Fail>
     let tasks = vec![in alloc; TaskNo(0), TaskNo(1), TaskNo(2)]?;
     let plan = Plan::checked(alloc, places, windows, tasks, 2).ok_or("no plan")?;
     Ok(with_sessions(alloc, plan)?)
-}
-
-/// The orders, and the cell that the task meets next: never is the fact lost, and never does a late lift take out what
-/// stands there now.
-static ORDERS: [(Order, u32, u16); 4] = [
-    (Order::MarkAfterClose, 2, 0x4110),
-    (Order::MarkAfterPlant, 3, 0x0AFF),
-    (Order::LiftAfterClose, 2, 0x4110),
-    (Order::LiftAfterPlant, 3, 0x0AFF),
-];
-
-#[test]
-fn late_traps(rt: HostRuntime) -> Result<(), Fail> {
-    let alloc = rt.alloc();
-    let plan = three_instructions(alloc)?;
-    for (order, tag, half) in ORDERS {
-        let mut areas = SharedAreas::new(alloc, 1)?;
-        let found = one_late(alloc, &mut areas, &plan, order)?;
-        assert!(rt;
-            matches!(
-                found,
-                (Some((false, false, cell)), true, false) if is_cell(cell, tag, half)
-            ),
-            "{order:?}"
-        );
-    }
-    Ok(())
-}
-
-#[test]
-fn two_traps_of_two_sessions(rt: HostRuntime) -> Result<(), Fail> {
-    let alloc = rt.alloc();
-    let plan = three_instructions(alloc)?;
-    let mut areas = SharedAreas::new(alloc, 1)?;
-    let found = two_in_area(alloc, &mut areas, &plan)?;
-    assert!(rt;
-        matches!(
-            found,
-            (Some(((false, false, first), (false, true, second))), true, true)
-                if is_cell(first, 3, 0x4110) && is_cell(second, 3, 0x4110)
-        )
-    );
-    Ok(())
 }

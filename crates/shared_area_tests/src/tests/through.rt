@@ -6,13 +6,9 @@ ghost use Rattle.module_area.specs.Rule.{has_task};
 ghost use Rattle.shared_area_tests.specs.Late.{IsTwice, HasKind, IsPassFor, IsAtWork, IsLater, OfThree};
 ghost use Rattle.module_area.specs.Notes.{calls, is_working, keeps};
 
-use super::is_only_tally;
-use super::late::{Late, is_cell, marks, three_instructions, traps};
-use cov_base::{Fact, NoMemory, PlaceNo, SessNo, TaskNo};
-use module_area::{Areas, Cells, Finals, Forks, Plan};
-use shared_area::SharedAreas;
-use std::alloc::Global;
-use std::test::Fail;
+use super::late::{Late, marks, traps};
+use cov_base::{Fact, PlaceNo, SessNo};
+use module_area::{Cells, Finals};
 
 /// Plants the three places for a session.
 pub(crate) fn plants_all<C: Cells>(cells: &C, control: &mut C::Pass, s: SessNo)
@@ -103,10 +99,10 @@ fn visits<C: Cells>(cells: &C, pass: &mut C::Pass, place: PlaceNo) -> Option<(bo
 }
 
 /// What the task finds at the first place, and at its visits of the two behind it.
-type Course = (Late, (bool, bool), (bool, bool));
+pub(crate) type Through = (Late, (bool, bool), (bool, bool));
 
 /// The task comes to its end, and session 2 is closed behind it.
-fn to_the_end<C: Cells>(cells: &C, control: &mut C::Pass, pass: &mut C::Pass) -> Option<Course>
+pub(crate) fn to_the_end<C: Cells>(cells: &C, control: &mut C::Pass, pass: &mut C::Pass) -> Option<Through>
     requires area { C.is_pass cells.now control.old × C.is_pass cells.now pass.old }
     requires control { IsPassFor 1 (2 ^ 8) (C.notes control.old) }
     requires pass { IsAtWork (C.notes pass.old) }
@@ -136,48 +132,4 @@ pub(crate) fn runs(finals: &Finals, s: SessNo) -> [bool; 3]
         finals.set(s, PlaceNo(1)).has(Fact::Ran),
         finals.set(s, PlaceNo(2)).has(Fact::Ran),
     ]
-}
-
-/// The same by passes split for tasks 0 and 1, and the runs of sessions 1 and 2 in the end.
-#[tactic(auto, using(module_area::proofs::Laws::session_has_sets))]
-fn two_sessions_in_area<A: Areas>(
-    alloc: Global,
-    areas: &mut A,
-    plan: &Plan,
-) -> Result<(Option<Course>, [bool; 3], [bool; 3]), NoMemory>
-where
-    A::C: Forks + Sync,
-    requires room { A.made areas.old < 2 ^ 62 }
-    requires places { 2 < length plan.now.places }
-    requires kinds { OfThree (λ p. kind_at plan.now p ≡ Straight) }
-    requires over { OfThree (IsTwice plan.now) }
-    requires tasks { (has_task plan.now.tasks 0 ≡ true) × (has_task plan.now.tasks 1 ≡ true) }
-    requires sessions { 2 ≤ plan.now.sessions }
-{
-    let (cells, mut root) = areas.make(alloc, plan)?;
-    let mut pass = cells.split(&mut root, TaskNo(0));
-    let mut control = cells.split(&mut root, TaskNo(1));
-    let course = to_the_end(&cells, &mut control, &mut pass);
-    cells.join(&mut root, pass);
-    cells.join(&mut root, control);
-    let finals = areas.finish(alloc, cells, root)?;
-    Ok((course, runs(&finals, SessNo(1)), runs(&finals, SessNo(2))))
-}
-
-#[test]
-fn a_trap_through_two_sessions(rt: HostRuntime) -> Result<(), Fail> {
-    let alloc = rt.alloc();
-    let plan = three_instructions(alloc)?;
-    let mut areas = SharedAreas::new(alloc, 1)?;
-    let (course, first, second) = two_sessions_in_area(alloc, &mut areas, &plan)?;
-    assert!(rt;
-        matches!(
-            course,
-            Some(((false, false, cell), (false, true), (false, true))) if is_cell(cell, 3, 0x0AFF)
-        )
-    );
-    assert_eq!(rt; first, [true, false, false]);
-    assert_eq!(rt; second, [false, true, true]);
-    assert!(rt; is_only_tally(areas.ledger(), [6, 4, 3, 2, 6]));
-    Ok(())
 }
