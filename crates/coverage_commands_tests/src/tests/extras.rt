@@ -60,7 +60,7 @@ fn makes_no_area<T: Threads + Wait + Sync>(
 ) -> Result<bool, Fail>
     requires { IsReadyJob job.now tables.now }
 {
-    let mut areas = SharedAreas::new(alloc, 1).map_err(|_| "memory")?;
+    let mut areas = SharedAreas::new(alloc, 1)?;
     let ran = run_job_with(rt, alloc, &mut areas, &OpenGate, &Wanting, job, tables);
     Ok(ran.is_err() && areas.made() == 0)
 }

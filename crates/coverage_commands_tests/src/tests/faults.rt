@@ -2,8 +2,8 @@
 //! writes. What it writes without a fault stands in tests/rows.
 
 use super::jobs::job_of;
-use super::serving::status_for;
-use cov_outside::{MemSink, MemSource, OpenGate};
+use super::serving::serve_with;
+use cov_outside::OpenGate;
 use coverage_commands::Status;
 use shared_area::SharedAreas;
 use std::alloc::Global;
@@ -458,22 +458,17 @@ fn serve_faulty<T: Threads + Wait + Sync>(
     read: u64,
     write: u64,
 ) -> Result<(Status, Vec<u8>), Fail> {
-    let bad_reads = [read].to_vec(alloc)?;
-    let bad_writes = [write].to_vec(alloc)?;
-    let mut areas = SharedAreas::new(alloc, 2).map_err(|_| "memory")?;
-    let mut source = MemSource::new(row.input.to_vec(alloc)?, READ, bad_reads);
-    let mut sink = MemSink::new(alloc, 4096, WRITE, bad_writes).map_err(|_| "memory")?;
-    let gate = &OpenGate;
-    let status = status_for(
+    let mut areas = SharedAreas::new(alloc, 2)?;
+    serve_with(
         rt,
         alloc,
         row.words,
-        &mut source,
-        &mut sink,
+        &row.input,
+        WRITE,
+        [read, write],
         &mut areas,
-        gate,
-    )?;
-    Ok((status, sink.bytes().to_vec(alloc)?))
+        &OpenGate,
+    )
 }
 
 /// A failure at a row's call of a number.

@@ -3,7 +3,7 @@
 
 use super::held::Held;
 use super::jobs::job_of;
-use super::noted::{Arrivals, number_in};
+use super::noted::{came_of, number_in};
 use super::serving::serve_over;
 use cov_base::TaskNo;
 use cov_outside::Gate;
@@ -115,7 +115,7 @@ fn meet<T: Threads + Wait + Sync>(rt: &T, alloc: Global, line: &str) -> Result<b
         met: AtomicU64::new(0),
     };
     let job = job_of(alloc, "BRANCH", lines_of(name))?;
-    let mut areas = SharedAreas::new(alloc, 1).map_err(|_| "memory")?;
+    let mut areas = SharedAreas::new(alloc, 1)?;
     let (status, _) = serve_over(rt, alloc, words, &job, &mut areas, &gate)?;
     Ok(status.0 == 0 && gate.met.load(Ordering::SeqCst) == tasks)
 }
@@ -155,16 +155,8 @@ fn arrives<T: Threads + Wait + Sync>(rt: &T, alloc: Global, line: &str) -> Resul
     let (times, rest) = rest.split_once(' ').unwrap_or(("", ""));
     let (name, words) = rest.split_once(' ').unwrap_or(("", ""));
     let times = u64::from(number_in(times));
-    let gate = Arrivals::new(Held::none());
-    let job = job_of(alloc, "BRANCH", lines_of(name))?;
-    let mut areas = SharedAreas::new(alloc, 1).map_err(|_| "memory")?;
-    let (came, _) = serve_over(rt, alloc, words, &job, &mut areas, &gate)?;
-    Ok(
-        came.0 as u32 == number_in(status)
-            && gate.of(0) == times
-            && gate.of(1) == times
-            && gate.of(2) == 0,
-    )
+    let came = came_of(rt, alloc, words, "BRANCH", lines_of(name), Held::none())?;
+    Ok(u32::from(came.status) == number_in(status) && came.arrived == [times, times, 0])
 }
 
 #[test]

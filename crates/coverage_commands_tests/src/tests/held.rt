@@ -2,12 +2,9 @@
 //! goes on at a look of the controller, which then waits for its boundary, or once the controller has ended; or the controller
 //! itself, until the other has ended.
 
-use super::jobs::{job_of, joined};
-use super::noted::{Arrivals, NotedAreas};
-use super::serving::serve_over;
+use super::jobs::joined;
+use super::noted::came_of;
 use cov_base::TaskNo;
-use coverage_commands::Status;
-use shared_area::SharedAreas;
 use std::alloc::Global;
 use std::sync::Wait;
 use std::sync::atomic::{AtomicU64, Ordering};
@@ -137,21 +134,6 @@ MODULE M PLACES 3 EXECUTED 0 FACTS 0 OF 3\n\
 ^ 000006 07FE                           3          BR\n\
 NOT EXECUTED 000000-000007\n";
 
-/// What comes of `early` on the job while a task is held so: the status, the text, and how many boundaries the other task has made.
-fn early_of<T: Threads + Wait + Sync>(
-    rt: &T,
-    alloc: Global,
-    own: &str,
-    held: Held,
-) -> Result<(Status, Vec<u8>, u64), Fail> {
-    let gate = Arrivals::new(held);
-    let job = job_of(alloc, "LOAD", own)?;
-    let shared = SharedAreas::new(alloc, 1).map_err(|_| "memory")?;
-    let mut areas = NotedAreas::new(shared, &gate);
-    let (status, text) = serve_over(rt, alloc, "early", &job, &mut areas, &gate)?;
-    Ok((status, text, gate.boundaries()))
-}
-
 /// Whether this is the line on the drain where the other task is held so.
 fn is_told<T: Threads + Wait + Sync>(
     rt: &T,
@@ -159,7 +141,7 @@ fn is_told<T: Threads + Wait + Sync>(
     held: Held,
     line: &str,
 ) -> Result<bool, Fail> {
-    let (status, text, _) = early_of(rt, alloc, COUNTING, held)?;
+    let came = came_of(rt, alloc, "early", "LOAD", COUNTING, held)?;
     let ended = "TASK C RETURNED COUNT 2003 CC 0\n";
     let lines = [
         FRONT,
@@ -171,7 +153,7 @@ fn is_told<T: Threads + Wait + Sync>(
         "END\n",
     ];
     let wanted = joined(alloc, &lines)?;
-    Ok(status.0 == 0 && text == wanted)
+    Ok(came.status == 0 && came.text == wanted)
 }
 
 #[test]
@@ -191,7 +173,7 @@ fn drains_nothing_where_a_task_is_held_to_the_end(rt: HostRuntime) -> Result<(),
 /// Whether both sessions are drained as they are closed, where the controller is held until the other task has ended, which has
 /// made a boundary behind each of its three instructions, and the last one.
 fn waits_for_no_end<T: Threads + Wait + Sync>(rt: &T, alloc: Global) -> Result<bool, Fail> {
-    let (status, text, boundaries) = early_of(rt, alloc, TWO, Held::new(1, 0, 1))?;
+    let came = came_of(rt, alloc, "early", "LOAD", TWO, Held::new(1, 0, 1))?;
     let ended = "TASK C RETURNED COUNT 5 CC 0\n";
     let lines = [
         FRONT,
@@ -205,7 +187,7 @@ fn waits_for_no_end<T: Threads + Wait + Sync>(rt: &T, alloc: Global) -> Result<b
         "DRAINED COUNT 4\nEND\n",
     ];
     let wanted = joined(alloc, &lines)?;
-    Ok(status.0 == 0 && boundaries == 4 && text == wanted)
+    Ok(came.status == 0 && came.boundaries == 4 && came.text == wanted)
 }
 
 #[test]

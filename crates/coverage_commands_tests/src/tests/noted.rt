@@ -3,12 +3,19 @@
 ghost use Rattle.std.specs.Prelude.{◌≡◌};
 
 use super::held::Held;
+use super::jobs::job_of;
+use super::order::counts_of;
+use super::serving::serve_over;
 use arrayvec::ArrayVec;
 use cov_base::{Bits, Fact, NoMemory, PlaceNo, SessNo, TaskNo};
 use cov_outside::Gate;
 use module_area::{Areas, Cell, Cells, Drains, Finals, Forks, Plan, Tally};
+use shared_area::SharedAreas;
 use std::alloc::Global;
+use std::sync::Wait;
 use std::sync::atomic::{AtomicU64, Ordering};
+use std::test::Fail;
+use std::thread::Threads;
 
 /// A gate that counts how often the first task has arrived, the second, and others, and holds one.
 #[derive(Drop)]
@@ -21,7 +28,7 @@ pub struct Arrivals {
 
 impl Arrivals {
     /// None has arrived.
-    pub fn new(held: Held) -> Arrivals {
+    fn new(held: Held) -> Arrivals {
         Arrivals {
             first: AtomicU64::new(0),
             second: AtomicU64::new(0),
@@ -39,12 +46,12 @@ impl Arrivals {
     }
 
     /// How often the task has arrived, 2 for others than the first two.
-    pub fn of(&self, task: u32) -> u64 {
+    fn of(&self, task: u32) -> u64 {
         self.count(task).load(Ordering::SeqCst)
     }
 
     /// How many boundaries the tasks have made that aren't held.
-    pub fn boundaries(&self) -> u64 {
+    fn boundaries(&self) -> u64 {
         self.held.boundaries()
     }
 }
@@ -78,20 +85,25 @@ pub fn number_in(digits: &str) -> u32 {
     u32::from_str_radix(digits, 10).unwrap_or(u32::MAX)
 }
 
+/// A call's word, and its number.
+fn word_of(call: Call) -> (&'static str, u64) {
+    match call {
+        Call::Arrive(times) => ("arrive", times),
+        Call::Plant(place) => ("plant", u64::from(place)),
+        Call::Fetch(place) => ("fetch", u64::from(place)),
+        Call::Mark(place, Fact::Ran) => ("ran", u64::from(place)),
+        Call::Mark(place, Fact::Went) => ("went", u64::from(place)),
+        Call::Mark(place, Fact::Stayed) => ("stayed", u64::from(place)),
+        Call::Lift(place) => ("lift", u64::from(place)),
+        Call::Close(place) => ("close", u64::from(place)),
+    }
+}
+
 /// Whether the words name the call.
 fn is_call(call: Call, words: &str) -> bool {
     let (kind, digits) = words.split_once(' ').unwrap_or((words, ""));
-    let number = number_in(digits);
-    match call {
-        Call::Arrive(times) => kind == "arrive" && times == u64::from(number),
-        Call::Plant(place) => kind == "plant" && place == number,
-        Call::Fetch(place) => kind == "fetch" && place == number,
-        Call::Mark(place, Fact::Ran) => kind == "ran" && place == number,
-        Call::Mark(place, Fact::Went) => kind == "went" && place == number,
-        Call::Mark(place, Fact::Stayed) => kind == "stayed" && place == number,
-        Call::Lift(place) => kind == "lift" && place == number,
-        Call::Close(place) => kind == "close" && place == number,
-    }
+    let (word, number) = word_of(call);
+    word == kind && number == u64::from(number_in(digits))
 }
 
 /// Whether these are the calls that the words name, parted by commas: a mark by its fact.
@@ -106,7 +118,7 @@ pub fn are_calls(calls: &[Call], words: &str) -> bool {
     count == calls.len()
 }
 
-type Calls = ArrayVec<Call, 64>;
+pub type Calls = ArrayVec<Call, 64>;
 
 fn keep(calls: &mut Calls, call: Call) {
     if !calls.is_full() {
@@ -232,15 +244,15 @@ impl<'a, C: Drains> Drains for NotedCells<'a, C> {
 
 /// The calls are those of the area that was finished last.
 #[derive(Drop)]
-pub struct NotedAreas<'a, A> {
+struct NotedAreas<'a, A> {
     areas: A,
     arrivals: &'a Arrivals,
-    pub calls: Calls,
+    calls: Calls,
 }
 
 impl<'a, A: Areas> NotedAreas<'a, A> {
     /// No area was finished yet.
-    pub fn new(areas: A, arrivals: &'a Arrivals) -> NotedAreas<'a, A>
+    fn new(areas: A, arrivals: &'a Arrivals) -> NotedAreas<'a, A>
         ensures { result.areas ≡ areas }
     {
         NotedAreas {
@@ -297,4 +309,46 @@ impl<'a, A: Areas> Areas for NotedAreas<'a, A> {
     fn made(&self) -> u64 {
         self.areas.made()
     }
+}
+
+/// What came of words: the status and the text; the calls on the area that was finished last, and its plants, fetches, marks, lifts
+/// and closes; how often the first task has arrived, the second and others; and how many boundaries those have made that aren't held.
+#[derive(Drop)]
+pub struct Came {
+    pub status: u8,
+    pub text: Vec<u8>,
+    pub calls: Calls,
+    pub counts: Option<[u64; 5]>,
+    pub arrived: [u64; 3],
+    pub boundaries: u64,
+}
+
+/// What comes of words on the job of this program and of these lines, where a task is held so.
+pub fn came_of<T: Threads + Wait + Sync>(
+    rt: &T,
+    alloc: Global,
+    words: &str,
+    program: &str,
+    own: &str,
+    held: Held,
+) -> Result<Came, Fail> {
+    let gate = Arrivals::new(held);
+    let job = job_of(alloc, program, own)?;
+    let shared = SharedAreas::new(alloc, 2)?;
+    let mut areas = NotedAreas::new(shared, &gate);
+    let (status, text) = serve_over(rt, alloc, words, &job, &mut areas, &gate)?;
+    let counts = counts_of(areas.ledger());
+    let NotedAreas {
+        areas: _shared,
+        arrivals: _,
+        calls,
+    } = areas;
+    Ok(Came {
+        status: status.0,
+        text,
+        calls,
+        counts,
+        arrived: [gate.of(0), gate.of(1), gate.of(2)],
+        boundaries: gate.boundaries(),
+    })
 }

@@ -4,11 +4,8 @@
 //! has ended meets what that has left there.
 
 use super::held::Held;
-use super::jobs::job_of;
-use super::noted::{Arrivals, NotedAreas, are_calls, number_in};
-use super::serving::serve_over;
-use module_area::{Areas, Tally};
-use shared_area::SharedAreas;
+use super::noted::{are_calls, came_of, number_in};
+use module_area::Tally;
 use std::alloc::Global;
 use std::sync::Wait;
 use std::test::Fail;
@@ -155,68 +152,55 @@ fn are_counts(counts: &[u64], words: &str) -> bool {
     had == counts.len()
 }
 
-/// Whether the last tally has these counts.
-pub fn is_last(tallies: &[Tally], words: &str) -> bool {
+/// The counts of the last tally: plants, fetches, marks, lifts and closes.
+pub fn counts_of(tallies: &[Tally]) -> Option<[u64; 5]> {
     match tallies.get(tallies.len().wrapping_sub(1)) {
-        Some(tally) => are_counts(
-            &[
-                tally.plants,
-                tally.fetches,
-                tally.marks,
-                tally.lifts,
-                tally.closes,
-            ],
-            words,
-        ),
+        Some(tally) => Some([
+            tally.plants,
+            tally.fetches,
+            tally.marks,
+            tally.lifts,
+            tally.closes,
+        ]),
+        None => None,
+    }
+}
+
+/// Whether there are counts, and these are they.
+pub fn are_last(counts: &Option<[u64; 5]>, words: &str) -> bool {
+    match counts {
+        Some(counts) => are_counts(counts.as_slice(), words),
         None => false,
     }
 }
 
-/// Whether each of so many tasks has arrived once.
-fn have_arrived(gate: &Arrivals, tasks: u32) -> bool {
-    for task in 0..tasks {
-        if gate.of(task) != 1 {
-            return false;
-        }
-    }
-    true
+/// Whether each of so many tasks has arrived once, where they are one or two, and else the first two, and each of the others.
+fn have_arrived(arrived: &[u64; 3], tasks: u32) -> bool {
+    arrived[0] == 1
+        && arrived[1] == if tasks > 1 { 1 } else { 0 }
+        && arrived[2] == u64::from(tasks.saturating_sub(2))
 }
 
-/// Whether the words make the calls of the row's job on its last area, behind this gate.
+/// Whether the words make the calls of the row's job on its last area, where a task is held so.
 fn makes<T: Threads + Wait + Sync>(
     rt: &T,
     alloc: Global,
     words: &str,
     row: &str,
-    gate: &Arrivals,
+    held: Held,
 ) -> Result<bool, Fail> {
     let (tasks, rest) = row.split_once(' ').unwrap_or(("", ""));
     let (program, rest) = rest.split_once(' ').unwrap_or(("", ""));
     let (_, rest) = rest.split_once('\n').unwrap_or(("", ""));
     let (calls, rest) = rest.split_once('\n').unwrap_or(("", ""));
-    let (tally, own) = rest.split_once('\n').unwrap_or(("", ""));
-    let job = job_of(alloc, program, own)?;
-    let shared = SharedAreas::new(alloc, 2).map_err(|_| "memory")?;
-    let mut areas = NotedAreas::new(shared, gate);
-    let (status, _) = serve_over(rt, alloc, words, &job, &mut areas, gate)?;
+    let (counts, own) = rest.split_once('\n').unwrap_or(("", ""));
+    let came = came_of(rt, alloc, words, program, own, held)?;
     Ok(
-        status.0 == 0
-            && are_calls(&areas.calls, calls)
-            && is_last(areas.ledger(), tally)
-            && have_arrived(gate, number_in(tasks)),
+        came.status == 0
+            && are_calls(&came.calls, calls)
+            && are_last(&came.counts, counts)
+            && have_arrived(&came.arrived, number_in(tasks)),
     )
-}
-
-/// Whether `run` makes these calls.
-fn is_in_order<T: Threads + Wait + Sync>(rt: &T, alloc: Global, row: &str) -> Result<bool, Fail> {
-    let gate = Arrivals::new(Held::none());
-    makes(rt, alloc, "run", row, &gate)
-}
-
-/// Whether `early`, by which each task makes boundaries, makes them where the second task is held until the first has ended.
-fn is_met_behind<T: Threads + Wait + Sync>(rt: &T, alloc: Global, row: &str) -> Result<bool, Fail> {
-    let gate = Arrivals::new(Held::new(1, 0, 1));
-    makes(rt, alloc, "early", row, &gate)
 }
 
 /// A failure that names the row.
@@ -228,17 +212,18 @@ fn fail_of(row: &'static str) -> Fail {
 #[test]
 fn makes_its_calls_in_the_order_of_the_instructions(rt: HostRuntime) -> Result<(), Fail> {
     for row in ORDERS.split("@row ") {
-        if !row.is_empty() && !is_in_order(&rt, rt.alloc(), row)? {
+        if !row.is_empty() && !makes(&rt, rt.alloc(), "run", row, Held::none())? {
             return Err(fail_of(row));
         }
     }
     Ok(())
 }
 
+/// By `early` each task makes boundaries, and the second task is held until the first has ended.
 #[test]
 fn a_task_meets_what_an_ended_one_has_left(rt: HostRuntime) -> Result<(), Fail> {
     for row in BEHIND.split("@row ") {
-        if !row.is_empty() && !is_met_behind(&rt, rt.alloc(), row)? {
+        if !row.is_empty() && !makes(&rt, rt.alloc(), "early", row, Held::new(1, 0, 1))? {
             return Err(fail_of(row));
         }
     }

@@ -2,7 +2,7 @@
 ghost use Rattle.std.specs.Prelude.{◌<◌, ◌^◌};
 
 use super::jobs::{FROM_3, job_of};
-use super::order::is_last;
+use super::order::{are_last, counts_of};
 use cov_outside::{Gate, MemSink, MemSource, OpenGate, SureSink, SureSource};
 use coverage_commands::{Status, cover, cover_one};
 use module_area::Areas;
@@ -28,23 +28,29 @@ fn words_of(alloc: Global, words: &str) -> Result<Vec<String>, Fail> {
     Ok(all)
 }
 
-/// Serves the words over these: the status.
-pub fn status_for<T: Threads + Wait + Sync, A: Areas, G: Gate + Sync>(
+/// Serves the words over these areas and this gate, where a read gives 64 bytes and a write takes so many, and one of each fails, 0
+/// for none: the status and the text.
+pub fn serve_with<T: Threads + Wait + Sync, A: Areas, G: Gate + Sync>(
     rt: &T,
     alloc: Global,
     words: &str,
-    source: &mut MemSource,
-    sink: &mut MemSink,
+    input: &[u8],
+    piece: usize,
+    faults: [u64; 2],
     areas: &mut A,
     gate: &G,
-) -> Result<Status, Fail>
+) -> Result<(Status, Vec<u8>), Fail>
     requires room { A.made areas.old < 2 ^ 61 }
+    requires piece { 0 < piece }
 {
     let all = words_of(alloc, words)?;
-    Ok(cover(rt, alloc, &all, source, sink, areas, gate))
+    let mut source = MemSource::new(input.to_vec(alloc)?, 64, faults[..1].to_vec(alloc)?);
+    let mut sink = MemSink::new(alloc, 4096, piece, faults[1..].to_vec(alloc)?)?;
+    let status = cover(rt, alloc, &all, &mut source, &mut sink, areas, gate);
+    Ok((status, sink.bytes().to_vec(alloc)?))
 }
 
-/// Serves the words over these areas and this gate, where a read gives 64 bytes: the status and the text.
+/// The same where none fails.
 pub fn serve_over<T: Threads + Wait + Sync, A: Areas, G: Gate + Sync>(
     rt: &T,
     alloc: Global,
@@ -55,17 +61,14 @@ pub fn serve_over<T: Threads + Wait + Sync, A: Areas, G: Gate + Sync>(
 ) -> Result<(Status, Vec<u8>), Fail>
     requires room { A.made areas.old < 2 ^ 61 }
 {
-    let mut source = MemSource::new(input.to_vec(alloc)?, 64, Vec::new(alloc));
-    let mut sink = MemSink::new(alloc, 4096, 4096, Vec::new(alloc)).map_err(|_| "memory")?;
-    let status = status_for(rt, alloc, words, &mut source, &mut sink, areas, gate)?;
-    Ok((status, sink.bytes().to_vec(alloc)?))
+    serve_with(rt, alloc, words, input, 4096, [0, 0], areas, gate)
 }
 
 /// Whether the words have this status and this text without areas, on the job of a count.
 fn is_told(alloc: Global, words: &str, number: u8, text: &[u8]) -> Result<bool, Fail> {
     let all = words_of(alloc, words)?;
     let mut source = MemSource::new(job_of(alloc, "COUNT", FROM_3)?, 64, Vec::new(alloc));
-    let mut sink = MemSink::new(alloc, 4096, 4096, Vec::new(alloc)).map_err(|_| "memory")?;
+    let mut sink = MemSink::new(alloc, 4096, 4096, Vec::new(alloc))?;
     let status = cover_one(alloc, &all, &mut source, &mut sink);
     Ok(status.0 == number && sink.bytes() == text)
 }
@@ -88,7 +91,7 @@ fn is_served_surely<T: Threads + Wait + Sync>(
     let all = words_of(alloc, words)?;
     let mut source = SureSource::new(job_of(alloc, "COUNT", FROM_3)?, 64);
     let mut sink = SureSink::new();
-    let mut areas = SharedAreas::new(alloc, 2).map_err(|_| "memory")?;
+    let mut areas = SharedAreas::new(alloc, 2)?;
     let status = cover(
         rt,
         alloc,
@@ -101,7 +104,7 @@ fn is_served_surely<T: Threads + Wait + Sync>(
     let is_made = areas.ledger().len() > 0;
     Ok(
         status.0 == number
-            && is_made == is_last(areas.ledger(), counts)
+            && is_made == are_last(&counts_of(areas.ledger()), counts)
             && is_made != (counts == ""),
     )
 }
