@@ -284,7 +284,9 @@ fn passes_share_the_sets(rt: HostRuntime) -> Result<(), Fail> {
     let plan = branch_and_return(rt.alloc())?;
     let mut areas = SharedAreas::new(rt.alloc(), 1)?;
     let (shown, branch, back) = in_turn(rt.alloc(), &mut areas, &plan)?;
-    assert!(rt; branch && back && shown == [(true, false), (true, true), (false, false), (true, true)]);
+    assert!(rt;
+        branch && back && shown == [(true, false), (true, true), (false, false), (true, true)]
+    );
     assert!(rt; are_tallies(areas.ledger(), &[[2, 4, 3, 2, 0]]));
     assert!(rt; areas.finals().len() == 1 && areas.made() == 1);
     let mut areas = SharedAreas::new(rt.alloc(), 1)?;
@@ -292,7 +294,13 @@ fn passes_share_the_sets(rt: HostRuntime) -> Result<(), Fail> {
     assert!(rt; are_tallies(areas.ledger(), &[[1, 2, 2, 1, 0]]));
     let mut areas = SharedAreas::new(rt.alloc(), 1)?;
     let found = step_by_step(rt.alloc(), &mut areas, &plan)?;
-    assert!(rt; found == Some(([(false, false), (false, false), (false, true)], (true, true))));
+    assert!(rt;
+        found
+            == Some((
+                [(false, false), (false, false), (false, true)],
+                (true, true)
+            ))
+    );
     Ok(())
 }
 

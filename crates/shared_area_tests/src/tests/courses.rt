@@ -98,13 +98,48 @@ fn in_area<A: Areas>(
 /// The courses; at which of the three instructions the sessions have the run in the end; and how many plants, fetches, marks,
 /// lifts and closes there were.
 static COURSES: [(Course, [bool; 3], [bool; 3], [u64; 5]); 7] = [
-    (Course::Late(Order::MarkAfterClose, 2, 0x4110), [true, false, false], [false; 3], [1, 2, 1, 1, 1]),
-    (Course::Late(Order::MarkAfterPlant, 3, 0x0AFF), [true, false, false], [false; 3], [2, 2, 1, 1, 1]),
-    (Course::Late(Order::LiftAfterClose, 2, 0x4110), [true, false, false], [false; 3], [1, 2, 1, 1, 1]),
-    (Course::Late(Order::LiftAfterPlant, 3, 0x0AFF), [true, false, false], [false; 3], [2, 2, 1, 1, 1]),
-    (Course::TwoLate, [true, false, false], [true, false, false], [2, 4, 2, 2, 1]),
-    (Course::ThroughTwoSessions, [true, false, false], [false, true, true], [6, 4, 3, 2, 6]),
-    (Course::BehindTheClose, [true, false, false], [false; 3], [3, 1, 1, 0, 3]),
+    (
+        Course::Late(Order::MarkAfterClose, 2, 0x4110),
+        [true, false, false],
+        [false; 3],
+        [1, 2, 1, 0, 1],
+    ),
+    (
+        Course::Late(Order::MarkAfterPlant, 3, 0x0AFF),
+        [true, false, false],
+        [false; 3],
+        [2, 2, 1, 0, 1],
+    ),
+    (
+        Course::Late(Order::LiftAfterClose, 2, 0x4110),
+        [true, false, false],
+        [false; 3],
+        [1, 2, 1, 0, 1],
+    ),
+    (
+        Course::Late(Order::LiftAfterPlant, 3, 0x0AFF),
+        [true, false, false],
+        [false; 3],
+        [2, 2, 1, 0, 1],
+    ),
+    (
+        Course::TwoLate,
+        [true, false, false],
+        [true, false, false],
+        [2, 4, 2, 1, 1],
+    ),
+    (
+        Course::ThroughTwoSessions,
+        [true, false, false],
+        [false, true, true],
+        [6, 4, 3, 2, 6],
+    ),
+    (
+        Course::BehindTheClose,
+        [true, false, false],
+        [false; 3],
+        [3, 1, 1, 0, 3],
+    ),
 ];
 
 #[test]
@@ -114,7 +149,10 @@ fn courses_of_three_tasks(rt: HostRuntime) -> Result<(), Fail> {
         let (course, first, second, counts) = COURSES[n];
         let mut areas = SharedAreas::new(rt.alloc(), 1)?;
         let found = in_area(rt.alloc(), &mut areas, &plan, course)?;
-        assert!(rt; found == (true, first, second) && are_tallies(areas.ledger(), &[counts]), "{n}");
+        assert!(rt;
+            found == (true, first, second) && are_tallies(areas.ledger(), &[counts]),
+            "{n}"
+        );
     }
     Ok(())
 }

@@ -102,7 +102,11 @@ fn visits<C: Cells>(cells: &C, pass: &mut C::Pass, place: PlaceNo) -> Option<(bo
 pub(crate) type Through = (Late, (bool, bool), (bool, bool));
 
 /// The task comes to its end, and session 2 is closed behind it.
-pub(crate) fn to_the_end<C: Cells>(cells: &C, control: &mut C::Pass, pass: &mut C::Pass) -> Option<Through>
+pub(crate) fn to_the_end<C: Cells>(
+    cells: &C,
+    control: &mut C::Pass,
+    pass: &mut C::Pass,
+) -> Option<Through>
     requires area { C.is_pass cells.now control.old × C.is_pass cells.now pass.old }
     requires control { IsPassFor 1 (2 ^ 8) (C.notes control.old) }
     requires pass { IsAtWork (C.notes pass.old) }
