@@ -11,8 +11,12 @@ use std::test::Fail;
 fn has_code(job: &Job) -> bool {
     job.images.0.len() == 1
         && job.images.0[0].bytes.len() == 1874
-        && job.images.0[0].bytes.starts_with(&[0x41, 0x10, 0x10, 0x0E, 0x41, 0x10, 0x10, 0x02])
-        && job.images.0[0].bytes.ends_with(&[0x46, 0x30, 0xF0, 0x00, 0x07, 0xFE])
+        && job.images.0[0]
+            .bytes
+            .starts_with(&[0x41, 0x10, 0x10, 0x0E, 0x41, 0x10, 0x10, 0x02])
+        && job.images.0[0]
+            .bytes
+            .ends_with(&[0x46, 0x30, 0xF0, 0x00, 0x07, 0xFE])
 }
 
 /// So many lines of the listing, and behind each number the line of that number.
