@@ -3,9 +3,6 @@
 
 use super::jobs::job_of;
 use super::serving::serve_with;
-use cov_outside::OpenGate;
-use coverage_commands::Status;
-use shared_area::SharedAreas;
 use std::alloc::Global;
 use std::sync::Wait;
 use std::test::Fail;
@@ -457,18 +454,8 @@ fn serve_faulty<T: Threads + Wait + Sync>(
     row: &Row,
     read: u64,
     write: u64,
-) -> Result<(Status, Vec<u8>), Fail> {
-    let mut areas = SharedAreas::new(alloc, 2)?;
-    serve_with(
-        rt,
-        alloc,
-        row.words,
-        &row.input,
-        WRITE,
-        [read, write],
-        &mut areas,
-        &OpenGate,
-    )
+) -> Result<(u8, Vec<u8>), Fail> {
+    serve_with(rt, alloc, row.words, &row.input, WRITE, [read, write])
 }
 
 /// A failure at a row's call of a number.
@@ -487,9 +474,9 @@ fn is_read<T: Threads + Wait + Sync>(
 ) -> Result<bool, Fail> {
     let (status, bytes) = serve_faulty(rt, alloc, row, n, 0)?;
     Ok(if has_read {
-        status.0 == 5 && bytes.as_slice() == b"READ FAULT\n".as_slice()
+        status == 5 && bytes.as_slice() == b"READ FAULT\n".as_slice()
     } else {
-        status.0 == row.status
+        status == row.status
     })
 }
 
@@ -519,7 +506,7 @@ fn length_at<T: Threads + Wait + Sync>(
     } else {
         6
     };
-    if status.0 == wanted && whole.starts_with(&bytes) {
+    if status == wanted && whole.starts_with(&bytes) {
         return Ok(Some(bytes.len()));
     }
     Ok(None)
@@ -556,7 +543,7 @@ fn wrong_write<T: Threads + Wait + Sync>(
 /// Each write fails in turn, and none.
 fn check_writes<T: Threads + Wait + Sync>(rt: &T, alloc: Global, row: &Row) -> Result<(), Fail> {
     let (status, whole) = serve_faulty(rt, alloc, row, 0, 0)?;
-    if status.0 != row.status {
+    if status != row.status {
         return Err(fail_at(row, "no write", 0));
     }
     match wrong_write(rt, alloc, row, &whole)? {
@@ -568,7 +555,7 @@ fn check_writes<T: Threads + Wait + Sync>(rt: &T, alloc: Global, row: &Row) -> R
 /// Whether nothing comes where the first read and the first write fail.
 fn check_both<T: Threads + Wait + Sync>(rt: &T, alloc: Global, row: &Row) -> Result<(), Fail> {
     let (status, bytes) = serve_faulty(rt, alloc, row, 1, 1)?;
-    if status.0 == 6 && bytes.is_empty() {
+    if status == 6 && bytes.is_empty() {
         return Ok(());
     }
     Err(fail_at(row, "both", 1))

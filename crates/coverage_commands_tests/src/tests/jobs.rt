@@ -25,31 +25,6 @@ LISTING 3\n\
 000004 07FE                           2          BR\n\
 PHASE P\n";
 
-/// A branch that depends on register 1.
-const BRANCH: &str = "\
-COVERJOB 1\n\
-MODULE M 100000 10\n\
-TEXT 12114780F008182207FE\n\
-LISTING 5\n\
-\x20 Loc  Object Code    Addr1 Addr2  Stmt   Source Statement\n\
-000000 1211                           1          LTR\n\
-000002 4780 F008                      2          BE\n\
-000006 1822                           3          LR\n\
-000008 07FE                           4          BR\n\
-PHASE P\n";
-
-/// EX of EX.
-const EXECUTE: &str = "\
-COVERJOB 1\n\
-MODULE M 100000 10\n\
-TEXT 4400F0044400F00007FE\n\
-LISTING 4\n\
-\x20 Loc  Object Code    Addr1 Addr2  Stmt   Source Statement\n\
-000000 4400 F004                      1          EX\n\
-000004 4400 F000                      2          EX\n\
-000008 07FE                           3          BR\n\
-PHASE P\n";
-
 /// A session, a task of it, and the end.
 pub const ALONE: &str = "\
 SESSION S M\n\
@@ -69,22 +44,9 @@ fn front(name: &str) -> &'static str {
         LOAD
     } else if name == "COUNT" {
         COUNT
-    } else if name == "BRANCH" {
-        BRANCH
-    } else if name == "EXECUTE" {
-        EXECUTE
     } else {
         ""
     }
-}
-
-/// The texts, one behind the other.
-pub fn joined(alloc: Global, texts: &[&str]) -> Result<Vec<u8>, Fail> {
-    let mut all = Vec::new(alloc);
-    for text in texts {
-        all.extend_from_slice(text.as_bytes())?;
-    }
-    Ok(all)
 }
 
 /// The job of the program of this name and of these lines.

@@ -1,11 +1,10 @@
 //! Words that are served over areas, and without them.
-ghost use Rattle.std.specs.Prelude.{◌<◌, ◌^◌};
+ghost use Rattle.std.specs.Prelude.{◌<◌};
 
 use super::jobs::{FROM_3, job_of};
-use super::order::{are_last, counts_of};
-use cov_outside::{Gate, MemSink, MemSource, OpenGate, SureSink, SureSource};
-use coverage_commands::{Status, cover, cover_one};
-use module_area::Areas;
+use cov_outside::{MemSink, MemSource, OpenGate, SureSink, SureSource};
+use coverage_commands::{cover, cover_one};
+use module_area::{Areas, Tally};
 use shared_area::SharedAreas;
 use std::alloc::Global;
 use std::sync::Wait;
@@ -28,40 +27,32 @@ fn words_of(alloc: Global, words: &str) -> Result<Vec<String>, Fail> {
     Ok(all)
 }
 
-/// Serves the words over these areas and this gate, where a read gives 64 bytes and a write takes so many, and one of each fails, 0
-/// for none: the status and the text.
-pub fn serve_with<T: Threads + Wait + Sync, A: Areas, G: Gate + Sync>(
+/// Serves the words over these areas, where a read gives 64 bytes and a write takes so many, and one of each fails, 0 for none: the
+/// status and the text.
+pub fn serve_with<T: Threads + Wait + Sync>(
     rt: &T,
     alloc: Global,
     words: &str,
     input: &[u8],
     piece: usize,
     faults: [u64; 2],
-    areas: &mut A,
-    gate: &G,
-) -> Result<(Status, Vec<u8>), Fail>
-    requires room { A.made areas.old < 2 ^ 61 }
-    requires piece { 0 < piece }
+) -> Result<(u8, Vec<u8>), Fail>
+    requires { 0 < piece }
 {
     let all = words_of(alloc, words)?;
+    let mut areas = SharedAreas::new(alloc, 2)?;
     let mut source = MemSource::new(input.to_vec(alloc)?, 64, faults[..1].to_vec(alloc)?);
     let mut sink = MemSink::new(alloc, 4096, piece, faults[1..].to_vec(alloc)?)?;
-    let status = cover(rt, alloc, &all, &mut source, &mut sink, areas, gate);
-    Ok((status, sink.bytes().to_vec(alloc)?))
-}
-
-/// The same where none fails.
-pub fn serve_over<T: Threads + Wait + Sync, A: Areas, G: Gate + Sync>(
-    rt: &T,
-    alloc: Global,
-    words: &str,
-    input: &[u8],
-    areas: &mut A,
-    gate: &G,
-) -> Result<(Status, Vec<u8>), Fail>
-    requires room { A.made areas.old < 2 ^ 61 }
-{
-    serve_with(rt, alloc, words, input, 4096, [0, 0], areas, gate)
+    let status = cover(
+        rt,
+        alloc,
+        &all,
+        &mut source,
+        &mut sink,
+        &mut areas,
+        &OpenGate,
+    );
+    Ok((status.0, sink.bytes().to_vec(alloc)?))
 }
 
 /// Whether the words have this status and this text without areas, on the job of a count.
@@ -79,14 +70,28 @@ fn runs_nothing_and_lists_places_without_areas(rt: HostRuntime) -> Result<(), Fa
     Ok(())
 }
 
-/// Whether the words have this status on the job of a count over devices that never fail, and the last area these counts; no
-/// area is made where there are none.
+/// Whether one area was finished, of so many plants, fetches, marks, lifts and closes.
+fn is_only_tally(tallies: &[Tally], counts: &[u64; 5]) -> bool {
+    match tallies {
+        [tally] => {
+            tally.plants == counts[0]
+                && tally.fetches == counts[1]
+                && tally.marks == counts[2]
+                && tally.lifts == counts[3]
+                && tally.closes == counts[4]
+        }
+        _ => false,
+    }
+}
+
+/// Whether the words have this status on the job of a count over devices that never fail, and the one area these counts; no area is
+/// made where there are none.
 fn is_served_surely<T: Threads + Wait + Sync>(
     rt: &T,
     alloc: Global,
     words: &str,
     number: u8,
-    counts: &str,
+    counts: &Option<[u64; 5]>,
 ) -> Result<bool, Fail> {
     let all = words_of(alloc, words)?;
     let mut source = SureSource::new(job_of(alloc, "COUNT", FROM_3)?, 64);
@@ -101,17 +106,16 @@ fn is_served_surely<T: Threads + Wait + Sync>(
         &mut areas,
         &OpenGate,
     );
-    let is_made = areas.ledger().len() > 0;
-    Ok(
-        status.0 == number
-            && is_made == are_last(&counts_of(areas.ledger()), counts)
-            && is_made != (counts == ""),
-    )
+    let is_so = match counts {
+        Some(counts) => is_only_tally(areas.ledger(), counts),
+        None => areas.ledger().len() == 0,
+    };
+    Ok(status.0 == number && is_so)
 }
 
 #[test]
 fn runs_over_devices_that_never_fail(rt: HostRuntime) -> Result<(), Fail> {
-    assert!(rt; is_served_surely(&rt, rt.alloc(), "run", 0, "2 4 4 2 0")?);
-    assert!(rt; is_served_surely(&rt, rt.alloc(), "runs", 1, "")?);
+    assert!(rt; is_served_surely(&rt, rt.alloc(), "run", 0, &Some([2, 4, 4, 2, 0]))?);
+    assert!(rt; is_served_surely(&rt, rt.alloc(), "runs", 1, &None)?);
     Ok(())
 }

@@ -312,7 +312,8 @@ impl<'a, A: Areas> Areas for NotedAreas<'a, A> {
 }
 
 /// What came of words: the status and the text; the calls on the area that was finished last, and its plants, fetches, marks, lifts
-/// and closes; how often the first task has arrived, the second and others; and how many boundaries those have made that aren't held.
+/// and closes; how often the first task has arrived, the second and others; and how many boundaries those have made that aren't
+/// held.
 #[derive(Drop)]
 pub struct Came {
     pub status: u8,
@@ -344,7 +345,7 @@ pub fn came_of<T: Threads + Wait + Sync>(
         calls,
     } = areas;
     Ok(Came {
-        status: status.0,
+        status,
         text,
         calls,
         counts,

@@ -117,7 +117,7 @@ fn meet<T: Threads + Wait + Sync>(rt: &T, alloc: Global, line: &str) -> Result<b
     let job = job_of(alloc, "BRANCH", lines_of(name))?;
     let mut areas = SharedAreas::new(alloc, 1)?;
     let (status, _) = serve_over(rt, alloc, words, &job, &mut areas, &gate)?;
-    Ok(status.0 == 0 && gate.met.load(Ordering::SeqCst) == tasks)
+    Ok(status == 0 && gate.met.load(Ordering::SeqCst) == tasks)
 }
 
 #[test]
