@@ -228,7 +228,11 @@ def faults() -> None:
     ):
         refused(middle(text), status, line, code, 8)
     refused([HEADING, load.replace("0005", "0006")], 3, "MISMATCH M LINE 2 LOC 000000 LISTING 41100006 MODULE 41100005", code, 8)
-    says([HEADING, back, f"{'000002':<38}2 X        DS    F", load, add], {1: 6, 3: 0, 4: 4}, code, 8)
+    mixed = [HEADING, back, f"{'000002':<38}2 X        DS    F", load, add]
+    says(mixed, {1: 6, 3: 0, 4: 4}, code, 8)
+    # The task begins at the second of them: each line has the mark of its own place.
+    listing = run([PROGRAM, "run"], job(mixed, code, 8, "TASK A 100004 0 9 0\n")).output.decode().split("\n")[7:12]
+    equal(listing, [f"{mark} {it}" for mark, it in zip(" : ^:", mixed)])
     many = listing_of([(2 * at, "1A11", "AR") for at in range(65_537)])
     refused(many, 4, "TOO LARGE PLACES M LINE 65538", {0: "1A11" * 65_537}, 2 * 65_537)
 
