@@ -63,15 +63,17 @@ def two_phases() -> Case:
 
 
 def controllers() -> Case:
-    """Three sessions, of which the later two have the last of three tasks as their controller, and the first has none."""
+    """Three sessions, of which the later two have the last of three tasks as their controller, and the first has none. It opens one
+    after the other, and goes through the module from another instruction on under each."""
     front = FIRST.job().partition(b"PHASE P")[0].decode() + "MODULE N 100008 2\nTEXT 07FE\nMODULE BY 100010 2\nTEXT 07FE\n"
-    tasks = "TASK B 000000 16 9 0\nDATA 0 07FE\n" + task("REG 1 00100000 / REG 13 00FFFFFE / DATA 0 0A0445E010000A0507FD", "TASK C 000000 16 9 0\n")
+    calls = "REG 2 00100000 / REG 13 00FFFFFE / DATA 0 0A0445E020000A050A0445E020040A0507FD"
+    tasks = "TASK B 000000 32 9 0\nDATA 0 07FE\n" + task(calls, "TASK C 000000 32 99 0\n")
     job = f"{front}PHASE P\nSESSION S N\nTASK A 000000 0 1 0\nPHASE Q\nSESSION R BY C M\nSESSION U BY C M N\n{tasks}ENDJOB\n"
-    ended = Result("RETURNED", 7, 2, {1: 10, 13: 0xFFFFFE, 14: 0x80000006}, name="C", entry=0)
+    ended = Result("RETURNED", 12, 2, {1: 20, 2: 0x100000, 13: 0xFFFFFE, 14: 0xA000000E}, name="C", entry=0)
     results = [Result("ABEND 5", 1, entry=0), Result("RETURNED", 1, name="B", entry=0), ended]
     none = "MODULE N PLACES 0 EXECUTED 0 FACTS 0 OF 0"
     lines = [*(line for it in results for line in it.lines()), "SESSION S PHASE P", none, "SESSION R PHASE Q", *FIRST.session(":::", 3)[1:]]
-    lines += ["SESSION U PHASE Q", *FIRST.session("^^^", 3, ("000000-000007",))[1:], none]
+    lines += ["SESSION U PHASE Q", *FIRST.session("^::", 3, ("000000-000003",))[1:], none]
     return Case("controllers that were read", ["run"], job.encode(), "\n".join(["COVERAGE REPORT", *lines, "END", ""]).encode())
 
 
