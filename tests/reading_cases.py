@@ -98,9 +98,12 @@ def cases() -> list[Case]:
 
 
 def ends() -> None:
-    """reading: inputs that end behind ENDJOB, before it and within it, whole, in two pieces cut at each byte, and byte by byte"""
+    """reading: inputs that end behind ENDJOB, before it and within it, whole, in two pieces cut at each byte, in small ones"""
     def pieces(data: bytes) -> list[list[bytes]]:
-        return [[data[:at], data[at:]] for at in range(1, len(data))] + [[data[at : at + 1] for at in range(len(data))]]
+        # Byte by byte, in pieces of 64 bytes, and in these behind a first one that is shorter.
+        sizes = ((1, 1), (64, 64), (27, 64))
+        small = [[data[:first], *(data[at : at + size] for at in range(first, len(data), size))] for first, size in sizes]
+        return [[data[:at], data[at:]] for at in range(1, len(data))] + small
 
     for data, first, status in ENDS:
         ran = run([PROGRAM, "run"], data)
@@ -111,6 +114,12 @@ def ends() -> None:
         equal(answer(["run"], data).fault(ran.status, ran.output), None)
         with ThreadPoolExecutor(os.cpu_count()) as pool:
             equal(set(pool.map(lambda it: came_of_pieces(["run"], it), pieces(data))), {(0, ran.output)})
+    # What stands behind a job is kept from wherever it begins in a piece.
+    data = FIRST.job() + b"FETCH A\nMARK A\nLIFT A\nDO A\nGO A\nENDSCHED\n"
+    ran = run([PROGRAM, "replay"], data)
+    equal(answer(["replay"], data).fault(ran.status, ran.output), None)
+    with ThreadPoolExecutor(os.cpu_count()) as pool:
+        equal(set(pool.map(lambda it: came_of_pieces(["replay"], it), pieces(data))), {(0, ran.output)})
 
 
 def items() -> None:
