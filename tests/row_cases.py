@@ -10,11 +10,12 @@ In the text a line as `task A RETURNED COUNT 3 CC 2 regs 1=0000000A` is the line
 that aren't named are as those of a task that begins at X'100000'. One as `session S PHASE P marks :^ EXECUTED 1 FACTS 1 OF 2`, with a
 mark for each instruction, is the session's line, the module's and the annotated listing. Every other line stands for itself.
 
-The other files have rows of words, an input and an output, behind `@row`, `@words`, `@input` and `@output`. There a line that begins
-with `%module` and instructions stands for the job's lines up to module M's last, with `%phase` for those up to its phase, with `%code`
-for those up to session S, with `%task` for the lines of a task, with `%marked` for module M's part of a listing (its instructions, and
-behind ` | ` the marks and how the module's line ends), with `%bytes` for these bytes, with `%bare` for a line without its LF, and with
-`%use` for the lines of the sample of that name, which stands before the rows or in samples.txt.
+codes.txt has codes alone, for tests/listing_cases.py. The other files have rows of words, an input and an output, behind `@row`,
+`@words`, `@input` and `@output`. There a line that begins with `%module` and instructions stands for the job's lines up to module
+M's last, with `%phase` for those up to its phase, with `%code` for those up to session S, with `%task` for the lines of a task,
+with `%marked` for module M's part of a listing (its instructions, and behind ` | ` the marks and how the module's line ends), with
+`%bytes` for these bytes, with `%bare` for a line without its LF, and with `%use` for the lines of the sample of that name, which
+stands before the rows or in samples.txt.
 """
 from __future__ import annotations
 
