@@ -1,4 +1,4 @@
-//! Tests of coverage_commands: jobs through `cover` under faults, gates and orders.
+//! Tests of coverage_commands: words through `cover` over memory and shared areas, under faults, and through `cover_one`.
 #![tactic(auto)]
 
 #[cfg(test)]

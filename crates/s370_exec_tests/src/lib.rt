@@ -1,4 +1,4 @@
-//! Tests of s370_exec: every operation against vectors from outside, and the parts of an instruction.
+//! Tests of s370_exec: every operation against vectors from outside, and the supervisor call that a step executes.
 #![tactic(auto)]
 
 #[cfg(test)]

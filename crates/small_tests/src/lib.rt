@@ -1,4 +1,4 @@
-//! Tests of smaller crates, a file or two for each.
+//! Tests of smaller crates, a file for each.
 #![tactic(auto)]
 
 #[cfg(test)]
