@@ -10,6 +10,8 @@ from jobs import FIRST, FIRST_RESULT, OPENED_JOB, OPENED_REPLAY, TASK, Program, 
 from row_cases import came_of_pieces
 
 BRANCHED = Program.of("0 1211 LTR, 2 4780F008 BE, 6 1822 LR, 8 07FE BR")
+# Two calls, and the routines that answer them.
+CALLING = Program.of("0 0A00 SVC, 2 0AFE SVC, 4 07FE BR, 6 41100007 LA, A 07FE BR, C 41000009 LA, 10 07FE BR")
 # GET of eight bytes to X'10', and a load of what stands at 4.
 TAKING = Program.of("0 0A02 SVC, 2 58300004 L, 6 07FE BR")
 # A listing with print control characters and lines that end with CR and LF.
@@ -86,6 +88,8 @@ def cases() -> list[Case]:
     two = two.replace(b"TEXT 12114780F008182207FE", b"TEXT 12114780F00818\nTEXT 2207fe")
     results = [Result("RETURNED", 3, 0), Result("RETURNED", 4, 2, {1: 1}, name="B")]
     served = b"COVERJOB 1\nSERVICE 10 000006\nENDJOB\n"
+    answered = CALLING.job().replace(b"PHASE P", b"SERVICE 0 100006\nSERVICE 254 10000c\nPHASE P")
+    came = Result("RETURNED", 7, 0, {0: 9, 1: 7, 15: 0x10000C})
     return [
         Case("one task that was read", ["run"], FIRST.job(both), FIRST.report([Result("RETURNED", 3, 2, {0: 10, 1: 10, 15: 0xFEDCBA98})], ":::", 3)),
         Case("no task that was read", ["run"], FIRST.job(""), FIRST.report([], "^^^", 3, "000000-000007")),
@@ -94,6 +98,7 @@ def cases() -> list[Case]:
         Case("data and input in their order", ["run"], TAKING.job(data), TAKING.report([taken], ":::", 3)),
         controllers(),
         Case("services without a module", ["services", "run"], served, b"COVERAGE REPORT\nEND\n"),
+        Case("services, each with its own entry", ["services", "run"], answered, CALLING.report([came], ":::::::", 7)),
     ]
 
 
