@@ -1,6 +1,6 @@
 -- Instructions that are decoded one after the other, and those from one place on, of which one is found at an address.
 use Rattle.std.proofs.Common.{◌≡◌, ◌≢◌, ◌==◌, inl, inr, ℕ, ◌+◌, ◌-◌, ◌<◌, ◌≤◌, Bool, true, false, if◌then◌else◌, List, [], ◌∷◌, ◌++◌, length, get_or, drop, refl, ap, subst, sym, ◌∙◌, arith, length-append}
-use Rattle.std.proofs.lemmas.Bool.{cases_lt}
+use Rattle.std.proofs.lemmas.Bool.{cases_lt, eqb-true, eqb-false}
 use Rattle.std.proofs.lemmas.List.{length-drop, get_or-drop, get_or_append_left, get_or-append_right, drop-drop}
 use Rattle.cov_base.specs.declared.constants.TheConstants.{RETURN_ADDRESS}
 use Rattle.s370_decode.specs.declared.code.Code.{Code}
@@ -70,6 +70,31 @@ is_there tables kept k n i a from placed most head small key =
 pub first_there : (tables : TablesView) (kept : List Kept) (k : Kept) (n a : ℕ) → AreFrom tables n kept → AreAtPlaces tables → n ≤ length tables.places → a < 16777216 → (get_or kept 0 k).key ≡ a → IsThere tables n a
 first_there tables kept k n a from placed most small key =
     subst (λ (i : ℕ). IsThere tables i a) (let e : n + 0 ≡ n = omega arith in e) (is_there tables kept k n 0 a from placed most (omega arith) small key)
+
+-- what is equal is found so
+pub found_equal : (b : Bool) (x y : ℕ) → (x == y) ≡ b → x ≡ y → b ≡ true
+found_equal true x y e is = refl
+found_equal false x y e is = absurd (eqb-false x y e is)
+
+key_at : (b : Bool) (at a : ℕ) → (at == RETURN_ADDRESS) ≡ b → at ≡ a → a ≢ RETURN_ADDRESS → (if b then 16777216 else at) ≡ a
+key_at true at a e is on = absurd (on (sym is ∙ eqb-true at RETURN_ADDRESS e))
+key_at false at a e is on = is
+
+-- one that is there has the address as its key
+pub key_there : (tables : TablesView) (kept : List Kept) (k : Kept) (n i a : ℕ) → AreFrom tables n kept → AreAtPlaces tables → IsThere tables (n + i) a → (get_or kept i k).key ≡ a
+key_there tables kept k n i a from placed there =
+    let left = length-drop n tables.codes in
+    let size = placed.count in
+    let exists = there.exists in
+    let first : Kept = get_or kept i k in
+    let c : Code = first.decoded.code in
+    let code : get_or tables.codes (n + i) c ≡ c = sym (get_or-drop n tables.codes i c) ∙ sym (from.each i c k (omega arith)) in
+    let at : c.at ≡ a = sym (ap (λ (x : Code). x.at) code) ∙ (placed.each (n + i) c exists ∙ there.begins) in
+    first.keyed ∙ key_at (c.at == RETURN_ADDRESS) c.at a refl at there.goes_on
+
+pub key_from : (tables : TablesView) (kept : List Kept) (k : Kept) (n a : ℕ) → AreFrom tables n kept → AreAtPlaces tables → IsThere tables n a → (get_or kept 0 k).key ≡ a
+key_from tables kept k n a from placed there =
+    key_there tables kept k n 0 a from placed (subst (λ (i : ℕ). IsThere tables i a) (let e : n ≡ n + 0 = omega arith in e) there)
 
 -- the same from a later one on
 decoded_from : (codes : List Code) (kept : List Kept) (n : ℕ) → AreDecoded codes kept → n ≤ length codes → AreDecoded (drop n codes) (drop n kept)

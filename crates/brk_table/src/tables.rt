@@ -177,26 +177,28 @@ impl Tables {
         Some(PlaceNo(entry - 1))
     }
 
-    /// True only where the place behind that of number `last` begins at the address, and a task doesn't return there, by the
-    /// instructions from `last` on. Found by one load: it is mostly the next one that a task comes to.
+    /// Whether the place behind that of number `last` begins at the address, and a task doesn't return there, by the instructions
+    /// from `last` on. Found by one load: it is mostly the next one that a task comes to.
     #[inline(always)]
     pub fn comes_next(&self, last: u32, kept: &[Kept], a: Addr) -> bool
         requires codes { AreAtPlaces self.now }
         requires last { last ≤ length self.now.places }
         requires kept { AreFrom self.now last kept.now }
         ensures there { IsTrue result → IsThere self.now (last + 1) a }
+        ensures found { IsThere self.now (last + 1) a → IsTrue result }
         ensures places { ArePlaces self.now.places }
     {
         let _ = &self.kept;
         kept[1].key == a.get()
     }
 
-    /// The instructions from place n on, only where that is a place which begins at the address, and a task doesn't return there.
+    /// The instructions from place n on, where that is a place which begins at the address, and a task doesn't return there.
     #[inline(always)]
     pub fn kept_at(&self, n: u32, a: Addr) -> Option<&[Kept]>
         requires codes { AreAtPlaces self.now }
         requires n { n ≤ length self.now.places }
         ensures there { IsSome result → IsThere self.now n a }
+        ensures found { IsThere self.now n a → IsSome result }
         ensures from { IfSome result (λ kept. AreFrom self.now n kept.now) }
         ensures places { ArePlaces self.now.places }
     {
