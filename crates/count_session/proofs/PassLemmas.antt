@@ -1,5 +1,5 @@
 -- Passes split off, counted with and joined, and the counts of a phase.
-use Rattle.std.proofs.Common.{◌≡◌, ◌≢◌, ◌⊎◌, inl, inr, ℕ, ◌+◌, ◌<◌, Bool, true, false, nat_lt, if◌then◌else◌, List, [], ◌∷◌, ◌++◌, length, get_or, map, IfOk, refl, sym, ◌∙◌, ap, subst, arith}
+use Rattle.std.proofs.Common.{◌≡◌, inl, inr, ℕ, ◌+◌, ◌<◌, true, nat_lt, if◌then◌else◌, List, [], ◌∷◌, ◌++◌, length, get_or, IfOk, refl, sym, ◌∙◌, ap, subst, arith}
 use Rattle.std.proofs.lemmas.Bool.Decides.{nat_tests}
 use Rattle.std.proofs.lemmas.List.{get_or_append_left, length-append}
 use Rattle.std.proofs.Math.Seq.{get_or-append_seam}
@@ -14,7 +14,7 @@ use Rattle.module_area.specs.declared.places.Place.{Place}
 use Rattle.task_run.specs.Steps.{memory_at}
 use Rattle.task_services.specs.Meaning.{course_of}
 use Rattle.session_book.specs.Meaning.{JobView, task_of}
-use Rattle.phase_plan.specs.Meaning.{traces_from, plan_view}
+use Rattle.phase_plan.specs.Meaning.{plan_view}
 use Rattle.job_run.specs.Crews.{all_tasks, phase_at}
 use Rattle.job_run.specs.Meaning.{result_of_run, trace_by}
 use Rattle.job_run.specs.Tasks.{HasNotRun, IsEnded, done_result, own_run}
@@ -25,7 +25,7 @@ use Rattle.count_session.specs.Counting.{Adds}
 use Rattle.count_session.specs.Notes.{CountNotes, root_notes}
 use Rattle.count_session.specs.Passes.{IsPassOf, notes_of, plan_in}
 use Rattle.count_session.specs.Phases.{IsCounted, AreCounted, IsFresh, HasCounted, HasJoined, traces_of}
-use Rattle.count_session.specs.Tallied.{HasCounts, count_in}
+use Rattle.count_session.specs.Tallied.{HasCounts}
 use Rattle.count_session.specs.declared.cells.CountCells.{CountCells}
 use Rattle.count_session.specs.declared.counts.PlaceCount.{PlaceCount}
 use Rattle.count_session.specs.declared.pass.CountPass.{CountPass}

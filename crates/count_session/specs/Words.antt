@@ -1,10 +1,8 @@
 -- How a cell lies in its word, and where the words lie: first a cell for each place, then two counts for each.
-use Rattle.std.specs.Prelude.{ℕ, ◌+◌, ◌-◌, ◌*◌, ◌/◌, ◌%◌, nat_eq, if◌then◌else◌, List, length, map, replicate, ◌++◌}
+use Rattle.std.specs.Prelude.{ℕ, ◌+◌, ◌-◌, ◌*◌, nat_eq, if◌then◌else◌, length}
 use Rattle.cov_base.specs.Meaning.{breakpoint}
 use Rattle.cov_base.specs.declared.facts.Fact.{Fact}
 use Rattle.cov_base.specs.declared.facts.Fact.TheVariants.{Ran, Went, Stayed}
-use Rattle.module_area.specs.declared.cells.Cell.{Cell}
-use Rattle.module_area.specs.declared.places.Place.{Place}
 use Rattle.module_area.specs.Meaning.{PlanView}
 
 -- the word of the breakpoint of session s

@@ -25,7 +25,6 @@ use Rattle.job_text.specs.Meaning.{lines_of}
 use Rattle.job_text.specs.declared.grammar.Grammar.{Grammar}
 use Rattle.job_text.specs.declared.grammar.Grammar.TheVariants.{Plain}
 use Rattle.evidence_check.specs.Meaning.{evidence}
-use Rattle.early_report.specs.Meaning.{others}
 use Rattle.cov_outside.specs.declared.whole.ReadFault.{ReadFault}
 use Rattle.count_session.specs.Meaning.{session_count}
 use Rattle.job_gen.specs.Meaning.{trial_job}

@@ -1,5 +1,5 @@
 -- What the claim of the program says by this crate's clauses.
-use Rattle.std.specs.Prelude.{ℕ, ◌+◌, Bool, ◌&&◌, nat_eq, if◌then◌else◌, Option, None, option_map, List, [], ◌∷◌, Some, ◌++◌, codes, true, false, length, take, drop, zero, suc, nat_le, nat_lt, slice_index, ◌≡◌}
+use Rattle.std.specs.Prelude.{ℕ, ◌+◌, Bool, nat_eq, if◌then◌else◌, Option, None, option_map, List, [], ◌∷◌, Some, ◌++◌, codes, true, false, length, take, drop, zero, suc, nat_le, nat_lt, slice_index, ◌≡◌}
 use Rattle.std.specs.List.{find, flat_map, range_with_len}
 use Rattle.std.specs.Option.{option_or}
 use Rattle.cov_base.specs.Meaning.{FactSet, Visit}

@@ -1,5 +1,5 @@
 -- What the claim of the program says by this crate's clauses.
-use Rattle.std.specs.Prelude.{ℕ, ◌%◌, ◌-◌, nat_lt, ◌==◌, if◌then◌else◌, Bool, ℤ, pos, negsuc, ◌+◌, ◌*◌, ◌&&◌, ◌*ℤ◌, ◌^◌, Option, Some, None, neg_ℤ, ◌+ℤ◌, ◌-ℤ◌}
+use Rattle.std.specs.Prelude.{ℕ, ◌%◌, ◌-◌, nat_lt, ◌==◌, if◌then◌else◌, Bool, ℤ, pos, negsuc, ◌+◌, ◌&&◌, ◌*ℤ◌, ◌^◌, Option, Some, None, neg_ℤ, ◌+ℤ◌, ◌-ℤ◌}
 use Rattle.std.specs.Int.{cast_signed, w16, cast_unsigned, w64, int_div_euclid, is_negative}
 use Rattle.cov_base.specs.Meaning.{Machine, Memory}
 use Rattle.s370_state.specs.Meaning.{Outcome, Completes, Program, with_reg, Row, Overflows, reading, with_cc, reg, pair, with_pair, with_regs, at_once, storing, needing, on_data, from_register, from_word, to_storage, is_even, with_bytes, number, field_at, store_field, number_at, signed, order_code}

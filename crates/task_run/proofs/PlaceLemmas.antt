@@ -1,12 +1,10 @@
 -- The place that begins at an address.
-use Rattle.std.proofs.Common.{◌≡◌, ℕ, ◌<◌, ◌≤◌, false, Option, Some, None, List, length, refl, sym, ◌∙◌, arith, ◌≢◌}
-use Rattle.std.specs.Prelude.{IfSome, IsNone}
-use Rattle.cov_base.specs.declared.numbers.PlaceNo.{PlaceNo}
+use Rattle.std.proofs.Common.{◌≡◌, ℕ, ◌<◌, false, List, length, sym, ◌∙◌, ◌≢◌}
 use Rattle.module_area.specs.declared.places.Place.{Place}
 use Rattle.module_area.specs.Meaning.{is_place, place_of}
 use Rattle.brk_table.specs.Places.{ArePlaces}
 use Rattle.brk_table.proofs.Laws.{one_begins, is_place-there}
-use Rattle.task_run.specs.Sights.{BeginsAt, IsPlaced}
+use Rattle.task_run.specs.Sights.{BeginsAt}
 use Rattle.std.proofs.lemmas.Bool.{both_ways}
 
 pub begins_at : (places : List Place) (a p : ℕ) → ArePlaces places → p < length places → (place_of places p).at ≡ a → BeginsAt places a p

@@ -1,4 +1,4 @@
-use Rattle.std.proofs.Common.{◌≡◌, ℕ, ◌+◌, ◌∷◌, [], ◌++◌, List, length, sym, ◌∙◌, ap, subst, arith, length-append}
+use Rattle.std.proofs.Common.{ℕ, ◌∷◌, [], List, sym, ◌∙◌, ap, subst, arith, length-append}
 use Rattle.cov_base.specs.declared.numbers.TaskNo.{TaskNo}
 use Rattle.module_area.specs.Meaning.{place_of}
 use Rattle.job_run.specs.Crews.{PhaseView, all_tasks, phase_at, tasks_before}

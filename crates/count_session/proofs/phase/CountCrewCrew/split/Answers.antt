@@ -1,9 +1,8 @@
-use Rattle.std.proofs.Common.{◌≡◌, ℕ, ◌+◌, ◌∷◌, [], ◌++◌, List, length, sym, ◌∙◌, ap, subst, arith, length-append}
+use Rattle.std.proofs.Common.{ℕ, ◌∷◌, [], List, sym, ◌∙◌, ap, subst, arith, length-append}
 use Rattle.cov_base.specs.declared.numbers.TaskNo.{TaskNo}
 use Rattle.job_run.specs.Crews.{PhaseView, phase_at, tasks_before}
 use Rattle.job_run.proofs.Laws.{before_one, few_before}
 use Rattle.count_session.specs.Notes.{CountNotes}
-use Rattle.count_session.specs.Passes.{notes_of}
 use Rattle.count_session.specs.Phases.{HasJoined}
 use Rattle.count_session.proofs.phase.CountCrewCrew.split.Goals as goal
 
