@@ -24,7 +24,7 @@ from rooms import room
 
 OUT = f"{TOP}/out"
 PROGRAM, STAMP, SEEN, LOCK = (f"{OUT}/{it}" for it in ("coverage_program", "built", "seen", "lock"))
-HOW_LONG = "some twenty minutes on four processors"
+HOW_LONG = "a quarter of an hour or so on four processors"
 MEANWHILE = "./coverage try COMMAND .. answers within a minute or so, without proof"
 FAILED = 70
 

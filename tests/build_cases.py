@@ -43,7 +43,7 @@ echo "rt: ok"
 """
 LIBRARY, PROGRAM = "proved low, 1 of 2", "proved coverage_program, 2 of 2"
 # How long the first build takes, wherever it is said.
-HOW_LONG = "some twenty minutes on four processors"
+HOW_LONG = "a quarter of an hour or so on four processors"
 
 
 class Copy:
