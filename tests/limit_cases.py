@@ -8,6 +8,8 @@ from functools import lru_cache
 from answers import answer
 from harness import PROGRAM, equal, run
 from jobs import FIRST, Program, Result, task
+from phase_jobs import Module, Session, Task
+from phase_jobs import job as job_of
 
 PLACES, TASKS, INPUT = 65_536, 64, 16_777_216
 # How many places each task runs through.
@@ -165,6 +167,60 @@ def cards() -> None:
         equal((words, ran.status, wanted.fault(ran.status, ran.output)), (words, 0, None))
 
 
+SIZE, MODULES = 262_144, 16
+
+
+class Sparse(Module):
+    """A module of as many bytes as one may have, of whose instructions each sixteenth is a place."""
+
+    def located(self) -> list[tuple[int, str, str]]:
+        return [(at, "41100000", "LA") for at in range(0, SIZE, 64)]
+
+
+@lru_cache(None)
+def widest(by: str | None) -> bytes:
+    """16 modules of the most bytes, whose 65,536 places lie in all their pages, under a session, and each under one of C too."""
+    modules = [Sparse(f"M{it}", 0x100000 + SIZE * it, ["41100000"] * (SIZE // 4)) for it in range(MODULES)]
+    sessions = [Session("S0", modules, by)]
+    sessions += [Session(f"S{it}", [modules[it]], by) for it in range(1, 16)] if by else []
+    return job_of(modules, sessions, [Task("C", 0, 100, private="0A040A05" * 16 + "07FE" if by else "07FE")])
+
+
+@lru_cache(None)
+def fullest() -> bytes:
+    """A task whose cards give each byte of its private storage, and some once more, and more than a mebibyte of input."""
+    data = [f"DATA {at} {'C1' * 64}" for at in range(0, 1_048_576, 64)]
+    cards = [*data, *["DATA 0 07FE"] * 1000, *[f"INPUT {'C1' * 64}"] * 40_000]
+    return FIRST.job(task(" / ".join(cards), "TASK A 000000 1048576 100 0\n"))
+
+
+def told(job: bytes, *words: str, behind: bytes = b"") -> bytes:
+    """What a command tells of it, which is no refusal."""
+    ran = run([PROGRAM, *words], job + behind)
+    equal((words, ran.status, ran.error), (words, 0, ""))
+    return ran.output
+
+
+def wide() -> None:
+    """limits: each command of 16 modules of the most bytes, over which is one session, and of 16 sessions of one task"""
+    whole, every = widest(None), b"PLACES 4096 EXECUTED 0 "
+    for word in ("run", "exits"):
+        equal((told(whole, word).count(every), told(widest("C"), word).count(every)), (MODULES, 2 * MODULES - 1))
+    equal(told(widest("C"), "early").count(b"\nDRAINED COUNT "), 16)
+    equal((told(whole, "count").count(b"COUNT 0"), told(whole, "table").count(b"\nPLACE ")), (PLACES, PLACES))
+    equal(told(whole, "ends").count(b"\nUNLISTED "), MODULES)
+    marks = told(whole, "marks", "S0")
+    equal(told(whole, "show", "S0", behind=marks).count(every), MODULES)
+    equal(told(whole, "verify", "S0", behind=marks + told(whole, "prove", "S0")), b"VERIFIED S0 FACTS 0\n")
+    equal(len(told(marks, "combine", behind=marks)), len(marks))
+
+
+def full() -> None:
+    """limits: a task with cards for each byte of its private storage and beyond, and with input"""
+    for word in ("run", "exits", "count", "ends"):
+        equal(told(fullest(), word).splitlines()[1].split(b" AT")[0], b"TASK A RETURNED COUNT 1" + b" CC 0" * (word != "ends"))
+
+
 def services() -> None:
     """limits: a service for each number that may have one, of which the last is called"""
     served = "".join(f"SERVICE {it} 100004\n" for it in (0, *range(6, 255)))
@@ -190,4 +246,4 @@ def inputs() -> None:
     gives(["replay"], job + b"DO A\n" * count + b"ENDSCHED\n", wanted)
 
 
-CHECKS = [runs, early, files, lists, cards, services, inputs, runless]
+CHECKS = [runs, early, files, lists, cards, wide, full, services, inputs, runless]
