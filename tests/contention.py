@@ -59,7 +59,7 @@ def job(draw: random.Random) -> bytes:
     """A job."""
     tasks, kinds = draw.choice((0, 2, 3, 4, 8, 16, 63)), variants(draw)
     cards = "".join(CARD.format(name=f"T{n}", entry=0x100000, private=16) + draw.choice(kinds) for n in range(tasks))
-    sessions = draw.choice((0, 0, 1, 3, 8))
+    sessions = draw.choice((0, 0, 1, 3, 8, 16))
     if not sessions:
         return program(draw).job(CARD.format(name="L", entry=0x100000, private=16) + kinds[0] + cards)
     names = "".join(f"SESSION S{n} BY C M\n" for n in range(sessions))
