@@ -11,7 +11,8 @@ use Rattle.task_services.specs.Meaning.{course_of}
 
 -- The run along the course from where the task stands, with nothing done yet, whatever the plan, has this end and last state, and
 -- the pass has made its trace, and nothing else.
-pub record RanAlong {P : Type 0} (course : Course) (makes : P → List Visit → P → Type 0) (p : P) (budget : ℕ) (old : Bench) (end : TaskEnd) (new : Bench) (q : P) : Type 0 where
+pub record RanAlong {P : Type 0} (course : Course) (makes : P → List Visit → P → Type 0) (p : P) (budget : ℕ) (old : Bench)
+    (end : TaskEnd) (new : Bench) (q : P) : Type 0 where
   pub ending : (plan : PlanView) → (course plan (memory_at old) budget (stands old 0)).ending ≡ end.ending
   pub state : (plan : PlanView) → (course plan (memory_at old) budget (stands old 0)).state ≡ stands new end.done
   pub address : (plan : PlanView) → (course plan (memory_at old) budget (stands old 0)).at ≡ end.at

@@ -18,7 +18,8 @@ as_served cpu next h = record { cpu = cpu; next = next; key = served h }
 
 -- at a call of this number the machine stood so, and this is what has become of it
 abbrev pub HasCalled : {P : Type 0} → space.Ghosts P → P → ℕ → Services → CpuView → Services → CpuView → Next → Type 0
-HasCalled by s number old cpu new cpu' next = as_served cpu' next new ≡ called old.services.now (by.memory s) (machine_of cpu (by.bytes s)) number old.caller
+HasCalled by s number old cpu new cpu' next =
+    as_served cpu' next new ≡ called old.services.now (by.memory s) (machine_of cpu (by.bytes s)) number old.caller
 
 abbrev pub HasGoneBack : Services → Services → CpuView → CpuView → Type 0
 HasGoneBack old new cpu cpu' = as_served cpu' On new ≡ gone_back old.services.now cpu old.caller
