@@ -201,7 +201,7 @@ fn run_steps<C: Drains>(
     drains: &mut Vec<Drain>,
     task: &mut Task<'_>,
 ) -> Ending
-    requires can { CanBegin (C.is_pass cells.now pass.old) (C.plan cells.now) plan.now (C.notes pass.old) tables.now task.old }
+    requires can { CanBegin C.Cells cells.now pass.old plan.now tables.now task.old }
     requires start { IsAtStart plan.now (C.notes pass.old) drains.old.items }
     ensures area { C.is_pass cells.now pass.new }
     ensures is_plan { IsPlan plan.now }
@@ -240,7 +240,7 @@ fn run_early<C: Drains>(
     drains: &mut Vec<Drain>,
     task: &mut Task<'_>,
 ) -> Ending
-    requires can { CanBegin (C.is_pass cells.now pass.old) (C.plan cells.now) plan.now (C.notes pass.old) tables.now task.old }
+    requires can { CanBegin C.Cells cells.now pass.old plan.now tables.now task.old }
     requires start { IsAtStart plan.now (C.notes pass.old) drains.old.items }
     ensures area { C.is_pass cells.now pass.new }
     ensures ran { RanOver C.Cells solo cells.now pass.old pass.new task.old task.new result }

@@ -23,7 +23,7 @@ pub fn run_task<C: Cells>(
     plan: &Plan,
     task: &mut Task<'_>,
 ) -> Ending
-    requires can { CanBegin (C.is_pass cells.now pass.old) (C.plan cells.now) plan.now (C.notes pass.old) tables.now task.old }
+    requires can { CanBegin C.Cells cells.now pass.old plan.now tables.now task.old }
     ensures area { C.is_pass cells.now pass.new }
     ensures ran { RanOver C.Cells solo cells.now pass.old pass.new task.old task.new result }
 {

@@ -47,7 +47,7 @@ pub trait Runner<C: Cells> {
         extra: &mut Self::Extra,
         task: &mut Task<'_>,
     ) -> Ending
-        requires can { CanBegin (C.is_pass cells.now pass.old) (C.plan cells.now) plan.now (C.notes pass.old) tables.now task.old }
+        requires can { CanBegin C.Cells cells.now pass.old plan.now tables.now task.old }
         requires begins { begins plan.now (bearer (C.notes pass.old)) extra.old (C.notes pass.old) }
         ensures area { C.is_pass cells.now pass.new }
         ensures ran { RanOver C.Cells (course self.now) cells.now pass.old pass.new task.old task.new result }

@@ -20,7 +20,7 @@ pub fn run_under<C: Cells>(
     exit: &mut Exit,
     task: &mut Task<'_>,
 ) -> Ending
-    requires can { CanBegin (C.is_pass cells.now pass.old) (C.plan cells.now) plan.now (C.notes pass.old) tables.now task.old }
+    requires can { CanBegin C.Cells cells.now pass.old plan.now tables.now task.old }
     requires no_exit { exit.old.at ≡ None }
     ensures area { C.is_pass cells.now pass.new }
     ensures ran { RanOver C.Cells with_exits cells.now pass.old pass.new task.old task.new result }
