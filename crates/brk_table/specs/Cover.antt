@@ -20,8 +20,10 @@ is_covered cover from (suc n) = is_covered cover from n || is_some (get_or cover
 
 -- each byte has the line whose instruction has it
 pub record IsCover (lines : List Line) (cover : List (Option ℕ)) : Type 0 where
-  pub of_line : (k i : ℕ) → k < length cover → get_or cover k None ≡ Some i → (i < length lines) × (covers k (get_or lines i Text) ≡ true)
-  pub has_line : (k i : ℕ) → k < length cover → i < length lines → covers k (get_or lines i Text) ≡ true → get_or cover k None ≡ Some i
+  pub of_line : (k i : ℕ) → k < length cover → get_or cover k None ≡ Some i
+      → (i < length lines) × (covers k (get_or lines i Text) ≡ true)
+  pub has_line : (k i : ℕ) → k < length cover → i < length lines → covers k (get_or lines i Text) ≡ true
+      → get_or cover k None ≡ Some i
 
 -- the instruction lies in a module of that size
 abbrev pub is_inside : ℕ → Line → Bool

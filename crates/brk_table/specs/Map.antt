@@ -28,7 +28,8 @@ pub record IsMap (pages entries : List ℕ) (places : List Place) (n : ℕ) : Ty
 
 -- entries of other halfwords are as they were
 abbrev pub AreKept : (old_pages old pages entries : List ℕ) → ℕ → Type 0
-AreKept old_pages old pages entries at = (a : ℕ) → a < 16777216 → a / 2 ≢ at / 2 → entry_at pages entries a ≡ entry_at old_pages old a
+AreKept old_pages old pages entries at =
+    (a : ℕ) → a < 16777216 → a / 2 ≢ at / 2 → entry_at pages entries a ≡ entry_at old_pages old a
 
 abbrev pub AreSame : (old_pages old pages entries : List ℕ) → Type 0
 AreSame old_pages old pages entries = (a : ℕ) → a < 16777216 → entry_at pages entries a ≡ entry_at old_pages old a

@@ -50,7 +50,8 @@ entry_of_line entries k = if nat_eq k 0 then None else get_or entries (k - 1) No
 -- the number of the place of its listing's line k, counted from 1; none for a text line, for line 0, and without a table
 abbrev pub place_at_line : List TableView → ℕ → ℕ → Option ℕ
 place_at_line [] m k = None
-place_at_line (t ∷ ts) m k = if nat_eq t.«module» m then entry_of_line t.lines k else option_map (λ n. length t.places + n) (place_at_line ts m k)
+place_at_line (t ∷ ts) m k =
+    if nat_eq t.«module» m then entry_of_line t.lines k else option_map (λ n. length t.places + n) (place_at_line ts m k)
 
 -- the byte is one of the first two of a place
 abbrev pub touches : List Place → ℕ → Bool
@@ -116,7 +117,8 @@ first_fault bytes room earlier (line ∷ lines) =
 
 -- the place of an instruction of module m at loc
 abbrev pub place_from : ℕ → ℕ → ℕ → Code → Place
-place_from m base loc code = record { «module» = m; at = base + loc; len = code.len; original = first_half code; kind = kind_of (first_half code) }
+place_from m base loc code =
+    record { «module» = m; at = base + loc; len = code.len; original = first_half code; kind = kind_of (first_half code) }
 
 -- what a table has for a line: nothing for text, else the index of its place
 abbrev pub IsEntry : ℕ → ℕ → List Place → Line → Option ℕ → Type 0

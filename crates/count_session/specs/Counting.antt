@@ -45,10 +45,12 @@ abbrev pub IsLeft : CountCells → CountPass → ControlView → Option ℕ → 
 IsLeft cells old control call new after = (new ≡ old) × (after ≡ control)
 
 -- The task has run to this end with these services, and the pass has added what its run gives.
-pub record RanCounted (services : List Service) (cells : CountCells) (p q : CountPass) (old new : Task) (result : Ending) : Type 0 where
+pub record RanCounted (services : List Service) (cells : CountCells) (p q : CountPass) (old new : Task)
+    (result : Ending) : Type 0 where
   pub memory : memory_at new.bench ≡ memory_at old.bench
   pub budget : new.budget ≡ old.budget
   pub done : new.done ≤ old.budget
   pub ending : result ≡ (run_from (course_of services) (plan_in cells) old).ending
   pub state : stands new.bench new.done ≡ (run_from (course_of services) (plan_in cells) old).state
-  pub adds : Adds (plan_in cells) (notes_of cells p) (notes_of cells q) (visits_of (run_from (course_of services) (plan_in cells) old).turns)
+  pub adds : Adds (plan_in cells) (notes_of cells p) (notes_of cells q)
+      (visits_of (run_from (course_of services) (plan_in cells) old).turns)

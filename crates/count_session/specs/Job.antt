@@ -26,7 +26,9 @@ pub record AreSized (v : CountsView) : Type 0 where
 
 -- the count of the session at a place of its modules, in the entry of its phase
 abbrev pub count_of : CountsView → ℕ → ℕ → Fact → ℕ
-count_of v s p f = if list_any (nat_eq (place_of v.places p).module) (session_of v.job s).modules then count_in (get_or v.phases (session_of v.job s).phase []) p f else 0
+count_of v s p f =
+    if list_any (nat_eq (place_of v.places p).module) (session_of v.job s).modules
+    then count_in (get_or v.phases (session_of v.job s).phase []) p f else 0
 
 -- each task's result is that of its run with the job's services, and each count is that of the session's executions
 pub record IsCountedJob (j : JobView) (places : List Place) (tasks : List Done) (counts : CountsView) : Type 0 where
@@ -35,4 +37,5 @@ pub record IsCountedJob (j : JobView) (places : List Place) (tasks : List Done) 
   pub filled : (t : ℕ) → t < length j.tasks → length (results_of tasks t).bytes ≡ (task_of j t).private
   pub job : counts.job ≡ j
   pub size : counts.places ≡ places
-  pub are_counts : (s p : ℕ) (f : Fact) → 0 < s → s ≤ length j.sessions → p < length places → count_of counts s p f ≡ session_count j places s p f
+  pub are_counts : (s p : ℕ) (f : Fact) → 0 < s → s ≤ length j.sessions → p < length places
+      → count_of counts s p f ≡ session_count j places s p f

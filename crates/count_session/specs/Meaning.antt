@@ -27,4 +27,5 @@ count_of_all place f (trace ∷ traces) = count_at place f trace + count_of_all 
 abbrev pub session_count : JobView → List Place → ℕ → ℕ → Fact → ℕ
 session_count j places s p f =
     if observes (session_of j s).phase (place_of places p).module (session_of j s)
-    then count_of_all (place_of places p) f (traces_from 0 j.tasks (session_of j s).phase (trace_by (course_of j.services) j places)) else 0
+    then count_of_all (place_of places p) f
+    (traces_from 0 j.tasks (session_of j s).phase (trace_by (course_of j.services) j places)) else 0

@@ -39,7 +39,9 @@ HasPlanted plan n = (p : ℕ) → p < length plan.places → n.planted p ≡ nat
 
 -- the cell as the root has planted it, or not
 abbrev pub cell_at : PlanView → CountNotes → ℕ → Cell
-cell_at plan n p = if n.planted p then record { tag = 2 * window_at plan p - 1; half = breakpoint } else record { tag = 0; half = original_at plan p }
+cell_at plan n p =
+    if n.planted p then record { tag = 2 * window_at plan p - 1; half = breakpoint }
+    else record { tag = 0; half = original_at plan p }
 
 abbrev pub after_fetch : CountNotes → ℕ → CountNotes
 after_fetch n p = record n { pending = if n.planted p then Some p else None }

@@ -66,7 +66,8 @@ pub record IsCounting (plan : PlanView) (s : State NoSlot CountView) : Type 0 wh
   pub fits : (p : ℕ) → p < length plan.places → original_at plan p < 65536
   pub wide : length s.words ≡ word_count plan
   pub views : (j : ℕ) (v : CountView) → get_elem? s.views j ≡ some v → IsView plan s.words j v
-  pub counts : (i : ℕ) → length plan.places ≤ i → i < length s.words → get_or s.words i 0 ≡ total (λ (v : CountView). times i v.added) s.views
+  pub counts : (i : ℕ) → length plan.places ≤ i → i < length s.words
+      → get_or s.words i 0 ≡ total (λ (v : CountView). times i v.added) s.views
   pub root : CountView
   pub is_root : IsRoot s.views root
 

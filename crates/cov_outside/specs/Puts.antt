@@ -12,7 +12,8 @@ pub record AppendsUpTo (old new : Option (List ℕ)) (text left : List ℕ) : Ty
 
 -- Of what the buffer held and the text behind it, the first part was appended and the rest is held; or a first part was
 -- appended where the sink failed, which has its cause, and nothing is held. The sink is seen as in `Writes`.
-pub record Puts {K T E : Type 0} (written : K → Option (List ℕ)) (faults : K → ℕ) (old new : K) (before after : List ℕ) (result : Result T E) (text : List ℕ) : Type 0 where
+pub record Puts {K T E : Type 0} (written : K → Option (List ℕ)) (faults : K → ℕ) (old new : K) (before after : List ℕ)
+    (result : Result T E) (text : List ℕ) : Type 0 where
   pub whole : OnOk result (AppendsUpTo (written old) (written new) (before ++ text) after)
   pub some : OnErr result (AppendsSome (written old) (written new) (before ++ text))
   pub empty : OnErr result (after ≡ [])

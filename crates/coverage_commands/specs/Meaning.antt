@@ -98,7 +98,8 @@ pub record Counts (j : JobView) (tables : TablesView) (text : List ℕ) : Type 0
   pub results : ℕ → ResultView
   pub counts : ℕ → ℕ → Fact → ℕ
   pub are_results : (t : ℕ) → t < length j.tasks → results t ≡ result_by (course_of j.services) j tables.places t
-  pub are_counts : (s p : ℕ) (f : Fact) → 0 < s → s ≤ length j.sessions → p < length tables.places → counts s p f ≡ session_count j tables.places s p f
+  pub are_counts : (s p : ℕ) (f : Fact) → 0 < s → s ≤ length j.sessions → p < length tables.places
+      → counts s p f ≡ session_count j tables.places s p f
   pub is_text : text ≡ count_text j tables results counts
 
 -- what a command that runs a job's tasks over areas writes: the report, the marks of a session, or the summary of a generated
@@ -116,7 +117,8 @@ IsRunText c r a text = ⊥
 -- what all other commands answer that read a job
 abbrev pub IsAnswerOf : Command → ReadyView → ℕ → List ℕ → Type 0
 IsAnswerOf (Table g) r status text = (status ≡ 0) × (text ≡ table_text r.job r.tables)
-IsAnswerOf (Ends g) r status text = (status ≡ 0) × (text ≡ ends_text r.job (end_of r.job r.tables.places) (unlisted_of r.job r.tables.places))
+IsAnswerOf (Ends g) r status text =
+    (status ≡ 0) × (text ≡ ends_text r.job (end_of r.job r.tables.places) (unlisted_of r.job r.tables.places))
 IsAnswerOf (Count g) r status text = (status ≡ 0) × Counts r.job r.tables text
 IsAnswerOf (Prove name) r status text = (status ≡ 0) × (text ≡ evidence r.job r.tables r.number)
 IsAnswerOf (Show name g) r status text = IsShown r status text
@@ -126,7 +128,8 @@ IsAnswerOf c r status text = ⊥
 
 -- what the bytes have for an answer that no areas are made for
 pub data IsAnswer (c : Command) (bytes : List ℕ) (status : ℕ) (text : List ℕ) : Type 0 where
-  Refused : (way_of c).reads_job ≡ true → IsRefused (way_of c).form (way_of c).asked bytes (refusal status text) → IsAnswer c bytes status text
+  Refused : (way_of c).reads_job ≡ true → IsRefused (way_of c).form (way_of c).asked bytes (refusal status text)
+      → IsAnswer c bytes status text
   OfFiles : c ≡ Combine → IsUnited bytes status text → IsAnswer c bytes status text
   OfJob : (r : ReadyView) → IsReady c bytes r → IsAnswerOf c r status text → IsAnswer c bytes status text
 
@@ -153,17 +156,22 @@ IsUnread s = (s.rest ≡ s.left) × (s.later ≡ s.faults)
 -- a job came that is ready for the command, or it has made its own
 pub data ComesReady (c : Command) (s : SourceChange) (r : ReadyView) : Type 0 where
   Read : (bytes : List ℕ) → CameWhole s bytes → IsReady c bytes r → ComesReady c s r
-  Made : (number tasks : ℕ) → c ≡ Trial number tasks → IsUnread s → r.job ≡ trial_job number tasks → Match r.job r.tables → ComesReady c s r
+  Made : (number tasks : ℕ) → c ≡ Trial number tasks → IsUnread s → r.job ≡ trial_job number tasks → Match r.job r.tables
+      → ComesReady c s r
 
 -- Why the call answers with this status and text, leaving out whether the text could be written. Nothing but a run, and want of
 -- memory in one, has made an area.
 pub data IsCause (c : Command) (s : SourceChange) (a : AreasChange) (status : ℕ) (text : List ℕ) : Type 0 where
   Usage : c ≡ Unknown → IsUnread s → status ≡ 1 → text ≡ usage_line → a.after ≡ a.before → IsCause c s a status text
-  Unread : (e : ReadFault) → (way_of c).reads_input ≡ true → IsReadFault s e → refusal status text ≡ read_refusal e → a.after ≡ a.before → IsCause c s a status text
-  Came : (bytes : List ℕ) → CameWhole s bytes → IsAnswer c bytes status text → (status ≡ 0 → HoldsBesides c bytes) → a.after ≡ a.before → IsCause c s a status text
+  Unread : (e : ReadFault) → (way_of c).reads_input ≡ true → IsReadFault s e → refusal status text ≡ read_refusal e
+      → a.after ≡ a.before → IsCause c s a status text
+  Came : (bytes : List ℕ) → CameWhole s bytes → IsAnswer c bytes status text → (status ≡ 0 → HoldsBesides c bytes)
+      → a.after ≡ a.before → IsCause c s a status text
   Finished : (r : ReadyView) → ComesReady c s r → status ≡ 0 → IsRunText c r a text → IsCause c s a status text
-  NoMemoryToRun : (r : ReadyView) → ComesReady c s r → (way_of c).makes_areas ≡ true → status ≡ 7 → text ≡ no_memory_line → IsCause c s a status text
-  NoMemoryToMake : (number tasks : ℕ) → c ≡ Trial number tasks → IsUnread s → status ≡ 7 → text ≡ no_memory_line → a.after ≡ a.before → IsCause c s a status text
+  NoMemoryToRun : (r : ReadyView) → ComesReady c s r → (way_of c).makes_areas ≡ true → status ≡ 7 → text ≡ no_memory_line
+      → IsCause c s a status text
+  NoMemoryToMake : (number tasks : ℕ) → c ≡ Trial number tasks → IsUnread s → status ≡ 7 → text ≡ no_memory_line
+      → a.after ≡ a.before → IsCause c s a status text
 
 -- the call's answer
 pub record Answers (c : Command) (s : SourceChange) (a : AreasChange) (k : SinkChange) (answer : ℕ) : Type 0 where
@@ -179,16 +187,19 @@ pub record Answers (c : Command) (s : SourceChange) (a : AreasChange) (k : SinkC
 pub data HasStatus (c : Command) (bytes : List ℕ) (n : ℕ) : Type 0 where
   ToUsage : c ≡ Unknown → n ≡ 1 → HasStatus c bytes n
   ToLarge : (way_of c).reads_input ≡ true → input_limit < length bytes → n ≡ 4 → HasStatus c bytes n
-  ToMatched : (j : JobView) → (way_of c).reads_job ≡ true → (way_of c).form.more ≡ false → length bytes ≤ input_limit → HasJob (way_of c).form (lines_of bytes) j → HasAsked (way_of c).asked j → job_fault j ≡ None → n ≡ 0 → HasStatus c bytes n
+  ToMatched : (j : JobView) → (way_of c).reads_job ≡ true → (way_of c).form.more ≡ false → length bytes ≤ input_limit
+      → HasJob (way_of c).form (lines_of bytes) j → HasAsked (way_of c).asked j → job_fault j ≡ None → n ≡ 0 → HasStatus c bytes n
   ToAnswer : (text : List ℕ) → length bytes ≤ input_limit → IsAnswer c bytes n text → HasStatus c bytes n
 
 -- the status is that of the words and bytes, or 7, where no fault of the source was counted; that of `trial` is 0 or 7
 pub record IsComplete (c : Command) (s : SourceChange) (status : ℕ) : Type 0 where
   pub usage : c ≡ Unknown → status ≡ 1
   pub tried : (number tasks : ℕ) → c ≡ Trial number tasks → (status ≡ 0) ⊎ (status ≡ 7)
-  pub answers : (bytes : List ℕ) (n : ℕ) → s.left ≡ Some bytes → HasStatus c bytes n → (Rose s.faults s.later → ⊥) → (status ≡ n) ⊎ (status ≡ 7)
+  pub answers : (bytes : List ℕ) (n : ℕ) → s.left ≡ Some bytes → HasStatus c bytes n → (Rose s.faults s.later → ⊥)
+      → (status ≡ n) ⊎ (status ≡ 7)
   -- true marks and evidence are verified
-  pub verifies : (name bytes : List ℕ) → c ≡ Verify name → s.left ≡ Some bytes → HoldsTrue name bytes → (Rose s.faults s.later → ⊥) → (status ≡ 0) ⊎ (status ≡ 7)
+  pub verifies : (name bytes : List ℕ) → c ≡ Verify name → s.left ≡ Some bytes → HoldsTrue name bytes → (Rose s.faults s.later → ⊥)
+      → (status ≡ 0) ⊎ (status ≡ 7)
 
 -- Ledger, sets and number of the areas are as they were for every command that runs no tasks over areas, after every refusal,
 -- where the source has failed, of a command that reads a job, where none came whose listings match and whose sessions are as
@@ -197,7 +208,8 @@ pub record IsUntouched (c : Command) (s : SourceChange) (a : AreasChange) (statu
   pub others : (way_of c).makes_areas ≡ false → a.after ≡ a.before
   pub refused : status ≢ 0 → status ≢ 7 → a.after ≡ a.before
   pub failed : s.later ≢ s.faults → a.after ≡ a.before
-  pub unmatched : (way_of c).reads_job ≡ true → ((bytes : List ℕ) (r : ReadyView) → CameWhole s bytes → IsReady c bytes r → ⊥) → a.after ≡ a.before
+  pub unmatched : (way_of c).reads_job ≡ true → ((bytes : List ℕ) (r : ReadyView) → CameWhole s bytes → IsReady c bytes r → ⊥)
+      → a.after ≡ a.before
   pub unreported : (bytes : List ℕ) (n : ℕ) → s.left ≡ Some bytes → HasStatus c bytes n → n ≢ 0 → a.after ≡ a.before
 
 -- all that is promised of a call: its answer; that its status, whether the sink has taken all of the text or not, is complete;
@@ -212,6 +224,8 @@ abbrev pub asked : {A : Type 0} → List (String A) → Command
 asked words = command_of (map string_bytes words)
 
 -- of these words, by what source, areas and sink tell of themselves
-abbrev pub Serves : {S A C P K W : Type 0} → source.Ghosts S → areas.Ghosts A C P → sink.Ghosts K → List (String W) → S → S → A → A → K → K → Status → Type 0
+abbrev pub Serves : {S A C P K W : Type 0} → source.Ghosts S → areas.Ghosts A C P → sink.Ghosts K → List (String W) → S → S → A → A
+    → K → K → Status → Type 0
 Serves s a k words source0 source1 areas0 areas1 sink0 sink1 answer =
-    IsServed (asked words) (source_change s.left s.faults source0 source1) (areas_change a.ledger a.finals a.made areas0 areas1) (sink_change k.written k.faults sink0 sink1) answer.0
+    IsServed (asked words) (source_change s.left s.faults source0 source1) (areas_change a.ledger a.finals a.made areas0 areas1)
+    (sink_change k.written k.faults sink0 sink1) answer.0

@@ -16,6 +16,8 @@ abbrev pub over : {W B : Type 0} → write.Ghosts W → sink.Ghosts (StdSink (Bu
 over w = record { written = written_by w.contents; faults = write_faults }
 
 -- what `cover` promises; and where the status isn't 6, the writer holds nothing any more
-abbrev pub Hands : {S A C P W B D : Type 0} → source.Ghosts S → areas.Ghosts A C P → write.Ghosts W → List (String D) → S → S → A → A → StdSink (BufWriter W B) → StdSink (BufWriter W B) → Status → Type 0
+abbrev pub Hands : {S A C P W B D : Type 0} → source.Ghosts S → areas.Ghosts A C P → write.Ghosts W → List (String D) → S → S → A
+    → A → StdSink (BufWriter W B) → StdSink (BufWriter W B) → Status → Type 0
 Hands s a w words source0 source1 areas0 areas1 sink0 sink1 answer =
-    Serves s a (over w) words source0 source1 areas0 areas1 sink0 sink1 answer × (answer.0 ≢ 6 → writer_buffer (writer_of sink1) ≡ [])
+    Serves s a (over w) words source0 source1 areas0 areas1 sink0 sink1 answer
+    × (answer.0 ≢ 6 → writer_buffer (writer_of sink1) ≡ [])

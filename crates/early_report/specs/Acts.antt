@@ -8,7 +8,8 @@ use Rattle.module_area.specs.Notes.{Notes, IsAnswer, after_fetch, after_mark, af
 
 -- one call, where its conditions hold
 pub data Acts (plan : PlanView) (old new : Notes) : Type 0 where
-  Fetches : (p : ℕ) (cell : Cell) → p < length plan.places → IsAnswer plan old p cell → new ≡ after_fetch plan old p cell → Acts plan old new
+  Fetches : (p : ℕ) (cell : Cell) → p < length plan.places → IsAnswer plan old p cell → new ≡ after_fetch plan old p cell
+      → Acts plan old new
   Marks : (s p : ℕ) (f : Fact) (found : FactSet) → new ≡ after_mark plan old s p f found → Acts plan old new
   Lifts : (s p : ℕ) (exchanged : Bool) → new ≡ after_lift old s p exchanged → Acts plan old new
   Plants : (s p : ℕ) → old.last p + 1 < 2 * s → new ≡ after_plant old s p → Acts plan old new

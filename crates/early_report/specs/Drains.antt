@@ -47,7 +47,8 @@ pub record HasClosed (plan : PlanView) (n : Notes) (s : ℕ) : Type 0 where
 
 -- a look of the pass at the word of task t, when it knew the session as closed, found this number
 abbrev pub is_noted : PlanView → Notes → ℕ → ℕ → ℕ → Bool
-is_noted plan n s t number = list_any (λ (e : NotedView). nat_eq e.task t && (nat_eq e.number number && is_closed plan e.seen s)) n.noted
+is_noted plan n s t number =
+    list_any (λ (e : NotedView). nat_eq e.task t && (nat_eq e.number number && is_closed plan e.seen s)) n.noted
 
 -- The entry is one of these, and each task before it is past the session.
 pub record IsReached (plan : PlanView) (n : Notes) (s : ℕ) (entries : List (TaskNo × ℕ)) (entry : TaskNo × ℕ) : Type 0 where
@@ -96,7 +97,8 @@ Polls old new [] answer = (new ≡ old) × (answer ≡ None)
 Polls old new (e ∷ es) answer =
     ((is_odd e.1 ≡ true) × Polls old new es answer)
     ⊎ ((is_odd e.1 ≡ false) × (found : ℕ) × IsWord old e.0.0 found
-    × (((found ≡ e.1) × (new ≡ after_note old e.0.0 found) × (answer ≡ Some e)) ⊎ ((found ≢ e.1) × Polls (after_note old e.0.0 found) new es answer)))
+    × (((found ≡ e.1) × (new ≡ after_note old e.0.0 found) × (answer ≡ Some e))
+    ⊎ ((found ≢ e.1) × Polls (after_note old e.0.0 found) new es answer)))
 
 -- from the entry of that task on, or all
 abbrev pub from_entry : Option (TaskNo × ℕ) → List (TaskNo × ℕ) → List (TaskNo × ℕ)

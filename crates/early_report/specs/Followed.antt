@@ -33,7 +33,8 @@ pub record IsReady (plan : PlanView) (n : Notes) (closed : Option SessNo) (d : D
   pub own : IsOwn plan n d.session
   pub stands : IsReadyAt d.stage plan n closed d
 
--- After a poll of the drain of that session, with so many Pending before: it waits for a task, or its sets were taken at this count.
+-- After a poll of the drain of that session, with so many Pending before: it waits for a task, or its sets were taken at this
+-- count.
 pub record Waits (plan : PlanView) (n : Notes) (s polls : ℕ) (d : DrainView) : Type 0 where
   pub session : d.session ≡ s
   pub stage : d.stage ≡ Begun
@@ -56,7 +57,8 @@ IsAsked plan n s polls done d = Waits plan n s polls d ⊎ IsTakenAt plan n s po
 -- The drain behind that instruction, at this count: one whose session was closed is begun and polled, one that was begun is
 -- polled, and any other is as it was.
 abbrev pub WentAt : Stage → PlanView → Notes → Option SessNo → ℕ → DrainView → DrainView → Type 0
-WentAt Unused plan n closed done d e = ((is_opened d.session closed ≡ false) × (e ≡ d)) ⊎ ((is_opened d.session closed ≡ true) × IsAsked plan n d.session 0 done e)
+WentAt Unused plan n closed done d e =
+    ((is_opened d.session closed ≡ false) × (e ≡ d)) ⊎ ((is_opened d.session closed ≡ true) × IsAsked plan n d.session 0 done e)
 WentAt Begun plan n closed done d e = IsAsked plan n d.session d.polls done e
 WentAt Drained plan n closed done d e = ⊥
 WentAt Taken plan n closed done d e = e ≡ d

@@ -16,4 +16,5 @@ StaysByActs {A} P = (plan : PlanView) (old new : Notes) (x : A) → IsPlan plan 
 -- sets that the root knows as a controlled session's final ones are those with which the area ends
 abbrev pub EndsWithFinal : Type 0
 EndsWithFinal = (plan : PlanView) (root : Notes) (s : ℕ) (sets : List FactSet) (finals : ℕ → ℕ → FactSet) →
-    IsPlan plan → has_controlled plan s ≡ true → AreFinal plan root s sets → AreSettled plan root finals → sets ≡ sets_under plan finals s
+    IsPlan plan → has_controlled plan s ≡ true → AreFinal plan root s sets → AreSettled plan root finals
+    → sets ≡ sets_under plan finals s

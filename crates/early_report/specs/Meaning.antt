@@ -28,7 +28,8 @@ early_part job tables sets drained s =
     session_part job tables sets s ++ (if is_some (session_of job s).by then drain_line (drained s) ∷ [] else [])
 
 abbrev pub early_of : JobView → TablesView → (ℕ → ResultView) → (ℕ → ℕ → FactSet) → (ℕ → Option ℕ) → List ℕ
-early_of job tables results sets drained = text_of (codes "COVERAGE REPORT" ∷ job_lines job results (early_part job tables sets drained))
+early_of job tables results sets drained =
+    text_of (codes "COVERAGE REPORT" ∷ job_lines job results (early_part job tables sets drained))
 
 -- When a run closes a session.
 

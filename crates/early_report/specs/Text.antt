@@ -46,6 +46,7 @@ abbrev pub early_parts : {Z : Type 0} → JobView → TablesView → (ℕ → �
 early_parts job tables sets lists = lines_from (early_lines job tables sets lists) 1 (length job.sessions)
 
 -- the whole text was written, as results and sets tell it
-abbrev pub PrintsEarly : {K R Z T E : Type 0} → sink.Ghosts K → tasks.Ghosts R → sets.Ghosts R → JobView → TablesView → R → List (Vec DrainView Z) → K → K → Result T E → Type 0
+abbrev pub PrintsEarly : {K R Z T E : Type 0} → sink.Ghosts K → tasks.Ghosts R → sets.Ghosts R → JobView → TablesView → R
+    → List (Vec DrainView Z) → K → K → Result T E → Type 0
 PrintsEarly g t s job tables told lists old new result =
     PrintsText g old new result (early_of job tables (t.result_of told) (s.set_of told) (drained_of job (drains_of lists)))

@@ -32,7 +32,8 @@ NotesOne f first old new = (g : Fact) → new g ≡ option_or (old g) (if same_f
 -- from old to new the visits of task t were noted
 pub record Notes (places : List Place) (t : ℕ) (visits : List Visit) (old new : List Found) : Type 0 where
   pub size : length new ≡ length old
-  pub firsts : (n : ℕ) → n < length places → (f : Fact) → found_at new n f ≡ option_or (found_at old n f) (first_in (place_of places n) f t visits)
+  pub firsts : (n : ℕ) → n < length places → (f : Fact)
+      → found_at new n f ≡ option_or (found_at old n f) (first_in (place_of places n) f t visits)
 
 -- at each place the first visit of the phase's tasks for each fact
 pub record AreFirsts (j : JobView) (places : List Place) (phase : ℕ) (found : List Found) : Type 0 where

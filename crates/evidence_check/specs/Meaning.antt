@@ -27,12 +27,14 @@ trace_of j places t = visits_of (of_task solo j places t).turns
 
 -- the first of task t's visits that shows it
 abbrev pub first_in : Place → Fact → ℕ → List Visit → Option First
-first_in place f t visits = option_map (λ v. record { task = t; before = v.before; subject = v.subject }) (find (shows place f) visits)
+first_in place f t visits =
+    option_map (λ v. record { task = t; before = v.before; subject = v.subject }) (find (shows place f) visits)
 
 -- of the phase's tasks, of which the first here has index n, the first that shows it
 abbrev pub first_from : ℕ → List TaskView → ℕ → (ℕ → List Visit) → Place → Fact → Option First
 first_from n [] phase trace place f = None
-first_from n (t ∷ ts) phase trace place f = option_or (if nat_eq t.phase phase then first_in place f n (trace n) else None) (first_from (n + 1) ts phase trace place f)
+first_from n (t ∷ ts) phase trace place f =
+    option_or (if nat_eq t.phase phase then first_in place f n (trace n) else None) (first_from (n + 1) ts phase trace place f)
 
 -- the first visit of the phase's tasks that shows the fact at the place of this number
 abbrev pub phase_first : JobView → List Place → ℕ → ℕ → Fact → Option First
@@ -121,7 +123,8 @@ place_claims row set firsts bs =
 -- of places, the first of which has this row and number n
 abbrev pub places_claims : (ℕ → Fact → Option First) → ℕ → ℕ → List MarkedPlace → List ℕ → List Claim
 places_claims firsts row n [] bs = []
-places_claims firsts row n (p ∷ ps) bs = place_claims row p.set (firsts n) bs ++ places_claims firsts (row + 1) (n + 1) ps (past_place p.set bs)
+places_claims firsts row n (p ∷ ps) bs =
+    place_claims row p.set (firsts n) bs ++ places_claims firsts (row + 1) (n + 1) ps (past_place p.set bs)
 
 -- of the file's modules, which are these of the job; each has a row of its own before its places
 abbrev pub modules_claims : TablesView → (ℕ → Fact → Option First) → ℕ → List MarkedView → List ℕ → List ℕ → List Claim
@@ -133,7 +136,8 @@ modules_claims tables firsts row (m ∷ ms) (n ∷ ns) bs =
 
 -- of a marks file of session s and evidence
 abbrev pub evidence_claims : JobView → TablesView → ℕ → List MarkedView → List ℕ → List Claim
-evidence_claims j tables s file bs = modules_claims tables (session_first j tables.places s) 0 file (session_of j s).modules (drop 8 bs)
+evidence_claims j tables s file bs =
+    modules_claims tables (session_first j tables.places s) 0 file (session_of j s).modules (drop 8 bs)
 
 abbrev pub first_refuted : List Claim → Option (ℕ × Fact)
 first_refuted [] = None

@@ -18,7 +18,9 @@ PassesVerified j tables s file bs = IsVerified j tables s file bs → Passes j t
 
 -- the first bad field; with none, the first claim that is refuted
 abbrev pub IsVerifyFault : JobView → TablesView → ℕ → List MarkedView → List ℕ → VerifyFault → Type 0
-IsVerifyFault j tables s file bs (BadEvidence offset) = first_bad (evidence_fields (length j.tasks) (facts_of_modules file) bs) ≡ Some offset
+IsVerifyFault j tables s file bs (BadEvidence offset) =
+    first_bad (evidence_fields (length j.tasks) (facts_of_modules file) bs) ≡ Some offset
 IsVerifyFault j tables s file bs (Refuted row fact) =
-    (first_bad (evidence_fields (length j.tasks) (facts_of_modules file) bs) ≡ None) × (first_refuted (evidence_claims j tables s file bs) ≡ Some (row, fact))
+    (first_bad (evidence_fields (length j.tasks) (facts_of_modules file) bs) ≡ None)
+    × (first_refuted (evidence_claims j tables s file bs) ≡ Some (row, fact))
 IsVerifyFault j tables s file bs NoMemory = Unit {0}

@@ -17,7 +17,8 @@ pub record Follows (w : World) (events : List Event) (e : Event) (c : CoreState)
 
 -- after each list of events that leaves the parts stored so, the event is possible, shows this, and leaves these parts
 abbrev pub FollowsAll : World → Parts → Event → Parts → Shown → Type 0
-FollowsAll w old e new shown = (events : List Event) (c : CoreState) → core_run w events ≡ Some c → c.parts ≡ old → Follows w events e c new shown
+FollowsAll w old e new shown =
+    (events : List Event) (c : CoreState) → core_run w events ≡ Some c → c.parts ≡ old → Follows w events e c new shown
 
 -- it isn't possible after any of them
 abbrev pub FollowsNone : World → Parts → Event → Type 0

@@ -86,7 +86,8 @@ sessions_by w t = filter (λ (c : ControlledView). nat_eq c.by t) (plan_in w).co
 
 -- the task that controls session s
 abbrev pub controller_of : World → ℕ → Option ℕ
-controller_of w s = option_map (λ (c : ControlledView). c.by) (find (λ (c : ControlledView). nat_eq c.session s) (plan_in w).controlled)
+controller_of w s =
+    option_map (λ (c : ControlledView). c.by) (find (λ (c : ControlledView). nat_eq c.session s) (plan_in w).controlled)
 
 -- the opening or the closing of a session
 pub record Change : Type 0 where
@@ -99,7 +100,8 @@ change closes c = record { closes = closes; session = c }
 -- SVC 4 opens the next session where none is open, SVC 5 closes the open one
 abbrev pub change_for : World → ℕ → TaskPart → ℕ → Option Change
 change_for w t u call =
-    if nat_eq call (if u.is_open then 5 else 4) then option_map (change u.is_open) (slice_get (sessions_by w t) (if u.is_open then u.opened - 1 else u.opened)) else None
+    if nat_eq call (if u.is_open then 5 else 4)
+    then option_map (change u.is_open) (slice_get (sessions_by w t) (if u.is_open then u.opened - 1 else u.opened)) else None
 
 -- what the instruction that the task is at does to its sessions
 abbrev pub change_of : World → ℕ → TaskPart → Option Change
@@ -121,7 +123,8 @@ next_place done ch = option_map (place_change ch) (slice_get ch.session.places d
 -- the task's sessions after the instruction
 abbrev pub after_change : Option Change → TaskPart → TaskPart
 after_change None u = u
-after_change (Some ch) u = record u { opened = if ch.closes then u.opened else u.opened + 1; is_open = if ch.closes then false else true; changed = 0 }
+after_change (Some ch) u =
+    record u { opened = if ch.closes then u.opened else u.opened + 1; is_open = if ch.closes then false else true; changed = 0 }
 
 -- The events of a core: where each is possible, and what it changes in what a core stores.
 
@@ -144,7 +147,8 @@ is_spent w t s = nat_le (budget_in w t) s.done
 
 -- the place whose cell the task is to fetch
 abbrev pub place_due : World → ℕ → TaskPart → Stage → Option ℕ
-place_due w t u Ready = if has_returned u.state then None else (if is_spent w t u.state then None else place_at w u.state.machine.cpu.ia)
+place_due w t u Ready =
+    if has_returned u.state then None else (if is_spent w t u.state then None else place_at w u.state.machine.cpu.ia)
 place_due w t u Awaiting = subject_place w (step_of w t u).visits
 place_due w t u stage = None
 
@@ -158,7 +162,13 @@ is_awaiting Awaiting = true
 is_awaiting stage = false
 
 abbrev pub hand_at : World → Parts → Bool → ℕ → Hand
-hand_at w c subject p = record { subject = subject; place = record { 0 = p }; cell = word_at c.cells p; due = due_after_fetch w subject p (word_at c.cells p) }
+hand_at w c subject p =
+    record {
+      subject = subject;
+      place = record { 0 = p };
+      cell = word_at c.cells p;
+      due = due_after_fetch w subject p (word_at c.cells p);
+    }
 
 abbrev pub with_stage : TaskPart → Stage → TaskPart
 with_stage u stage = record u { stage = stage }
@@ -190,7 +200,11 @@ fact_marked w c t u h =
     let found = set_of w c s h.place.0 in
     let facts = with_fact found (fact_in w t u h) in
     let with_facts = record c { sets = set c.sets (index_of (length w.places) s h.place.0) facts } in
-    record { parts = task_replaced with_facts t (with_due u h (if is_full (kind_at (plan_in w) h.place.0) facts then Lifting else Nothing)); shown = Marked found }
+    record {
+      parts = task_replaced with_facts t
+          (with_due u h (if is_full (kind_at (plan_in w) h.place.0) facts then Lifting else Nothing));
+      shown = Marked found;
+    }
 
 abbrev pub same_due : Due → Due → Bool
 same_due Marking Marking = true
@@ -217,7 +231,8 @@ abbrev pub lifted : World → Parts → ℕ → TaskPart → Hand → Stepped
 lifted w c t u h =
     let taken = same_cell (word_at c.cells h.place.0) h.cell in
     record {
-      parts = task_replaced (if taken then with_cell c h.place.0 (original_under w h.place.0 h.cell) else c) t (with_due u h Nothing);
+      parts =
+          task_replaced (if taken then with_cell c h.place.0 (original_under w h.place.0 h.cell) else c) t (with_due u h Nothing);
       shown = Lifted taken;
     }
 
@@ -227,7 +242,8 @@ stage_after (NextEnded e) = Ended e
 
 -- the instruction that the task is at is executed
 abbrev pub executed : World → ℕ → TaskPart → TaskPart
-executed w t u = record (after_change (change_of w t u) u) { state = (step_of w t u).state; stage = stage_after (step_of w t u).next }
+executed w t u =
+    record (after_change (change_of w t u) u) { state = (step_of w t u).state; stage = stage_after (step_of w t u).next }
 
 -- the EX that it is, up to its subject, where a place begins there, or the instruction whole
 abbrev pub awaits_or : TaskPart → TaskPart → Option ℕ → TaskPart
@@ -247,13 +263,16 @@ ready_done w t u =
 -- the task after a Do, where none of Fetch, Mark and Lift is possible
 abbrev pub task_goes_on : World → ℕ → TaskPart → Stage → Option TaskPart
 task_goes_on w t u Ready = ready_done w t u
-task_goes_on w t u (Holding h) = if same_due h.due Nothing then Some (if h.subject then executed w t u else instruction_executed w t u) else None
+task_goes_on w t u (Holding h) =
+    if same_due h.due Nothing then Some (if h.subject then executed w t u else instruction_executed w t u) else None
 task_goes_on w t u stage = None
 
 -- whether that Do executes the instruction that the task is at
 abbrev pub will_execute : World → ℕ → TaskPart → Stage → Bool
 will_execute w t u Ready =
-    not (has_returned u.state) && (not (is_spent w t u.state) && (is_none (place_at w u.state.machine.cpu.ia) && is_none (subject_place w (step_of w t u).visits)))
+    not (has_returned u.state)
+    && (not (is_spent w t u.state)
+    && (is_none (place_at w u.state.machine.cpu.ia) && is_none (subject_place w (step_of w t u).visits)))
 will_execute w t u (Holding h) = same_due h.due Nothing && (h.subject || is_none (subject_place w (step_of w t u).visits))
 will_execute w t u stage = false
 
@@ -276,12 +295,14 @@ abbrev pub of_existing : Parts → ℕ → (TaskPart → Option Stepped) → Opt
 of_existing c t step = if nat_lt t (length c.tasks) then step (part_of c t) else None
 
 abbrev pub changed_cell : World → PlaceChange → Cell
-changed_cell w x = if x.closes then record { tag = 2 * x.session; half = original_at (plan_in w) x.place.0 } else breakpoint_of x.session
+changed_cell w x =
+    if x.closes then record { tag = 2 * x.session; half = original_at (plan_in w) x.place.0 } else breakpoint_of x.session
 
 -- a session is planted where the tag is lower than the one that it gives
 abbrev pub may_change : Parts → Bool → ℕ → ℕ → PlaceChange → Bool
 may_change c closes s p x =
-    (if closes then x.closes else not x.closes) && (nat_eq x.session s && (nat_eq x.place.0 p && (closes || nat_lt ((word_at c.cells p).tag + 1) (2 * s))))
+    (if closes then x.closes else not x.closes)
+    && (nat_eq x.session s && (nat_eq x.place.0 p && (closes || nat_lt ((word_at c.cells p).tag + 1) (2 * s))))
 
 abbrev pub changed : World → Parts → ℕ → TaskPart → PlaceChange → Stepped
 changed w c t u x = record {
@@ -291,7 +312,8 @@ changed w c t u x = record {
 
 -- Plant or Close of a controlled session, at the place that is due of its controller
 abbrev pub change_step : World → Parts → Bool → ℕ → ℕ → ℕ → TaskPart → Option Stepped
-change_step w c closes s p t u = option_and_then (λ x. if may_change c closes s p x then Some (changed w c t u x) else None) (change_due w t u u.stage)
+change_step w c closes s p t u =
+    option_and_then (λ x. if may_change c closes s p x then Some (changed w c t u x) else None) (change_due w t u u.stage)
 
 abbrev pub by_controller : World → Parts → Bool → ℕ → ℕ → Option Stepped → Option ℕ → Option Stepped
 by_controller w c closes s p whole None = whole
@@ -299,7 +321,8 @@ by_controller w c closes s p whole (Some t) = of_existing c t (change_step w c c
 
 -- a place under tag 0, by its whole session
 abbrev pub may_plant : World → Parts → ℕ → ℕ → Bool
-may_plant w c s p = nat_lt p (length w.places) && (nat_lt 0 s && (nat_eq (window_at (plan_in w) p) s && nat_eq (word_at c.cells p).tag 0))
+may_plant w c s p =
+    nat_lt p (length w.places) && (nat_lt 0 s && (nat_eq (window_at (plan_in w) p) s && nat_eq (word_at c.cells p).tag 0))
 
 abbrev pub whole_step : World → Parts → ℕ → ℕ → Option Stepped
 whole_step w c s p = if may_plant w c s p then Some (record { parts = with_cell c p (breakpoint_of s); shown = Planted }) else None
@@ -329,7 +352,13 @@ ending_of stage = None
 abbrev pub results_of : Parts → ℕ → ResultView
 results_of c t =
     let u = part_of c t in
-    record { ending = ending_of u.stage; done = u.state.done; cpu = u.state.machine.cpu; output = u.state.io.output; bytes = u.state.machine.bytes }
+    record {
+      ending = ending_of u.stage;
+      done = u.state.done;
+      cpu = u.state.machine.cpu;
+      output = u.state.io.output;
+      bytes = u.state.machine.bytes;
+    }
 
 -- the planting or closing that is due, or else Do
 abbrev pub change_or_do : TaskNo → Option PlaceChange → Event

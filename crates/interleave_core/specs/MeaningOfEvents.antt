@@ -59,7 +59,9 @@ pub record Answered : Type 0 where
 
 -- that of the cell in hand
 abbrev pub in_stage : World → ℕ → TaskPart → Stage → List Answered
-in_stage w t u (Holding h) = record { cell = h.cell; visit = record { place = h.place.0; fact = fact_at w h.place.0 (visit_of (step_of w t u) h.subject) } } ∷ []
+in_stage w t u (Holding h) =
+    record { cell = h.cell; visit = record { place = h.place.0; fact = fact_at w h.place.0 (visit_of (step_of w t u) h.subject) } }
+    ∷ []
 in_stage w t u stage = []
 
 -- the fetch of task t that the event was, if it was one, by what is then stored
@@ -70,11 +72,13 @@ fetch_by w t c e = []
 -- all fetches of task t by the events, in order
 abbrev pub fetches : World → ℕ → Parts → List Event → List Answered
 fetches w t c [] = []
-fetches w t c (e ∷ events) = option_map_or (λ (x : Stepped). fetch_by w t x.parts e ++ fetches w t x.parts events) (parts_step w c e) []
+fetches w t c (e ∷ events) =
+    option_map_or (λ (x : Stepped). fetch_by w t x.parts e ++ fetches w t x.parts events) (parts_step w c e) []
 
 abbrev pub HasFetched : World → List Event → ℕ → TaskPart → Type 0
 HasFetched w events t u =
-    map (λ (a : Answered). a.visit) (fetches w t (first_parts w) events) ≡ noted w ((alone w t u.state.done).trace ++ visits_in_hand u.stage (step_of w t u).visits)
+    map (λ (a : Answered). a.visit) (fetches w t (first_parts w) events)
+    ≡ noted w ((alone w t u.state.done).trace ++ visits_in_hand u.stage (step_of w t u).visits)
 
 -- Each set, once all tasks have ended.
 
@@ -92,9 +96,12 @@ pub record Stands (w : World) (events : List Event) (c : Parts) : Type 0 where
   pub fetched : (t : ℕ) → t < length c.tasks → HasFetched w events t (part_of c t)
   -- once all tasks have ended, each set has exactly the facts that visits at its place have shown whose fetch answered the odd
   -- tag of its session
-  pub exact : HaveEnded c → (s p : ℕ) (f : Fact) → 0 < s → p < length w.places → (has_fact (set_of w c s p) f ≡ true) ↔ ((t : ℕ) × (t < length c.tasks)
-      × Any (λ (a : Answered). (a.visit ≡ record { place = p; fact = Some f }) × (a.cell.tag ≡ 2 * s - 1)) (fetches w t (first_parts w) events))
+  pub exact : HaveEnded c → (s p : ℕ) (f : Fact) → 0 < s → p < length w.places
+      → (has_fact (set_of w c s p) f ≡ true) ↔ ((t : ℕ) × (t < length c.tasks)
+      × Any (λ (a : Answered). (a.visit ≡ record { place = p; fact = Some f }) × (a.cell.tag ≡ 2 * s - 1))
+      (fetches w t (first_parts w) events))
   -- it is the whole session's set where all windows were planted before any other event
   pub whole : HaveEnded c → ((p : ℕ) → p < length w.places → 0 < window_at (plan_in w) p → Contains (planted_first events) p) →
       (p : ℕ) → p < length w.places → 0 < window_at (plan_in w) p →
-      set_of w c (window_at (plan_in w) p) p ≡ session_set w.job (λ t. (alone w t (budget_in w t)).trace) (window_at (plan_in w) p) (place_of w.places p)
+      set_of w c (window_at (plan_in w) p) p
+      ≡ session_set w.job (λ t. (alone w t (budget_in w t)).trace) (window_at (plan_in w) p) (place_of w.places p)

@@ -22,7 +22,8 @@ any_unmarked s tasks = list_any (λ (u : TaskPart). has_unmarked s u.stage) task
 -- session s is a controlled one, each of its places has the tag of its closing or a higher one, and no task has a
 -- breakpoint of it in hand that is to be marked
 abbrev pub is_quiet : World → Parts → ℕ → Bool
-is_quiet w c s = is_some (controller_of w s) && (is_closed (plan_in w) (λ p. (word_at c.cells p).tag) s && not (any_unmarked s c.tasks))
+is_quiet w c s =
+    is_some (controller_of w s) && (is_closed (plan_in w) (λ p. (word_at c.cells p).tag) s && not (any_unmarked s c.tasks))
 
 -- the sets of session s are what they were
 abbrev pub SetsStay : World → ℕ → Parts → Parts → Type 0
@@ -68,12 +69,16 @@ pub record IsDrained (w : World) (events : List Event) (s : ℕ) : Type 0 where
   pub core : CoreState
   pub run : core_run w before ≡ Some core
   pub closed : (p : ℕ) → is_controlled (plan_in w) s p ≡ true → list_any (is_close s p) before ≡ true
-  pub tasks : (t : ℕ) → t < length core.parts.tasks → (is_some (ending_of (part_of core.parts t).stage) || ends_in w t since core) ≡ true
+  pub tasks : (t : ℕ) → t < length core.parts.tasks
+      → (is_some (ending_of (part_of core.parts t).stage) || ends_in w t since core) ≡ true
 
 -- after each list of events that leaves the parts stored so and by which session s is drained, it is quiet
 abbrev pub QuietAsDrained : World → Parts → ℕ → Type 0
-QuietAsDrained w c s = (events : List Event) (d : CoreState) → core_run w events ≡ Some d → d.parts ≡ c → IsDrained w events s → is_quiet w c s ≡ true
+QuietAsDrained w c s =
+    (events : List Event) (d : CoreState) → core_run w events ≡ Some d → d.parts ≡ c → IsDrained w events s → is_quiet w c s ≡ true
 
 -- the sets of each session that is drained stay
 abbrev pub DrainedStay : World → Parts → Parts → Type 0
-DrainedStay w old new = (s : ℕ) (events : List Event) (d : CoreState) → core_run w events ≡ Some d → d.parts ≡ old → IsDrained w events s → SetsStay w s old new
+DrainedStay w old new =
+    (s : ℕ) (events : List Event) (d : CoreState) → core_run w events ≡ Some d → d.parts ≡ old → IsDrained w events s
+    → SetsStay w s old new

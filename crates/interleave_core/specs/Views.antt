@@ -61,7 +61,8 @@ closing change = option_map (λ (c : Change). c.closes) change
 
 -- what holds in each world in which the task's instruction closes a session, opens one or does neither, as is said
 abbrev pub Doing : TablesView → RunningView → Option Bool → (World → ℕ → TaskPart → Type 0) → Type 0
-Doing tables r closes holds = (w : World) (t : ℕ) → w.places ≡ tables.places → IsRunning w t r → closing (change_of w t r.part) ≡ closes → holds w t r.part
+Doing tables r closes holds =
+    (w : World) (t : ℕ) → w.places ≡ tables.places → IsRunning w t r → closing (change_of w t r.part) ≡ closes → holds w t r.part
 
 -- a task that goes on as this one
 abbrev pub Gives : {T E : Type 0} → Result T E → Option TaskPart → RunningView → Type 0
@@ -76,7 +77,8 @@ changed_by change r = with_part r (after_change change r.part)
 
 -- two tasks that are alike but for their sessions
 abbrev pub DiffersInSessions : RunningView → RunningView → Type 0
-DiffersInSessions old new = new ≡ with_part old (record old.part { opened = new.part.opened; is_open = new.part.is_open; changed = new.part.changed })
+DiffersInSessions old new =
+    new ≡ with_part old (record old.part { opened = new.part.opened; is_open = new.part.is_open; changed = new.part.changed })
 
 -- a cell in hand is of a place; where anything is due of it, it is the breakpoint of a session over the place
 pub record IsHand (w : World) (h : Hand) : Type 0 where
@@ -126,8 +128,10 @@ pub record IsTied (w : World) (cells : List Cell) (t : ℕ) (u : TaskPart) : Typ
   pub opened : u.opened ≤ length (sessions_by w t)
   pub some : u.is_open ≡ true → 0 < u.opened
   pub changed : u.changed ≤ length (turn_of w t u).places
-  pub planted : (i : ℕ) → i < length (turn_of w t u).places → has_window u i ≡ true → tag_at cells (turn_of w t u).places i + 1 ≡ 2 * (turn_of w t u).session
-  pub later : (n i : ℕ) → u.opened ≤ n → n < length (sessions_by w t) → (n ≡ u.opened → u.is_open ≡ false → u.changed ≤ i) → i < length (session_at w t n).places →
+  pub planted : (i : ℕ) → i < length (turn_of w t u).places → has_window u i ≡ true
+      → tag_at cells (turn_of w t u).places i + 1 ≡ 2 * (turn_of w t u).session
+  pub later : (n i : ℕ) → u.opened ≤ n → n < length (sessions_by w t) → (n ≡ u.opened → u.is_open ≡ false → u.changed ≤ i)
+      → i < length (session_at w t n).places →
       tag_at cells (session_at w t n).places i + 1 < 2 * (session_at w t n).session
 
 -- all tasks and their sessions
@@ -204,7 +208,8 @@ pub record IsCore (w : World) (cells : List Cell) (sets : List FactSet) (plan : 
   pub cell_count : length cells ≡ length w.places
   pub set_count : length sets ≡ length w.job.sessions * length w.places
   pub words : (p : ℕ) → p < length w.places → IsForm (plan_in w) p (word_at cells p)
-  pub within : (s p : ℕ) → 0 < s → p < length w.places → is_within (kind_at (plan_in w) p) (set_in (length w.places) sets s p) ≡ true
+  pub within : (s p : ℕ) → 0 < s → p < length w.places
+      → is_within (kind_at (plan_in w) p) (set_in (length w.places) sets s p) ≡ true
   pub running : (t : ℕ) (r : RunningView) → t < length tasks → IsRunning w t (get_or tasks t r)
   pub stages : (t : ℕ) (r : RunningView) → t < length tasks → IsStage w t (get_or tasks t r).part (get_or tasks t r).part.stage
   pub tied : AreTied w (record { cells = cells; sets = sets; tasks = parts_of tasks })

@@ -16,13 +16,16 @@ abbrev pub IsEnds : JobView → TablesView → ℕ → List ℕ → Type 0
 IsEnds j tables = IsText (ends_text j (end_of j tables.places) (unlisted_of j tables.places))
 
 -- marks and evidence behind the job are told as they are, and as verified where they are
-pub record IsChecked (name : List ℕ) (j : JobView) (tables : TablesView) (s : ℕ) (rest : List ℕ) (status : ℕ) (text : List ℕ) : Type 0 where
+pub record IsChecked (name : List ℕ) (j : JobView) (tables : TablesView) (s : ℕ) (rest : List ℕ) (status : ℕ)
+    (text : List ℕ) : Type 0 where
   pub verdict : IsVerdict name j tables s rest (refusal status text)
   pub verified : status ≡ 0 → HasVerified j tables s rest
 
 -- the schedule behind the job's lines, so many, was played to its end on the core; or its first line is told that is no item, or
 -- none that is possible there
 pub data IsReplayed (j : JobView) (tables : TablesView) (count : ℕ) (rest : List ℕ) (status : ℕ) (text : List ℕ) : Type 0 where
-  ToEnd : (core : Parts) (played : List Played) → play_behind j tables count rest ≡ Whole core played → IsRun (world_of j tables) core →
+  ToEnd : (core : Parts) (played : List Played) → play_behind j tables count rest ≡ Whole core played
+      → IsRun (world_of j tables) core →
       IsText (replay_text j tables core played) status text → IsReplayed j tables count rest status text
-  AtLine : (line : ℕ) → play_behind j tables count rest ≡ Bad line → status ≡ 9 → text ≡ bad_schedule_line line → IsReplayed j tables count rest status text
+  AtLine : (line : ℕ) → play_behind j tables count rest ≡ Bad line → status ≡ 9 → text ≡ bad_schedule_line line
+      → IsReplayed j tables count rest status text

@@ -16,7 +16,8 @@ verify_refusal fault.NoMemory = refusal 7 no_memory_line
 
 -- why the bytes behind a job begin with no marks file, or want of memory
 pub data IsStartRefusal (rest : List ℕ) (r : RefusalView) : Type 0 where
-  BadStart : (offset : ℕ) → first_bad (file_fields 0 rest) ≡ Some offset → r ≡ refusal 10 (bad_marks_line offset) → IsStartRefusal rest r
+  BadStart : (offset : ℕ) → first_bad (file_fields 0 rest) ≡ Some offset → r ≡ refusal 10 (bad_marks_line offset)
+      → IsStartRefusal rest r
   NoRoom : r ≡ refusal 7 no_memory_line → IsStartRefusal rest r
 
 -- a verdict by which so many facts are verified, whatever name the session has

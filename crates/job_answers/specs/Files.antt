@@ -29,4 +29,6 @@ pub data IsFileRefusal (rest : List ℕ) (r : RefusalView) : Type 0 where
 -- why the bytes behind a job are no file of the session of that number, or want of memory
 pub data IsShowRefusal (j : JobView) (tables : TablesView) (number : ℕ) (rest : List ℕ) (r : RefusalView) : Type 0 where
   NoFile : IsFileRefusal rest r → IsShowRefusal j tables number rest r
-  Other : (modules : List MarkedView) (d : Difference) → BeginsWith rest modules (length rest) → first_difference 0 (session_rows j tables number) (rows modules) ≡ Some d → r ≡ refusal 11 (other_table_line d) → IsShowRefusal j tables number rest r
+  Other : (modules : List MarkedView) (d : Difference) → BeginsWith rest modules (length rest)
+      → first_difference 0 (session_rows j tables number) (rows modules) ≡ Some d → r ≡ refusal 11 (other_table_line d)
+      → IsShowRefusal j tables number rest r

@@ -77,9 +77,12 @@ pub record ReadyView : Type 0 where
 -- the one that was named, or the first
 pub data IsRefused (form : Form) (asked : Asked) (bytes : List ℕ) (r : RefusalView) : Type 0 where
   Jobless : (e : JobFault) → IsJobFault form bytes e → e ≢ fault.NoMemory → r ≡ jobless_refusal e → IsRefused form asked bytes r
-  NoSession : (j : JobView) (wanted : Wanted) → HasJob form (lines_of bytes) j → asked ≡ WithSession wanted → session_number j wanted.name ≡ None → r ≡ refusal 13 (no_session_line wanted.name) → IsRefused form asked bytes r
-  Controlled : (j : JobView) (number : ℕ) → HasJob form (lines_of bytes) j → controlled_asked asked j ≡ Some number → r ≡ refusal 14 (controlled_line (session_of j number).name) → IsRefused form asked bytes r
-  BadListing : (j : JobView) (e : TablesFault) → HasJob form (lines_of bytes) j → HasAsked asked j → job_fault j ≡ Some e → r ≡ tables_refusal e → IsRefused form asked bytes r
+  NoSession : (j : JobView) (wanted : Wanted) → HasJob form (lines_of bytes) j → asked ≡ WithSession wanted
+      → session_number j wanted.name ≡ None → r ≡ refusal 13 (no_session_line wanted.name) → IsRefused form asked bytes r
+  Controlled : (j : JobView) (number : ℕ) → HasJob form (lines_of bytes) j → controlled_asked asked j ≡ Some number
+      → r ≡ refusal 14 (controlled_line (session_of j number).name) → IsRefused form asked bytes r
+  BadListing : (j : JobView) (e : TablesFault) → HasJob form (lines_of bytes) j → HasAsked asked j → job_fault j ≡ Some e
+      → r ≡ tables_refusal e → IsRefused form asked bytes r
 
 -- What the program makes of marks files and evidence.
 
@@ -108,9 +111,12 @@ show_text j tables sets s = text_of (codes "COVERAGE SHOW" ∷ (session_part j t
 -- one marks file stands behind the job, and the text shows its sets; or none does; or its table, on the right, differs from the
 -- session's
 pub data IsShown (r : ReadyView) (status : ℕ) (text : List ℕ) : Type 0 where
-  Shown : (sets : ℕ → FactSet) → BeginsWith r.rest (session_marks r.job r.tables sets r.number) (length r.rest) → status ≡ 0 → text ≡ show_text r.job r.tables sets r.number → IsShown r status text
+  Shown : (sets : ℕ → FactSet) → BeginsWith r.rest (session_marks r.job r.tables sets r.number) (length r.rest) → status ≡ 0
+      → text ≡ show_text r.job r.tables sets r.number → IsShown r status text
   Fileless : (offset : ℕ) → IsNoFile r.rest offset → status ≡ 10 → text ≡ bad_marks_line offset → IsShown r status text
-  OtherShown : (modules : List MarkedView) (d : Difference) → BeginsWith r.rest modules (length r.rest) → first_difference 0 (session_rows r.job r.tables r.number) (rows modules) ≡ Some d → status ≡ 11 → text ≡ other_table_line d → IsShown r status text
+  OtherShown : (modules : List MarkedView) (d : Difference) → BeginsWith r.rest modules (length r.rest)
+      → first_difference 0 (session_rows r.job r.tables r.number) (rows modules) ≡ Some d → status ≡ 11 → text ≡ other_table_line d
+      → IsShown r status text
 
 -- by the first row that differs, the first bad field of the evidence, the first claim that is refuted, and how many facts there are
 abbrev pub judged_by : List ℕ → Option Difference → Option ℕ → Option (ℕ × Fact) → ℕ → RefusalView
@@ -122,12 +128,16 @@ judged_by name None None None facts = refusal 0 (verified_line name facts)
 -- of a marks file of these modules and bytes that stand where its evidence should, for session s of that name
 abbrev pub judged : List ℕ → JobView → TablesView → ℕ → List MarkedView → List ℕ → RefusalView
 judged name j tables s modules bytes =
-    judged_by name (first_difference 0 (session_rows j tables s) (rows modules)) (first_bad (evidence_fields (length j.tasks) (facts_of_modules modules) bytes)) (first_refuted (evidence_claims j tables s modules bytes)) (facts_of_modules modules)
+    judged_by name (first_difference 0 (session_rows j tables s) (rows modules))
+    (first_bad (evidence_fields (length j.tasks) (facts_of_modules modules) bytes))
+    (first_refuted (evidence_claims j tables s modules bytes)) (facts_of_modules modules)
 
 -- of the bytes behind a job, which begin with a marks file or with none; behind it is the evidence
 pub data IsVerdict (name : List ℕ) (j : JobView) (tables : TablesView) (s : ℕ) (rest : List ℕ) (v : RefusalView) : Type 0 where
-  NoStart : (offset : ℕ) → first_bad (file_fields 0 rest) ≡ Some offset → v ≡ refusal 10 (bad_marks_line offset) → IsVerdict name j tables s rest v
-  OfFile : (modules : List MarkedView) (end : ℕ) → BeginsWith rest modules end → v ≡ judged name j tables s modules (drop end rest) → IsVerdict name j tables s rest v
+  NoStart : (offset : ℕ) → first_bad (file_fields 0 rest) ≡ Some offset → v ≡ refusal 10 (bad_marks_line offset)
+      → IsVerdict name j tables s rest v
+  OfFile : (modules : List MarkedView) (end : ℕ) → BeginsWith rest modules end → v ≡ judged name j tables s modules (drop end rest)
+      → IsVerdict name j tables s rest v
 
 -- a marks file with exactly the sets of the session's executions, and behind it exactly their evidence
 pub record HasVerified (j : JobView) (tables : TablesView) (s : ℕ) (rest : List ℕ) : Type 0 where

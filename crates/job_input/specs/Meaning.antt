@@ -94,7 +94,8 @@ build_fault name lines e = first.Build name (location_in lines e) e
 -- of a module's listing, with room for so many places: its own first fault, or that of what it says
 abbrev pub listing_fault : ImageView → ℕ → List (List ℕ) → Option TablesFault
 listing_fault image room texts = option_or (option_map (first.List image.name) (fault_of texts))
-    (option_and_then (λ (lines : List Line). option_map (build_fault image.name lines) (first_fault image.bytes room [] lines)) (listing_of texts))
+    (option_and_then (λ (lines : List Line). option_map (build_fault image.name lines) (first_fault image.bytes room [] lines))
+    (listing_of texts))
 
 abbrev pub code_line_count : Option (List Line) → ℕ
 code_line_count None = 0
@@ -124,7 +125,8 @@ pub record IsTableOf (m : ℕ) (image : ImageView) (texts : List (List ℕ)) (t 
 abbrev pub AreTablesFrom : ℕ → List ImageView → List (Option (List (List ℕ))) → List TableView → Type 0
 AreTablesFrom m [] [] [] = Unit {0}
 AreTablesFrom m (image ∷ images) (None ∷ listings) tables = AreTablesFrom (m + 1) images listings tables
-AreTablesFrom m (image ∷ images) (Some texts ∷ listings) (t ∷ tables) = IsTableOf m image texts t × AreTablesFrom (m + 1) images listings tables
+AreTablesFrom m (image ∷ images) (Some texts ∷ listings) (t ∷ tables) =
+    IsTableOf m image texts t × AreTablesFrom (m + 1) images listings tables
 AreTablesFrom m images listings tables = ⊥
 
 -- the listings have no fault, and these are their tables, with all places of these in order
@@ -165,11 +167,13 @@ command_named g w (Some name) =
 
 -- the number that a word is the decimal of: it has no sign, and no leading zero but in 0 itself
 abbrev pub number_word : List ℕ → Option ℕ
-number_word w = if nat_lt (digits_value 10 w) 4294967296 && bytes_eq w (decimal (digits_value 10 w)) then Some (digits_value 10 w) else None
+number_word w =
+    if nat_lt (digits_value 10 w) 4294967296 && bytes_eq w (decimal (digits_value 10 w)) then Some (digits_value 10 w) else None
 
 -- the command of a word, a generated job's number and how many tasks it has, 1 to 64
 abbrev pub command_numbered : List ℕ → Option ℕ → Option ℕ → Command
-command_numbered w (Some number) (Some tasks) = if bytes_eq w (codes "trial") && (nat_le 1 tasks && nat_le tasks 64) then Trial number tasks else Unknown
+command_numbered w (Some number) (Some tasks) =
+    if bytes_eq w (codes "trial") && (nat_le 1 tasks && nat_le tasks 64) then Trial number tasks else Unknown
 command_numbered w number tasks = Unknown
 
 -- the command that words are by how many there are, where its job has this grammar

@@ -7,7 +7,8 @@ use Rattle.task_run.specs.Meaning.{Walk}
 use Rattle.job_run.specs.Meaning.{EndsArea}
 
 -- the lists of finished areas have grown by this one
-pub record GrowsBy (plan : PlanView) (walks : ℕ → Walk) (trace : List Visit) (ledger ledger' : List Tally) (finals finals' : List FinalsView) (f : FinalsView) : Type 0 where
+pub record GrowsBy (plan : PlanView) (walks : ℕ → Walk) (trace : List Visit) (ledger ledger' : List Tally)
+    (finals finals' : List FinalsView) (f : FinalsView) : Type 0 where
   pub tally : Tally
   pub ends : EndsArea plan walks trace f tally
   pub in_ledger : ledger' ≡ ledger ++ tally ∷ []

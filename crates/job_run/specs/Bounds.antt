@@ -41,15 +41,18 @@ pub record HasFetched (plan : PlanView) (walks : ℕ → Walk) (t : ℕ) (n : No
   pub most : All (λ x. x.1.tag ≤ n.seen x.0) fetches
   -- where the task controls a session the last tag is the one that its calls have given last
   pub last : (p : ℕ) → is_controller plan t p ≡ true → n.last p ≡ tag_by plan p (first_control plan t) 0 (walks t).calls
-  pub shown : (s p : ℕ) (f : Fact) → has_fact (facts_under plan s p fetches (at_places plan.places (walks t).trace)) f ≡ true → IsRecorded n s p f
-  pub nothing_else : (s p : ℕ) (f : Fact) → n.marked s p f ≡ true → has_fact (facts_under plan s p fetches (at_places plan.places (walks t).trace)) f ≡ true
+  pub shown : (s p : ℕ) (f : Fact) → has_fact (facts_under plan s p fetches (at_places plan.places (walks t).trace)) f ≡ true
+      → IsRecorded n s p f
+  pub nothing_else : (s p : ℕ) (f : Fact) → n.marked s p f ≡ true
+      → has_fact (facts_under plan s p fetches (at_places plan.places (walks t).trace)) f ≡ true
 
 -- What the pass of a task has after its run: of each of its own sessions the facts of the run while it is open, and no
 -- fact that the run doesn't show; no tag as high as that of an own session that it never opened; one plant for each place
 -- of each session that it opened, and one close for each of those that it closed; so few calls that those of 64 tasks are
 -- no more than a pass may make; and its fetches.
 pub record Leaves (plan : PlanView) (walks : ℕ → Walk) (t : ℕ) (n : Notes) : Type 0 where
-  pub least : (s p : ℕ) (f : Fact) → IsOwn plan t s p → has_fact (least_set plan walks t s (place_of plan.places p)) f ≡ true → IsRecorded n s p f
+  pub least : (s p : ℕ) (f : Fact) → IsOwn plan t s p → has_fact (least_set plan walks t s (place_of plan.places p)) f ≡ true
+      → IsRecorded n s p f
   pub most : (s p : ℕ) (f : Fact) → n.marked s p f ≡ true → IsOf plan walks t s p f
   pub last : (s p : ℕ) → IsOwn plan t s p → NeverOpens plan walks t s → n.last p + 1 < 2 * s
   pub plants : n.tally.plants ≡ places_in_all plan (opened_by (last_control plan walks t))
@@ -65,20 +68,26 @@ pub record IsOfOne (plan : PlanView) (walks : ℕ → Walk) (tasks : List TaskNo
   pub is : IsOf plan walks task s p f
 
 -- the root has the fetches of these tasks' passes
-pub record HaveFetched (plan : PlanView) (walks : ℕ → Walk) (tasks : List TaskNo) (n : Notes) (fetches : ℕ → List (ℕ × Cell)) : Type 0 where
-  pub each : (t : ℕ) → has_task tasks t ≡ true → AreFetches plan t (walks t).calls (fetches t) (at_places plan.places (walks t).trace)
+pub record HaveFetched (plan : PlanView) (walks : ℕ → Walk) (tasks : List TaskNo) (n : Notes)
+    (fetches : ℕ → List (ℕ × Cell)) : Type 0 where
+  pub each : (t : ℕ) → has_task tasks t ≡ true
+      → AreFetches plan t (walks t).calls (fetches t) (at_places plan.places (walks t).trace)
   pub rising : (t : ℕ) → has_task tasks t ≡ true → AllPairs (λ x y. x.0 ≡ y.0 → x.1.tag ≤ y.1.tag) (fetches t)
   pub most : (t : ℕ) → has_task tasks t ≡ true → All (λ x. x.1.tag ≤ n.seen x.0) (fetches t)
-  pub last : (t p : ℕ) → has_task tasks t ≡ true → is_controller plan t p ≡ true → n.last p ≡ tag_by plan p (first_control plan t) 0 (walks t).calls
+  pub last : (t p : ℕ) → has_task tasks t ≡ true → is_controller plan t p ≡ true
+      → n.last p ≡ tag_by plan p (first_control plan t) 0 (walks t).calls
   pub shown : (s p : ℕ) (f : Fact) → has_fact (facts_met plan walks fetches s p tasks) f ≡ true → IsRecorded n s p f
   pub nothing_else : (s p : ℕ) (f : Fact) → n.marked s p f ≡ true → has_fact (facts_met plan walks fetches s p tasks) f ≡ true
 
 -- and what the root has once the passes of these tasks are joined to it
 pub record JoinsTasks (plan : PlanView) (walks : ℕ → Walk) (tasks : List TaskNo) (old new : Notes) : Type 0 where
-  pub least : (t s p : ℕ) (f : Fact) → has_task tasks t ≡ true → IsOwn plan t s p → has_fact (least_set plan walks t s (place_of plan.places p)) f ≡ true → IsRecorded new s p f
+  pub least : (t s p : ℕ) (f : Fact) → has_task tasks t ≡ true → IsOwn plan t s p
+      → has_fact (least_set plan walks t s (place_of plan.places p)) f ≡ true → IsRecorded new s p f
   pub most : (s p : ℕ) (f : Fact) → new.marked s p f ≡ true → IsOfOne plan walks tasks s p f
   pub last : (t s p : ℕ) → has_task tasks t ≡ true → IsOwn plan t s p → NeverOpens plan walks t s → new.last p + 1 < 2 * s
-  pub plants : new.tally.plants ≡ old.tally.plants + sum_by (λ (t : TaskNo). places_in_all plan (opened_by (last_control plan walks t.0))) tasks
-  pub closes : new.tally.closes ≡ old.tally.closes + sum_by (λ (t : TaskNo). places_in_all plan (closed_by (last_control plan walks t.0))) tasks
+  pub plants : new.tally.plants ≡ old.tally.plants
+      + sum_by (λ (t : TaskNo). places_in_all plan (opened_by (last_control plan walks t.0))) tasks
+  pub closes : new.tally.closes ≡ old.tally.closes
+      + sum_by (λ (t : TaskNo). places_in_all plan (closed_by (last_control plan walks t.0))) tasks
   pub fetches : ℕ → List (ℕ × Cell)
   pub fetched : HaveFetched plan walks tasks new fetches

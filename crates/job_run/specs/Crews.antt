@@ -57,19 +57,22 @@ pub record GetsPass {P E : Type 0} (is_fresh : ℕ → P → Type 0) (t : ℕ) (
   pub fresh : is_fresh t pass
 
 -- if the slot has a pass, its task is one of the phase's and can run with it
-pub record CanGo {P E : Type 0} (is_fresh : ℕ → P → Type 0) (can_run : ℕ → Done → Option E → Type 0) (p : PhaseView) (t : ℕ) (s : Slot P E) : Type 0 where
+pub record CanGo {P E : Type 0} (is_fresh : ℕ → P → Type 0) (can_run : ℕ → Done → Option E → Type 0) (p : PhaseView) (t : ℕ)
+    (s : Slot P E) : Type 0 where
   pub task : IfSome s.pass (λ _. IsTaskOf p t)
   pub fresh : IfSome s.pass (is_fresh t)
   pub can : IfSome s.pass (λ _. can_run t s.done s.extra)
 
 -- what a pass is after its task's run, and what came of task and extra by it
-pub record HasGone {P E : Type 0} (has_run : ℕ → P → Type 0) (its_end : ℕ → Done → Done → Option E → P → Type 0) (t : ℕ) (old new : Slot P E) : Type 0 where
+pub record HasGone {P E : Type 0} (has_run : ℕ → P → Type 0) (its_end : ℕ → Done → Done → Option E → P → Type 0) (t : ℕ)
+    (old new : Slot P E) : Type 0 where
   pub pass : P
   pub has : new.pass ≡ Some pass
   pub run : has_run t pass
   pub ends : its_end t old.done new.done new.extra pass
 
-abbrev pub GoesWith : {P E : Type 0} → (ℕ → P → Type 0) → (ℕ → Done → Done → Option E → P → Type 0) → ℕ → Slot P E → Slot P E → Option P → Type 0
+abbrev pub GoesWith : {P E : Type 0} → (ℕ → P → Type 0) → (ℕ → Done → Done → Option E → P → Type 0) → ℕ → Slot P E → Slot P E
+    → Option P → Type 0
 GoesWith has_run its_end t old new None = new ≡ old
 GoesWith has_run its_end t old new (Some p) = HasGone has_run its_end t old new
 
@@ -78,12 +81,14 @@ abbrev pub Goes : {P E : Type 0} → (ℕ → P → Type 0) → (ℕ → Done �
 Goes has_run its_end t old new = GoesWith has_run its_end t old new old.pass
 
 -- the slot's task has run with a pass, of which this is known now, and which the slot has no longer
-pub record IsBack {P E : Type 0} (its_end : ℕ → Done → Done → Option E → P → Type 0) (is_known : P → Type 0) (t : ℕ) (old new : Slot P E) : Type 0 where
+pub record IsBack {P E : Type 0} (its_end : ℕ → Done → Done → Option E → P → Type 0) (is_known : P → Type 0) (t : ℕ)
+    (old new : Slot P E) : Type 0 where
   pub pass : P
   pub ends : its_end t old.done new.done new.extra pass
   pub known : is_known pass
   pub none : new.pass ≡ None
 
 -- all slots after the phase
-abbrev pub AreBack : {P E : Type 0} → (ℕ → Done → Done → Option E → P → Type 0) → (P → Type 0) → PhaseView → List (Slot P E) → List (Slot P E) → Type 0
+abbrev pub AreBack : {P E : Type 0} → (ℕ → Done → Done → Option E → P → Type 0) → (P → Type 0) → PhaseView → List (Slot P E)
+    → List (Slot P E) → Type 0
 AreBack its_end is_known p old new = Each (Own p (IsBack its_end is_known)) old new

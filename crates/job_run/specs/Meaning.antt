@@ -15,7 +15,8 @@ use Rattle.phase_plan.specs.Meaning.{of_task, session_set, traces_from, plan_vie
 
 -- the set of a controlled session at each of its places lies between its bounds
 pub record IsBounded (plan : PlanView) (walks : ℕ → Walk) (f : FinalsView) (c : ControlledView) : Type 0 where
-  pub between : All (λ p. IsBetween (least_set plan walks c.by c.session (place_of plan.places p.0)) (most_set plan walks c.by c.session (place_of plan.places p.0)) (set_at f c.session p.0)) c.places
+  pub between : All (λ p. IsBetween (least_set plan walks c.by c.session (place_of plan.places p.0))
+      (most_set plan walks c.by c.session (place_of plan.places p.0)) (set_at f c.session p.0)) c.places
 
 -- Place and cell of the fetch at a visit of task t. A tag that is not 0 is of a session over the place. Where the task
 -- controls a session there the tag is the last that its calls before have given the place.
@@ -23,7 +24,8 @@ pub record IsFetch (plan : PlanView) (t : ℕ) (calls : List (Option ℕ)) (x : 
   pub exists : x.0 < length plan.places
   pub at : (place_of plan.places x.0).at ≡ v.at
   pub over : x.1.tag ≢ 0 → is_over plan (tag_session x.1.tag) x.0 ≡ true
-  pub own : All (λ c. c.by ≡ t → has_place c.places x.0 ≡ true → x.1.tag ≡ tag_by plan x.0 (first_control plan t) 0 (take v.before calls)) plan.controlled
+  pub own : All (λ c. c.by ≡ t → has_place c.places x.0 ≡ true
+      → x.1.tag ≡ tag_by plan x.0 (first_control plan t) 0 (take v.before calls)) plan.controlled
 
 -- one for each of the visits, in order
 abbrev pub AreFetches : PlanView → ℕ → List (Option ℕ) → List (ℕ × Cell) → List Visit → Type 0
@@ -34,7 +36,8 @@ AreFetches plan t calls xs vs = ⊥
 -- by the fetches of each task, the facts of these tasks' visits at the place whose fetch answered the session's odd tag
 abbrev pub facts_met : PlanView → (ℕ → Walk) → (ℕ → List (ℕ × Cell)) → ℕ → ℕ → List TaskNo → FactSet
 facts_met plan walks fetches s p [] = no_facts
-facts_met plan walks fetches s p (t ∷ ts) = union (facts_under plan s p (fetches t.0) (at_places plan.places (walks t.0).trace)) (facts_met plan walks fetches s p ts)
+facts_met plan walks fetches s p (t ∷ ts) =
+    union (facts_under plan s p (fetches t.0) (at_places plan.places (walks t.0).trace)) (facts_met plan walks fetches s p ts)
 
 -- Each task has fetched once for each of its visits at places, and each set has exactly the facts of the visits whose fetch
 -- answered the session's odd tag: so no visit counts in two sessions. The tags that one task's fetches answer at one place
@@ -43,8 +46,10 @@ pub record IsExact (plan : PlanView) (walks : ℕ → Walk) (f : FinalsView) : T
   pub fetches : ℕ → List (ℕ × Cell)
   pub each : All (λ t. AreFetches plan t.0 (walks t.0).calls (fetches t.0) (at_places plan.places (walks t.0).trace)) plan.tasks
   pub rising : All (λ t. AllPairs (λ x y. x.0 ≡ y.0 → x.1.tag ≤ y.1.tag) (fetches t.0)) plan.tasks
-  pub most : All (λ t. All (λ x. All (λ c. has_place c.places x.0 ≡ true → x.1.tag ≤ tag_by plan x.0 (first_control plan c.by) 0 (walks c.by).calls) plan.controlled) (fetches t.0)) plan.tasks
-  pub sets : (s p : ℕ) → 0 < s → s ≤ plan.sessions → p < length plan.places → set_at f s p ≡ facts_met plan walks fetches s p plan.tasks
+  pub most : All (λ t. All (λ x. All (λ c. has_place c.places x.0 ≡ true
+      → x.1.tag ≤ tag_by plan x.0 (first_control plan c.by) 0 (walks c.by).calls) plan.controlled) (fetches t.0)) plan.tasks
+  pub sets : (s p : ℕ) → 0 < s → s ≤ plan.sessions → p < length plan.places
+      → set_at f s p ≡ facts_met plan walks fetches s p plan.tasks
 
 -- The sets of whole sessions are what the trace shows, and those of controlled sessions lie between their bounds; all are
 -- exact by what the fetches answered. Where a session isn't over a place its set is empty there. Each place with a window
@@ -54,11 +59,13 @@ pub record IsExact (plan : PlanView) (walks : ℕ → Walk) (f : FinalsView) : T
 pub record EndsArea (plan : PlanView) (walks : ℕ → Walk) (trace : List Visit) (f : FinalsView) (t : Tally) : Type 0 where
   pub places : f.places ≡ length plan.places
   pub size : length f.sets ≡ plan.sessions * length plan.places
-  pub sets : (p : ℕ) → p < length plan.places → 0 < window_at plan p → set_at f (window_at plan p) p ≡ facts_at (place_of plan.places p) trace
+  pub sets : (p : ℕ) → p < length plan.places → 0 < window_at plan p
+      → set_at f (window_at plan p) p ≡ facts_at (place_of plan.places p) trace
   pub bounded : All (IsBounded plan walks f) plan.controlled
   pub exact : IsExact plan walks f
   pub within : (s p : ℕ) → 0 < s → s ≤ plan.sessions → p < length plan.places → is_within (kind_at plan p) (set_at f s p) ≡ true
-  pub over : (s p : ℕ) (g : Fact) → 0 < s → s ≤ plan.sessions → p < length plan.places → has_fact (set_at f s p) g ≡ true → is_over plan s p ≡ true
+  pub over : (s p : ℕ) (g : Fact) → 0 < s → s ≤ plan.sessions → p < length plan.places → has_fact (set_at f s p) g ≡ true
+      → is_over plan s p ≡ true
   pub plants : t.plants ≡ count_by (λ w. not (nat_eq w 0)) plan.windows + opened_places plan walks
   pub fetches : t.fetches ≡ visits_at_places plan.places trace
   pub facts : sum_by fact_count f.sets ≤ t.marks
@@ -99,10 +106,12 @@ set_by course j places s p = session_set j (trace_by course j places) s (place_o
 
 -- what the set of session s of this controller has there at least, and at most
 abbrev pub least_by : Course → JobView → List Place → ℕ → ℕ → ℕ → FactSet
-least_by course j places by s p = least_set (plan_view j places (session_of j s).phase) (walk_by course j places) by s (place_of places p)
+least_by course j places by s p =
+    least_set (plan_view j places (session_of j s).phase) (walk_by course j places) by s (place_of places p)
 
 abbrev pub most_by : Course → JobView → List Place → ℕ → ℕ → ℕ → FactSet
-most_by course j places by s p = most_set (plan_view j places (session_of j s).phase) (walk_by course j places) by s (place_of places p)
+most_by course j places by s p =
+    most_set (plan_view j places (session_of j s).phase) (walk_by course j places) by s (place_of places p)
 
 abbrev pub joined : List (List Visit) → List Visit
 joined [] = []
@@ -122,7 +131,8 @@ pub record Account : Type 0 where
 abbrev pub AreEnded : Course → JobView → List Place → ℕ → List (List ℕ) → List FinalsView → List Tally → Type 0
 AreEnded course j places phase [] [] [] = Unit {0}
 AreEnded course j places phase (n ∷ ns) (f ∷ fs) (t ∷ ts) =
-    EndsArea (plan_view j places phase) (walk_by course j places) (phase_trace course j places phase) f t × AreEnded course j places (phase + 1) ns fs ts
+    EndsArea (plan_view j places phase) (walk_by course j places) (phase_trace course j places phase) f t
+    × AreEnded course j places (phase + 1) ns fs ts
 AreEnded course j places phase ns fs ts = ⊥
 
 -- one area was made and finished for each phase of the job

@@ -21,21 +21,26 @@ pub record IsOutcomeBy (course : Course) (j : JobView) (places : List Place) (ta
   pub job : sets.job ≡ j
   pub size : sets.places ≡ length places
   pub are_sets : (s p : ℕ) → 0 < s → s ≤ length j.sessions → p < length places →
-      is_whole (session_of j s) ≡ true → observes (session_of j s).phase (place_of places p).module (session_of j s) ≡ true → set_in sets s p ≡ set_by course j places s p
+      is_whole (session_of j s) ≡ true → observes (session_of j s).phase (place_of places p).module (session_of j s) ≡ true
+      → set_in sets s p ≡ set_by course j places s p
   pub are_bounded : (s p by : ℕ) → 0 < s → s ≤ length j.sessions → p < length places →
-      (session_of j s).by ≡ Some by → observes (session_of j s).phase (place_of places p).module (session_of j s) ≡ true → IsBetween (least_by course j places by s p) (most_by course j places by s p) (set_in sets s p)
+      (session_of j s).by ≡ Some by → observes (session_of j s).phase (place_of places p).module (session_of j s) ≡ true
+      → IsBetween (least_by course j places by s p) (most_by course j places by s p) (set_in sets s p)
   pub within : (s p : ℕ) → 0 < s → s ≤ length j.sessions → is_within (place_of places p).kind (set_in sets s p) ≡ true
 
 abbrev pub ComesTo : Course → JobView → List Place → Outcome → Type 0
 ComesTo course j places outcome = IsOutcomeBy course j places outcome.tasks.items outcome.sets
 
 -- a task of the job ran from its first state to this one, and its extra tells this of it
-pub record HasEnded {E : Type 0} (ends : Ends E) (j : JobView) (places : List Place) (sets : SetsView) (t : ℕ) (d : Done) (extra : E) : Type 0 where
+pub record HasEnded {E : Type 0} (ends : Ends E) (j : JobView) (places : List Place) (sets : SetsView) (t : ℕ) (d : Done)
+    (extra : E) : Type 0 where
   pub first : Done
   pub begun : IsEquipped j places t first
-  pub tells : ends (plan_view j places (task_of j t).phase) first.task d.task extra (λ s p. set_at (get_or sets.finals (task_of j t).phase no_finals) s p)
+  pub tells : ends (plan_view j places (task_of j t).phase) first.task d.task extra
+      (λ s p. set_at (get_or sets.finals (task_of j t).phase no_finals) s p)
 
 -- one for each task of the job, in order
-pub record AreExtras {E : Type 0} (ends : Ends E) (j : JobView) (places : List Place) (tasks : List Done) (sets : SetsView) (extras : List E) : Type 0 where
+pub record AreExtras {E : Type 0} (ends : Ends E) (j : JobView) (places : List Place) (tasks : List Done) (sets : SetsView)
+    (extras : List E) : Type 0 where
   pub count : length extras ≡ length j.tasks
   pub each : (t : ℕ) (d : Done) (e : E) → t < length j.tasks → HasEnded ends j places sets t (get_or tasks t d) (get_or extras t e)

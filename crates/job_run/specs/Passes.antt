@@ -54,7 +54,8 @@ visits_of walks tasks = joined (map (trace_of walks) tasks)
 
 -- The root has planted every place with a window, and split off passes for the tasks that are given. Of those that are back
 -- it has observed what their tasks have visited.
-pub record HasJoined {P : Type 0} (is_pass : P → Type 0) (notes : P → Notes) (plan : PlanView) (course : Course) (j : JobView) (places : List Place) (root : P) (given_to back_of : List TaskNo) : Type 0 where
+pub record HasJoined {P : Type 0} (is_pass : P → Type 0) (notes : P → Notes) (plan : PlanView) (course : Course) (j : JobView)
+    (places : List Place) (root : P) (given_to back_of : List TaskNo) : Type 0 where
   pub area : is_pass root
   pub bears : (notes root).bears ≡ None
   pub given : (t : ℕ) → (notes root).given t ≡ has_task given_to t
@@ -70,7 +71,8 @@ pub record IsFresh {P : Type 0} (is_pass : P → Type 0) (notes : P → Notes) (
   pub fresh : notes p ≡ split_notes plan (after_planting plan) t
 
 -- the task has the sessions that it controls, and may begin with its extra beside the pass that is split off for it
-pub record HasStart {E : Type 0} (begins : Begins E) (plan : PlanView) (j : JobView) (places : List Place) (t : ℕ) (d : Done) (kept : Option E) : Type 0 where
+pub record HasStart {E : Type 0} (begins : Begins E) (plan : PlanView) (j : JobView) (places : List Place) (t : ℕ) (d : Done)
+    (kept : Option E) : Type 0 where
   pub task : IsEquipped j places t d
   pub extra : E
   pub has : kept ≡ Some extra
@@ -87,13 +89,15 @@ pub record Runs (course : Course) (plan : PlanView) (before after : Notes) (old 
   pub ran : RanAs course plan before after old.task new.task ending
 
 -- the pass has observed the task's visits since it was split off, and has its sessions as the run leaves them
-pub record HasSeen {P : Type 0} (is_pass : P → Type 0) (notes : P → Notes) (plan : PlanView) (course : Course) (j : JobView) (places : List Place) (t : ℕ) (p : P) : Type 0 where
+pub record HasSeen {P : Type 0} (is_pass : P → Type 0) (notes : P → Notes) (plan : PlanView) (course : Course) (j : JobView)
+    (places : List Place) (t : ℕ) (p : P) : Type 0 where
   pub area : is_pass p
   pub observes : Observes plan (split_notes plan (after_planting plan) t) (notes p) (walk_by course j places t).trace
   pub leaves : Leaves plan (walk_by course j places) t (notes p)
 
 -- the task has ended, and its extra tells this of its run, where the sets are as the pass knows them final
-pub record EndsTask {P E : Type 0} (course : Course) (ends : Ends E) (notes : P → Notes) (plan : PlanView) (j : JobView) (places : List Place) (t : ℕ) (old new : Done) (kept : Option E) (p : P) : Type 0 where
+pub record EndsTask {P E : Type 0} (course : Course) (ends : Ends E) (notes : P → Notes) (plan : PlanView) (j : JobView)
+    (places : List Place) (t : ℕ) (old new : Done) (kept : Option E) (p : P) : Type 0 where
   pub ended : IsEnded course j places t new
   pub extra : E
   pub left : kept ≡ Some extra

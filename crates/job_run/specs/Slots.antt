@@ -39,11 +39,14 @@ pub record IsRange (j : JobView) (phase next from end : ℕ) : Type 0 where
   pub all : (t : ℕ) → t < next → in_phase j phase t ≡ true → (from ≤ t) × (t < end)
 
 -- the extras of the phase's tasks tell this of them, where these are the phase's sets
-pub record HaveExtras {P E : Type 0} (ends : Ends E) (j : JobView) (places : List Place) (phase : ℕ) (sets : ℕ → ℕ → FactSet) (slots : List (Slot P E)) : Type 0 where
-  pub each : (t : ℕ) (d : Slot P E) → t < length slots → in_phase j phase t ≡ true → HasExtra ends j places sets t (get_or slots t d)
+pub record HaveExtras {P E : Type 0} (ends : Ends E) (j : JobView) (places : List Place) (phase : ℕ) (sets : ℕ → ℕ → FactSet)
+    (slots : List (Slot P E)) : Type 0 where
+  pub each : (t : ℕ) (d : Slot P E) → t < length slots → in_phase j phase t ≡ true
+      → HasExtra ends j places sets t (get_or slots t d)
 
 -- and those of the tasks of each phase before the next, where these are the sets that the phases' areas have ended with
-pub record HaveAllExtras {P E : Type 0} (ends : Ends E) (j : JobView) (places : List Place) (next : ℕ) (finals : List FinalsView) (slots : List (Slot P E)) : Type 0 where
+pub record HaveAllExtras {P E : Type 0} (ends : Ends E) (j : JobView) (places : List Place) (next : ℕ) (finals : List FinalsView)
+    (slots : List (Slot P E)) : Type 0 where
   pub each : (phase : ℕ) → phase < next → HaveExtras ends j places phase (set_at (get_or finals phase no_finals)) slots
 
 -- and those of the tasks of all phases
@@ -57,12 +60,15 @@ pub record KeepsOthers {P E : Type 0} (j : JobView) (phase : ℕ) (old new : Lis
   pub extra : (t : ℕ) (d : Slot P E) → t < length old → in_phase j phase t ≡ false → (get_or new t d).extra ≡ (get_or old t d).extra
 
 -- the tasks of the phases before this one have run, and no slot has a pass
-pub record StandBefore {P E : Type 0} (course : Course) (j : JobView) (places : List Place) (phase : ℕ) (slots : List (Slot P E)) : Type 0 where
+pub record StandBefore {P E : Type 0} (course : Course) (j : JobView) (places : List Place) (phase : ℕ)
+    (slots : List (Slot P E)) : Type 0 where
   pub tasks : AreRun course j places phase slots
   pub empty : AreEmpty slots
 
--- so they stand before the next phase: this one's tasks have run, and tell this by their extras, where its area has ended with these sets
-pub record Passed {P E : Type 0} (course : Course) (ends : Ends E) (j : JobView) (places : List Place) (phase : ℕ) (old new : List (Slot P E)) (f : FinalsView) : Type 0 where
+-- so they stand before the next phase: this one's tasks have run, and tell this by their extras, where its area has ended with
+-- these sets
+pub record Passed {P E : Type 0} (course : Course) (ends : Ends E) (j : JobView) (places : List Place) (phase : ℕ)
+    (old new : List (Slot P E)) (f : FinalsView) : Type 0 where
   pub before : StandBefore course j places (phase + 1) new
   pub extras : HaveExtras ends j places phase (set_at f) new
   pub others : KeepsOthers j phase old new

@@ -63,7 +63,8 @@ abbrev pub Ends : Type 0 → Type 1
 Ends E = PlanView → Task → Task → E → (ℕ → ℕ → FactSet) → Type 0
 
 -- the slot's task has run from its first state, and its extra tells this of it, where these are its phase's sets
-pub record HasExtra {P E : Type 0} (ends : Ends E) (j : JobView) (places : List Place) (sets : ℕ → ℕ → FactSet) (t : ℕ) (s : Slot P E) : Type 0 where
+pub record HasExtra {P E : Type 0} (ends : Ends E) (j : JobView) (places : List Place) (sets : ℕ → ℕ → FactSet) (t : ℕ)
+    (s : Slot P E) : Type 0 where
   pub extra : E
   pub has : s.extra ≡ Some extra
   pub first : Done
@@ -80,9 +81,11 @@ pub record AreNew {P E : Type 0} (j : JobView) (places : List Place) (slots : Li
   pub begun : (t : ℕ) (d : Slot P E) → t < length slots → HasNotRun j places t (get_or slots t d).done
 
 -- the tasks of the earlier phases have run, and the others are as they begin
-pub record AreRun {P E : Type 0} (course : Course) (j : JobView) (places : List Place) (phase : ℕ) (slots : List (Slot P E)) : Type 0 where
+pub record AreRun {P E : Type 0} (course : Course) (j : JobView) (places : List Place) (phase : ℕ)
+    (slots : List (Slot P E)) : Type 0 where
   pub count : length slots ≡ length j.tasks
-  pub ended : (t : ℕ) (d : Slot P E) → t < length slots → has_run j phase t ≡ true → IsEnded course j places t (get_or slots t d).done
+  pub ended : (t : ℕ) (d : Slot P E) → t < length slots → has_run j phase t ≡ true
+      → IsEnded course j places t (get_or slots t d).done
   pub begun : (t : ℕ) (d : Slot P E) → t < length slots → has_run j phase t ≡ false → HasNotRun j places t (get_or slots t d).done
 
 -- the tasks of all phases have run

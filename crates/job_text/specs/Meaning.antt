@@ -64,11 +64,20 @@ are_met Present j = list_all (is_met j.tasks) j.sessions
 are_met c j = true
 
 abbrev pub bound_session : List TaskView → SessionDraft → SessionView
-bound_session tasks s = record { name = s.name; phase = s.phase; modules = s.modules; by = option_and_then (controller_named tasks s.phase) s.by }
+bound_session tasks s =
+    record { name = s.name; phase = s.phase; modules = s.modules; by = option_and_then (controller_named tasks s.phase) s.by }
 
 -- the job, with each controller's index among its tasks
 abbrev pub bound : DraftView → JobView
-bound j = record { images = j.images; listings = j.listings; services = j.services; phases = j.phases; sessions = map (bound_session j.tasks) j.sessions; tasks = j.tasks }
+bound j =
+    record {
+      images = j.images;
+      listings = j.listings;
+      services = j.services;
+      phases = j.phases;
+      sessions = map (bound_session j.tasks) j.sessions;
+      tasks = j.tasks;
+    }
 
 -- What a card adds to a job, where it may.
 
@@ -94,7 +103,9 @@ has_services grammar.Services = true
 
 -- one whose number is above those of the others, where the grammar has services
 abbrev pub with_service : DraftView → Service → Option DraftView
-with_service j s = if has_services j.grammar && list_all (λ v. nat_lt v.number s.number) j.services then Some (record j { services = j.services ++ s ∷ [] }) else None
+with_service j s =
+    if has_services j.grammar && list_all (λ v. nat_lt v.number s.number) j.services
+    then Some (record j { services = j.services ++ s ∷ [] }) else None
 
 abbrev pub with_phase : DraftView → List ℕ → Option DraftView
 with_phase j name = if list_any (λ p. bytes_eq p name) j.phases then None else Some (record j { phases = j.phases ++ name ∷ [] })
@@ -209,7 +220,9 @@ decimal_value n (b ∷ bs) = decimal_value (10 * n + (b - 48)) bs
 
 -- 1 to 9 digits without a leading zero, but 0 itself
 abbrev pub is_number : List ℕ → Bool
-is_number w = nat_le 1 (length w) && nat_le (length w) 9 && (not (nat_eq (slice_index w 0) 48) || nat_eq (length w) 1) && list_all is_digit_byte w
+is_number w =
+    nat_le 1 (length w) && nat_le (length w) 9 && (not (nat_eq (slice_index w 0) 48) || nat_eq (length w) 1)
+    && list_all is_digit_byte w
 
 abbrev pub card_number : List ℕ → Option ℕ
 card_number w = if is_number w then Some (decimal_value 0 w) else None
@@ -253,7 +266,8 @@ names_at ws = names_on (Some []) ws
 
 -- where a module may stand: on a doubleword from X'100000' on, of an even size, below X'FFF000'
 abbrev pub may_stand : ℕ → ℕ → Bool
-may_stand base size = nat_eq (base % 8) 0 && nat_le 1048576 base && nat_eq (size % 2) 0 && nat_le 2 size && nat_le (base + size) 16773120
+may_stand base size =
+    nat_eq (base % 8) 0 && nat_le 1048576 base && nat_eq (size % 2) 0 && nat_le 2 size && nat_le (base + size) 16773120
 
 -- the MODULE card of these fields, and so on for the other keys; none where a field is bad
 abbrev pub as_module : Option (List ℕ) → Option ℕ → Option ℕ → Option CardView
@@ -277,7 +291,8 @@ controlled_card name words = None
 
 -- of the words behind SESSION and a name; the word BY is never its first module
 abbrev pub session_card : List ℕ → List (List ℕ) → Option CardView
-session_card name (a ∷ more) = if bytes_eq a (codes "BY") then controlled_card name more else as_session (name_at name) (names_at (a ∷ more))
+session_card name (a ∷ more) =
+    if bytes_eq a (codes "BY") then controlled_card name more else as_session (name_at name) (names_at (a ∷ more))
 session_card name words = None
 
 abbrev pub as_task : Option (List ℕ) → Option ℕ → Option ℕ → Option ℕ → Option ℕ → Option CardView
@@ -296,7 +311,8 @@ as_data n bytes = None
 
 -- of a number of SVC that is no task call
 abbrev pub as_service : Option ℕ → Option ℕ → Option CardView
-as_service (Some n) (Some e) = if nat_eq n 0 || nat_le 6 n && nat_le n 254 then Some (Serve (record { number = n; entry = e })) else None
+as_service (Some n) (Some e) =
+    if nat_eq n 0 || nat_le 6 n && nat_le n 254 then Some (Serve (record { number = n; entry = e })) else None
 as_service n e = None
 
 -- the card of a key and one word
@@ -321,7 +337,8 @@ abbrev pub module_card : List ℕ → List ℕ → List ℕ → List ℕ → Opt
 module_card key a b c = if bytes_eq key (codes "MODULE") then as_module (name_at a) (address_at b) (card_number c) else None
 
 abbrev pub task_card : List ℕ → List ℕ → List ℕ → List ℕ → List ℕ → List ℕ → Option CardView
-task_card key a b c d e = if bytes_eq key (codes "TASK") then as_task (name_at a) (address_at b) (card_number c) (card_number d) (card_number e) else None
+task_card key a b c d e =
+    if bytes_eq key (codes "TASK") then as_task (name_at a) (address_at b) (card_number c) (card_number d) (card_number e) else None
 
 -- the card of a key and two or more words that is no SESSION
 abbrev pub long_card : List ℕ → List ℕ → List (List ℕ) → Option CardView
@@ -521,13 +538,16 @@ pub record GoesOn (g : Grammar) (lines : List LineView) : Type 0 where
   pub begins : JobBegins g lines
   pub within : (what : Limit) → Passes g what lines → ⊥
 
--- Line n, counted from 1, is the first such that lines 1 to n begin no job; or n is one more than the number of lines, where these begin one and spell none. No line before it passed a limit.
+-- Line n, counted from 1, is the first such that lines 1 to n begin no job; or n is one more than the number of lines, where these
+-- begin one and spell none. No line before it passed a limit.
 pub record IsBadAt (g : Grammar) (lines : List LineView) (n : ℕ) : Type 0 where
   pub counts : 1 ≤ n
   pub before : GoesOn g (take (n - 1) lines)
-  pub here : ((n ≤ length lines) × (JobBegins g (take n lines) → ⊥)) ⊎ ((n ≡ length lines + 1) × ((job : JobView) → Spells g Present lines job → ⊥))
+  pub here : ((n ≤ length lines) × (JobBegins g (take n lines) → ⊥))
+      ⊎ ((n ≡ length lines + 1) × ((job : JobView) → Spells g Present lines job → ⊥))
 
--- Line n is the first with which a limit is passed, lines 1 to n begin a job, and of the limits that they pass this is the first in the order of limits.
+-- Line n is the first with which a limit is passed, lines 1 to n begin a job, and of the limits that they pass this is the first in
+-- the order of limits.
 pub record IsOverAt (g : Grammar) (lines : List LineView) (what : Limit) (n : ℕ) : Type 0 where
   pub counts : 1 ≤ n
   pub inside : n ≤ length lines

@@ -23,7 +23,8 @@ IsOnly n job (Err e) = e ≡ fault.NoMemory
 
 -- where first lines spell a job within the limits, the answer is that job
 abbrev pub AnswersOnly : Grammar → List LineView → Result ReadJob JobFault → Type 0
-AnswersOnly g lines answer = (n : ℕ) (job : JobView) → n ≤ length lines → Spells g Present (take n lines) job → IsWithin job → IsOnly n job answer
+AnswersOnly g lines answer =
+    (n : ℕ) (job : JobView) → n ≤ length lines → Spells g Present (take n lines) job → IsWithin job → IsOnly n job answer
 
 -- the fault is that of reading these lines, and where first lines spell a job within the limits it is want of memory
 pub record IsRefused (g : Grammar) (lines : List LineView) (e : JobFault) : Type 0 where

@@ -83,7 +83,8 @@ abbrev pub with_bytes : ImageView → List ℕ → ImageView
 with_bytes i bytes = record i { bytes = i.bytes ++ bytes }
 
 abbrev pub module_over : DraftView → ℕ → Option Limit
-module_over j size = if nat_le MODULE_LIMIT (length j.images) then Some limit.Modules else (if nat_le size SIZE_LIMIT then None else Some limit.Size)
+module_over j size =
+    if nat_le MODULE_LIMIT (length j.images) then Some limit.Modules else (if nat_le size SIZE_LIMIT then None else Some limit.Size)
 
 abbrev pub line_over : List ℕ → Option Limit
 line_over text = if nat_le (length text) LINE_LIMIT then None else Some limit.Line
@@ -103,11 +104,13 @@ task_over j private budget room =
     else Some limit.Private)
 
 abbrev pub open_module : List ℕ → ℕ → ℕ → DraftView → Option State
-open_module name base size j = if fits j name base size then Some (state (part.Texts (no_bytes name base) size) j (module_over j size)) else None
+open_module name base size j =
+    if fits j name base size then Some (state (part.Texts (no_bytes name base) size) j (module_over j size)) else None
 
 abbrev pub open_task : List ℕ → ℕ → ℕ → ℕ → ℕ → DraftView → Option State
 open_task name entry private budget room j =
-    if has_task j name then None else Some (state (part.Task (fresh_task name entry private budget room)) j (task_over j private budget room))
+    if has_task j name then None
+    else Some (state (part.Task (fresh_task name entry private budget room)) j (task_over j private budget room))
 
 abbrev pub add_service : Service → DraftView → Option State
 add_service s j = option_map (λ k. state part.Services k None) (with_service j s)
@@ -119,7 +122,8 @@ abbrev pub add_session : DraftView → List ℕ → Option (List ℕ) → List (
 add_session j name by names = option_map (λ k. state part.Sessions k (session_over j)) (with_new_session j name by names)
 
 abbrev pub take_text : Part → DraftView → List ℕ → Option State
-take_text (part.Texts i left) j bytes = if nat_le (length bytes) left then Some (state (part.Texts (with_bytes i bytes) (left - length bytes)) j None) else None
+take_text (part.Texts i left) j bytes =
+    if nat_le (length bytes) left then Some (state (part.Texts (with_bytes i bytes) (left - length bytes)) j None) else None
 take_text p j bytes = None
 
 abbrev pub take_listing : Part → DraftView → ℕ → Option State
@@ -143,7 +147,8 @@ abbrev pub take_service : State → Service → Option State
 take_service st s = option_and_then (add_service s) (closed_service st.part st.job)
 
 abbrev pub take_task : State → List ℕ → ℕ → ℕ → ℕ → ℕ → Option State
-take_task st name entry private budget room = option_and_then (open_task name entry private budget room) (closed_task st.part st.job)
+take_task st name entry private budget room =
+    option_and_then (open_task name entry private budget room) (closed_task st.part st.job)
 
 abbrev pub take_card : Controllers → State → CardView → Option State
 take_card c st Cover = take_cover st
@@ -167,7 +172,8 @@ take_raw (part.Listed i left lines) j text = Some (state (part.Listed i (left - 
 take_raw p j text = None
 
 abbrev pub step : Controllers → State → LineView → Option State
-step c st l = if takes_raw st.part then take_raw st.part st.job (listing_text l) else option_and_then (take_card c st) (card_at l.bytes)
+step c st l =
+    if takes_raw st.part then take_raw st.part st.job (listing_text l) else option_and_then (take_card c st) (card_at l.bytes)
 
 abbrev pub run : Controllers → State → List LineView → Option State
 run c st [] = Some st

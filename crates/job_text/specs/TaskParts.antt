@@ -14,7 +14,18 @@ part task stage = record { task = task; stage = stage }
 
 -- behind TASK
 abbrev pub fresh_view : List ℕ → ℕ → ℕ → ℕ → ℕ → TaskView
-fresh_view name entry private budget room = record { name = name; phase = 0; entry = entry; private = private; budget = budget; room = room; regs = first_regs entry; cards = []; input = [] }
+fresh_view name entry private budget room =
+    record {
+      name = name;
+      phase = 0;
+      entry = entry;
+      private = private;
+      budget = budget;
+      room = room;
+      regs = first_regs entry;
+      cards = [];
+      input = [];
+    }
 
 abbrev pub fresh_task : List ℕ → ℕ → ℕ → ℕ → ℕ → TaskPart
 fresh_task name entry private budget room = part (fresh_view name entry private budget room) (stage.Regs 0)

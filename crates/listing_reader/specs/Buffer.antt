@@ -24,6 +24,7 @@ pub record IsBuffer (bytes starts begins : List ℕ) : Type 0 where
   pub started : (i : ℕ) → i < length begins → i / 256 < length starts
   pub few : length starts ≤ length begins / 256 + 1
   pub low : length begins / 256 < length starts → get_or starts (length begins / 256) 0 ≤ length bytes
-  pub near : length begins / 256 < length starts → length bytes ≤ get_or starts (length begins / 256) 0 + length begins % 256 * LINE_LIMIT
+  pub near : length begins / 256 < length starts
+      → length bytes ≤ get_or starts (length begins / 256) 0 + length begins % 256 * LINE_LIMIT
   pub rising : (i : ℕ) → begin_of bytes starts begins i ≤ begin_of bytes starts begins (i + 1)
   pub inside : (i : ℕ) → begin_of bytes starts begins i ≤ length bytes

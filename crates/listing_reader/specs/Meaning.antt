@@ -40,7 +40,8 @@ wide_text = codes "Loc    Object Code      Address1 Address2  Stmt   Source Stat
 -- it stands behind so many columns, its letters in either case
 unfoldable pub is_text_after : List ℕ → List ℕ → ℕ → Bool
 is_text_after text line before =
-    nat_le (before + length text) (length line) && bytes_eq (map to_ascii_lowercase (slice_range line before (before + length text))) (map to_ascii_lowercase text)
+    nat_le (before + length text) (length line)
+    && bytes_eq (map to_ascii_lowercase (slice_range line before (before + length text))) (map to_ascii_lowercase text)
 
 -- it begins at column 3 or at column 4
 abbrev pub has_heading : List ℕ → List ℕ → Bool
@@ -59,7 +60,9 @@ width_in line = if has_heading narrow_text line then Narrow else Wide
 
 -- the index of the first heading line, its shift and its width
 abbrev pub heading_of : List (List ℕ) → Option (ℕ × ℕ × Width)
-heading_of lines = option_map (λ (i : ℕ). (i, shift_in (slice_index_or lines i []), width_in (slice_index_or lines i []))) (position is_heading lines)
+heading_of lines =
+    option_map (λ (i : ℕ). (i, shift_in (slice_index_or lines i []), width_in (slice_index_or lines i [])))
+    (position is_heading lines)
 
 -- The fields of a listing line by its columns (High Level Assembler, the source and object section).
 
@@ -81,12 +84,15 @@ are_blank line shift from count = all_below (λ k. is_blank_at line shift (from 
 -- the number that so many hexadecimal digits spell from a column on
 unfoldable pub number_in : List ℕ → ℕ → ℕ → ℕ → Option ℕ
 number_in line shift from zero = Some 0
-number_in line shift from (suc n) = option_and_then (λ v. option_map (λ d. 16 * v + d) (hex_digit_value (column line shift (from + n)))) (number_in line shift from n)
+number_in line shift from (suc n) =
+    option_and_then (λ v. option_map (λ d. 16 * v + d) (hex_digit_value (column line shift (from + n))))
+    (number_in line shift from n)
 
 -- the k-th column of so many groups of four hexadecimal digits, which are parted by one blank and followed by blanks
 abbrev pub fits_groups : List ℕ → ℕ → ℕ → ℕ → ℕ → Bool
 fits_groups line shift from groups k =
-    if nat_lt (k % 5) 4 && nat_lt (k / 5) groups then is_hex_digit (column line shift (from + k)) else is_blank_at line shift (from + k)
+    if nat_lt (k % 5) 4 && nat_lt (k / 5) groups then is_hex_digit (column line shift (from + k))
+    else is_blank_at line shift (from + k)
 
 unfoldable pub are_groups : Columns → List ℕ → ℕ → ℕ → Bool
 are_groups c line shift groups = all_below (fits_groups line shift c.object groups) c.room
@@ -150,17 +156,21 @@ is_instruction c line shift =
 -- a line behind the heading; none where it is an instruction's and its object code is no code
 unfoldable pub line_of : Columns → ℕ → List ℕ → Option Line
 line_of c shift line =
-    if is_instruction c line shift then option_map (λ code. says.Code (unwrap_or (column_location c line shift) 0) code) (object_of c line shift)
+    if is_instruction c line shift
+    then option_map (λ code. says.Code (unwrap_or (column_location c line shift) 0) code) (object_of c line shift)
     else Some Text
 
 -- what the lines behind the heading say, behind what the earlier ones do; none where one is bad
 abbrev pub lines_behind : List Line → Columns → ℕ → List (List ℕ) → Option (List Line)
 lines_behind earlier c shift [] = Some earlier
-lines_behind earlier c shift (line ∷ lines) = option_and_then (λ (says : Line). lines_behind (earlier ++ says ∷ []) c shift lines) (line_of c shift line)
+lines_behind earlier c shift (line ∷ lines) =
+    option_and_then (λ (says : Line). lines_behind (earlier ++ says ∷ []) c shift lines) (line_of c shift line)
 
 -- The whole listing: the first heading line and all before it are text. None where there is no heading or a line is bad.
 abbrev pub listing_of : List (List ℕ) → Option (List Line)
-listing_of lines = option_and_then (λ (h : ℕ × ℕ × Width). lines_behind (replicate (h.0 + 1) Text) (columns_of h.2) h.1 (drop (h.0 + 1) lines)) (heading_of lines)
+listing_of lines =
+    option_and_then (λ (h : ℕ × ℕ × Width). lines_behind (replicate (h.0 + 1) Text) (columns_of h.2) h.1 (drop (h.0 + 1) lines))
+    (heading_of lines)
 
 -- the first bad one of the lines, of which the first has the number n
 abbrev pub bad_from : Columns → ℕ → ℕ → List (List ℕ) → Option ListFault
@@ -168,4 +178,6 @@ bad_from c shift n lines = option_map (λ k. BadObject (n + k)) (position (λ li
 
 -- its first fault: no heading, or the first bad line, counted from 1
 abbrev pub fault_of : List (List ℕ) → Option ListFault
-fault_of lines = option_map_or (λ (h : ℕ × ℕ × Width). bad_from (columns_of h.2) h.1 (h.0 + 2) (drop (h.0 + 1) lines)) (heading_of lines) (Some NoHeading)
+fault_of lines =
+    option_map_or (λ (h : ℕ × ℕ × Width). bad_from (columns_of h.2) h.1 (h.0 + 2) (drop (h.0 + 1) lines)) (heading_of lines)
+    (Some NoHeading)

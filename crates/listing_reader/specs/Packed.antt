@@ -19,4 +19,5 @@ pub record IsPacked (codes : List Line) (firsts ordinals : List ℕ) : Type 0 wh
   pub few : length firsts ≤ length ordinals / 255 + 1
   pub low : length ordinals / 255 < length firsts → get_or firsts (length ordinals / 255) 0 ≤ length codes
   pub near : length ordinals / 255 < length firsts → length codes ≤ get_or firsts (length ordinals / 255) 0 + length ordinals % 255
-  pub within : (i : ℕ) → i < length ordinals → 0 < get_or ordinals i 0 → get_or firsts (i / 255) 0 + get_or ordinals i 0 ≤ length codes
+  pub within : (i : ℕ) → i < length ordinals → 0 < get_or ordinals i 0
+      → get_or firsts (i / 255) 0 + get_or ordinals i 0 ≤ length codes

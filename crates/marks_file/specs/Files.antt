@@ -39,4 +39,5 @@ first_name (f ∷ fs) = f.marks.name
 -- sets the name is that of the first of them, and the runs are their sum.
 abbrev pub IsUnionAnyhow : List ℕ → MarksView → Type 0
 IsUnionAnyhow bytes m = (files others : List File) → AreFilesOf bytes files → All IsFile others → HaveSameSets files others
-    → IsCombined (spelling others) (record { name = first_name others; runs = held (sum_by (λ f. f.marks.runs) others); modules = m.modules })
+    → IsCombined (spelling others)
+    (record { name = first_name others; runs = held (sum_by (λ f. f.marks.runs) others); modules = m.modules })

@@ -43,7 +43,9 @@ is_length size at len = (nat_eq len 2 || (nat_eq len 4 || nat_eq len 6)) && nat_
 
 -- original: a halfword of this length and kind, and not the breakpoint
 unfoldable pub is_original : ℕ → Kind → ℕ → Bool
-is_original len kind half = nat_lt half 65536 && (nat_eq (length_of half) len && (nat_eq (kind_number (kind_of half)) (kind_number kind) && not (nat_eq half breakpoint)))
+is_original len kind half =
+    nat_lt half 65536 && (nat_eq (length_of half) len
+    && (nat_eq (kind_number (kind_of half)) (kind_number kind) && not (nat_eq half breakpoint)))
 
 -- set: facts of the kind alone
 unfoldable pub is_set : Kind → ℕ → Bool
@@ -56,7 +58,8 @@ end_location p = p.location + p.len
 abbrev pub are_places : ℕ → ℕ → List MarkedPlace → Bool
 are_places size end [] = true
 are_places size end (p ∷ ps) =
-    (is_location size end p.location && (is_length size p.location p.len && (is_original p.len p.kind p.original && is_set p.kind (number_of_facts p.set))))
+    (is_location size end p.location
+    && (is_length size p.location p.len && (is_original p.len p.kind p.original && is_set p.kind (number_of_facts p.set))))
     && are_places size (end_location p) ps
 
 -- name: one filled with blanks, other than the earlier modules'
@@ -73,7 +76,9 @@ is_clear base size m = nat_le (m.base + m.size) base || nat_le (base + size) m.b
 
 -- size: even, 2 to 262,144, up to X'FFF000' at most, sharing no byte with an earlier module
 unfoldable pub is_size : List MarkedView → ℕ → ℕ → Bool
-is_size earlier base size = nat_eq (size % 2) 0 && (nat_le 2 size && (nat_le size 262144 && (nat_le (base + size) 16773120 && list_all (is_clear base size) earlier)))
+is_size earlier base size =
+    nat_eq (size % 2) 0 &&
+    (nat_le 2 size && (nat_le size 262144 && (nat_le (base + size) 16773120 && list_all (is_clear base size) earlier)))
 
 abbrev pub place_total : List MarkedView → ℕ
 place_total [] = 0
@@ -87,7 +92,9 @@ is_count earlier count = nat_le (place_total earlier + count) 65536
 abbrev pub are_modules : List MarkedView → List MarkedView → Bool
 are_modules earlier [] = true
 are_modules earlier (m ∷ ms) =
-    (is_new_name earlier m.name && (is_base m.base && (is_size earlier m.base m.size && (is_count earlier (length m.places) && are_places m.size 0 m.places))))
+    (is_new_name earlier m.name
+    && (is_base m.base &&
+    (is_size earlier m.base m.size && (is_count earlier (length m.places) && are_places m.size 0 m.places))))
     && are_modules (earlier ++ m ∷ []) ms
 
 -- modules: 1 to 16
@@ -209,7 +216,8 @@ places_at (suc n) bs = marked_place_at bs ∷ places_at n (drop 9 bs)
 
 abbrev pub places_fields : ℕ → ℕ → ℕ → ℕ → List ℕ → List FieldAt
 places_fields at size end zero bs = []
-places_fields at size end (suc n) bs = place_fields at size end bs ++ places_fields (at + 9) size (end_location (marked_place_at bs)) n (drop 9 bs)
+places_fields at size end (suc n) bs =
+    place_fields at size end bs ++ places_fields (at + 9) size (end_location (marked_place_at bs)) n (drop 9 bs)
 
 -- the number of places that a module's first 20 bytes say
 abbrev pub place_count_at : List ℕ → ℕ
@@ -233,12 +241,14 @@ header_fields at earlier bs =
     ∷ []
 
 abbrev pub module_fields : ℕ → List MarkedView → List ℕ → List FieldAt
-module_fields at earlier bs = header_fields at earlier bs ++ places_fields (at + 20) (big_number 4 (drop 12 bs)) 0 (place_count_at bs) (drop 20 bs)
+module_fields at earlier bs =
+    header_fields at earlier bs ++ places_fields (at + 20) (big_number 4 (drop 12 bs)) 0 (place_count_at bs) (drop 20 bs)
 
 abbrev pub modules_fields : ℕ → List MarkedView → ℕ → List ℕ → List FieldAt
 modules_fields at earlier zero bs = []
 modules_fields at earlier (suc n) bs =
-    module_fields at earlier bs ++ modules_fields (at + (20 + 9 * place_count_at bs)) (earlier ++ module_at bs ∷ []) n (drop (20 + 9 * place_count_at bs) bs)
+    module_fields at earlier bs
+    ++ modules_fields (at + (20 + 9 * place_count_at bs)) (earlier ++ module_at bs ∷ []) n (drop (20 + 9 * place_count_at bs) bs)
 
 -- of the number of modules, and of the modules behind it
 abbrev pub table_fields : ℕ → List ℕ → List FieldAt
@@ -289,7 +299,8 @@ abbrev pub first_difference : ℕ → List (List ℕ) → List (List ℕ) → Op
 first_difference n [] [] = None
 first_difference n (x ∷ xs) [] = Some (record { row = n; left = Some x; right = None })
 first_difference n [] (y ∷ ys) = Some (record { row = n; left = None; right = Some y })
-first_difference n (x ∷ xs) (y ∷ ys) = if bytes_eq x y then first_difference (n + 1) xs ys else Some (record { row = n; left = Some x; right = Some y })
+first_difference n (x ∷ xs) (y ∷ ys) =
+    if bytes_eq x y then first_difference (n + 1) xs ys else Some (record { row = n; left = Some x; right = Some y })
 
 -- the facts of either file at the place
 abbrev pub unite_place : MarkedPlace → MarkedPlace → MarkedPlace

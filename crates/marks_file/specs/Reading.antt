@@ -52,4 +52,5 @@ IfHasFile at bs P = (m : MarksView) (end : ℕ) → keeps_rules m ≡ true → H
 
 -- of two marks that keep the rules, where the file of the ones in that version begins with the file of the others in this
 abbrev pub IfBeginsWith : Version → Version → (MarksView → MarksView → Type 0) → Type 0
-IfBeginsWith v w P = (m n : MarksView) → keeps_rules m ≡ true → keeps_rules n ≡ true → StartsWith (file_bytes v m) (file_bytes w n) → P m n
+IfBeginsWith v w P =
+    (m n : MarksView) → keeps_rules m ≡ true → keeps_rules n ≡ true → StartsWith (file_bytes v m) (file_bytes w n) → P m n

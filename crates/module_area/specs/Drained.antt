@@ -25,7 +25,9 @@ IsClosed plan seen s = (p : ℕ) → is_controlled plan s p ≡ true → IsOverA
 -- The party knows task t past session s: when it knew s closed it noted an odd number of t, or a number of t below
 -- another that it noted.
 abbrev pub IsPast : PlanView → View → ℕ → ℕ → Type 0
-IsPast plan v s t = (e : Noted) × Has e v.noted × (e.0 ≡ t) × IsClosed plan e.2 s × ((e.1 % 2 ≡ 1) ⊎ ((n : ℕ) × (seen : List (ℕ × ℕ)) × Has (t, n, seen) v.noted × (e.1 < n)))
+IsPast plan v s t =
+    (e : Noted) × Has e v.noted × (e.0 ≡ t) × IsClosed plan e.2 s
+    × ((e.1 % 2 ≡ 1) ⊎ ((n : ℕ) × (seen : List (ℕ × ℕ)) × Has (t, n, seen) v.noted × (e.1 < n)))
 
 -- The word of task t is 0 while no pass was split for it, then the number of its pass, which the root has once the pass
 -- has come back.
@@ -47,10 +49,13 @@ pub record Drained (plan : PlanView) (cell : ℕ → Cell) (sets : ℕ → ℕ �
   pub number : (j : ℕ) (v : View) (t : ℕ) → get_elem? views j ≡ some v → has_task plan.tasks t ≡ true → IsNumber v t (word t) v.role
   -- no number that a party noted is above the word, and no tag that it had seen by then above the cell's
   pub noted : (j : ℕ) (v : View) (e : Noted) → get_elem? views j ≡ some v → Has e v.noted → e.1 ≤ word e.0
-  pub noted_seen : (j : ℕ) (v : View) (e : Noted) (p x : ℕ) → get_elem? views j ≡ some v → Has e v.noted → Has (p, x) e.2 → (p < length plan.places) × (x ≤ (cell p).tag)
+  pub noted_seen : (j : ℕ) (v : View) (e : Noted) (p x : ℕ) → get_elem? views j ≡ some v → Has e v.noted → Has (p, x) e.2
+      → (p < length plan.places) × (x ≤ (cell p).tag)
   -- an odd word is that of a task without a pending answer
   pub ended : (j : ℕ) (v : View) (t : ℕ) → get_elem? views j ≡ some v → v.role ≡ Task t → word t % 2 ≡ 1 → v.pending ≡ None
   -- a task with a pending answer of a session that was known as over at a note of the task made no boundary since
-  pub late : (j : ℕ) (v : View) (e : Noted) (i : ℕ) (u : View) (s p : ℕ) → get_elem? views j ≡ some v → Has e v.noted → 0 < s → IsOverAt e.2 s p → get_elem? views i ≡ some u → u.role ≡ Task e.0 → u.pending ≡ Some (p, window_tag s) → word e.0 ≤ e.1
+  pub late : (j : ℕ) (v : View) (e : Noted) (i : ℕ) (u : View) (s p : ℕ) → get_elem? views j ≡ some v → Has e v.noted → 0 < s
+      → IsOverAt e.2 s p → get_elem? views i ≡ some u → u.role ≡ Task e.0 → u.pending ≡ Some (p, window_tag s) → word e.0 ≤ e.1
   -- what is known as final is so
-  pub settled : (j : ℕ) (v : View) (s p : ℕ) (x : FactSet) → get_elem? views j ≡ some v → Has (s, p, x) v.settled → (p < length plan.places) × (0 < s) × IsSettled cell sets views s p x
+  pub settled : (j : ℕ) (v : View) (s p : ℕ) (x : FactSet) → get_elem? views j ≡ some v → Has (s, p, x) v.settled
+      → (p < length plan.places) × (0 < s) × IsSettled cell sets views s p x

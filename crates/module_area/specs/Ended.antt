@@ -7,19 +7,25 @@ use Rattle.module_area.specs.Notes.{Notes}
 
 -- what the notes know as final stands so
 abbrev pub AreSettled : PlanView → Notes → (ℕ → ℕ → FactSet) → Type 0
-AreSettled plan notes sets = (s p : ℕ) (x : FactSet) → 0 < s → s ≤ plan.sessions → p < length plan.places → notes.settled s p x ≡ true → sets s p ≡ x
+AreSettled plan notes sets =
+    (s p : ℕ) (x : FactSet) → 0 < s → s ≤ plan.sessions → p < length plan.places → notes.settled s p x ≡ true → sets s p ≡ x
 
 pub record HasSets (plan : PlanView) (notes : Notes) (finals : FinalsView) : Type 0 where
   pub places : finals.places ≡ length plan.places
   pub size : length finals.sets ≡ plan.sessions * length plan.places
-  pub marked : (s p : ℕ) (f : Fact) → 0 < s → s ≤ plan.sessions → p < length plan.places → has_fact (set_at finals s p) f ≡ notes.marked s p f
-  pub within : (s p : ℕ) → 0 < s → s ≤ plan.sessions → p < length plan.places → is_within (kind_at plan p) (set_at finals s p) ≡ true
-  pub full : (s p : ℕ) → 0 < s → s ≤ plan.sessions → p < length plan.places → notes.full s p ≡ true → set_at finals s p ≡ full_of (kind_at plan p)
+  pub marked : (s p : ℕ) (f : Fact) → 0 < s → s ≤ plan.sessions → p < length plan.places
+      → has_fact (set_at finals s p) f ≡ notes.marked s p f
+  pub within : (s p : ℕ) → 0 < s → s ≤ plan.sessions → p < length plan.places
+      → is_within (kind_at plan p) (set_at finals s p) ≡ true
+  pub full : (s p : ℕ) → 0 < s → s ≤ plan.sessions → p < length plan.places → notes.full s p ≡ true
+      → set_at finals s p ≡ full_of (kind_at plan p)
   -- no tag was seen above the last one
   pub seen : (p : ℕ) → p < length plan.places → notes.seen p ≤ notes.last p
   -- no fact where the session isn't over the place, or by the last tag was never planted there
-  pub over : (s p : ℕ) (f : Fact) → 0 < s → s ≤ plan.sessions → p < length plan.places → has_fact (set_at finals s p) f ≡ true → is_over plan s p ≡ true
-  pub planted : (s p : ℕ) (f : Fact) → 0 < s → s ≤ plan.sessions → p < length plan.places → has_fact (set_at finals s p) f ≡ true → 2 * s ≤ notes.last p + 1
+  pub over : (s p : ℕ) (f : Fact) → 0 < s → s ≤ plan.sessions → p < length plan.places → has_fact (set_at finals s p) f ≡ true
+      → is_over plan s p ≡ true
+  pub planted : (s p : ℕ) (f : Fact) → 0 < s → s ≤ plan.sessions → p < length plan.places → has_fact (set_at finals s p) f ≡ true
+      → 2 * s ≤ notes.last p + 1
 
 -- Each fact was marked at least once. The lifts are at most the sessions and places whose set is full, and, where each set that
 -- was met full was met free or tried to be lifted, at least the places whose whole session's set is full.

@@ -154,7 +154,9 @@ set_at finals s p = set_in finals.places finals.sets s p
 
 -- how many places with a window have a full set
 abbrev pub full_places : PlanView → FinalsView → ℕ
-full_places plan finals = count_below (λ p. nat_lt 0 (window_at plan p) && is_full (kind_at plan p) (set_at finals (window_at plan p) p)) (length plan.places)
+full_places plan finals =
+    count_below (λ p. nat_lt 0 (window_at plan p) && is_full (kind_at plan p) (set_at finals (window_at plan p) p))
+    (length plan.places)
 
 -- how many sessions and places have a full set
 abbrev pub full_pairs : PlanView → FinalsView → ℕ

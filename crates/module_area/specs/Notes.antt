@@ -87,7 +87,8 @@ is_working n = is_some n.bears && nat_eq (own_number n % 2) 0
 -- root those of windows, and those of the tasks whose passes aren't out.
 abbrev pub keeps_as : PlanView → Option ℕ → (ℕ → Bool) → ℕ → Bool
 keeps_as plan (Some t) out p = is_controller plan t p
-keeps_as plan None out p = nat_lt 0 (window_at plan p) || list_any (λ (c : ControlledView). not (out c.by) && has_place c.places p) plan.controlled
+keeps_as plan None out p =
+    nat_lt 0 (window_at plan p) || list_any (λ (c : ControlledView). not (out c.by) && has_place c.places p) plan.controlled
 
 abbrev pub keeps : PlanView → Notes → ℕ → Bool
 keeps plan n p = keeps_as plan n.bears n.out p
@@ -152,7 +153,9 @@ split_notes plan n t = record root_notes {
 
 -- by these tags the controlled session s is over at all its places
 abbrev pub is_closed : PlanView → (ℕ → ℕ) → ℕ → Bool
-is_closed plan seen s = list_all (λ (c : ControlledView). not (nat_eq c.session s) || list_all (λ (q : PlaceNo). nat_le (2 * s) (seen q.0)) c.places) plan.controlled
+is_closed plan seen s =
+    list_all (λ (c : ControlledView). not (nat_eq c.session s)
+    || list_all (λ (q : PlaceNo). nat_le (2 * s) (seen q.0)) c.places) plan.controlled
 
 -- By these looks task t is past session s: one at which s was known as over found an odd number of t, or a number of t
 -- that another look found passed.
@@ -174,7 +177,8 @@ is_at (Some x) p t = nat_eq x.0 p && nat_eq x.1 t
 
 -- What it reads of session s at place p is final: it knows s over there, and nobody can have an answer of s there.
 abbrev pub is_final : PlanView → Notes → ℕ → ℕ → Bool
-is_final plan n s p = is_controlled plan s p && (nat_le (2 * s) (n.seen p) && (is_drained plan n s && not (is_at n.pending p (2 * s - 1))))
+is_final plan n s p =
+    is_controlled plan s p && (nat_le (2 * s) (n.seen p) && (is_drained plan n s && not (is_at n.pending p (2 * s - 1))))
 
 abbrev pub same_bit : Bool → Bool → Bool
 same_bit true b = b

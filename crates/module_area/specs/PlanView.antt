@@ -13,4 +13,5 @@ pub record MayStand (place : Place) (window sessions : ℕ) : Type 0 where
 
 -- a plan without controlled sessions
 abbrev pub whole_plan : List Place → List ℕ → List TaskNo → ℕ → PlanView
-whole_plan places windows tasks sessions = record { places = places; windows = windows; controlled = []; tasks = tasks; sessions = sessions }
+whole_plan places windows tasks sessions =
+    record { places = places; windows = windows; controlled = []; tasks = tasks; sessions = sessions }

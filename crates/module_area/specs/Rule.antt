@@ -91,7 +91,24 @@ is_lifted plan p c = nat_eq c.half (original_at plan p) && nat_eq (c.tag % 2) 1
 
 -- a party that has done and knows nothing
 abbrev pub blank : Role → View
-blank r = record { role = r; marked = []; full = []; free = []; lifted = []; seen = []; pending = None; answered = []; planted = []; given = []; joined = []; numbers = []; noted = []; settled = []; found = [] }
+blank r =
+    record {
+      role = r;
+      marked = [];
+      full = [];
+      free = [];
+      lifted = [];
+      seen = [];
+      pending = None;
+      answered = [];
+      planted = [];
+      given = [];
+      joined = [];
+      numbers = [];
+      noted = [];
+      settled = [];
+      found = [];
+    }
 
 -- A fetch at place p found the cell.
 abbrev pub fetching : PlanView → ℕ → Cell → View → View
@@ -141,7 +158,9 @@ closed s original = record { tag = 2 * s; half = original }
 abbrev pub IsForm : PlanView → ℕ → Cell → Type 0
 IsForm plan p c =
     (c ≡ untouched (original_at plan p))
-    ⊎ ((s : ℕ) × (0 < s) × (is_over plan s p ≡ true) × ((c ≡ planted s) ⊎ ((c ≡ lifted s (original_at plan p)) ⊎ ((c ≡ closed s (original_at plan p)) × (is_controlled plan s p ≡ true)))))
+    ⊎ ((s : ℕ) × (0 < s) × (is_over plan s p ≡ true)
+    × ((c ≡ planted s) ⊎ ((c ≡ lifted s (original_at plan p))
+    ⊎ ((c ≡ closed s (original_at plan p)) × (is_controlled plan s p ≡ true)))))
 
 -- how often session s's breakpoint was taken out at a place whose cell is c
 pub record Once (s original : ℕ) (c : Cell) (n : ℕ) : Type 0 where
@@ -150,9 +169,11 @@ pub record Once (s original : ℕ) (c : Cell) (n : ℕ) : Type 0 where
   pub early : c.tag < window_tag s → n ≡ 0
   pub not_yet : c ≡ planted s → n ≡ 0
 
--- The party keeps the sessions over the place: the root those of windows, and those of a task that isn't out; a task those that it controls.
+-- The party keeps the sessions over the place: the root those of windows, and those of a task that isn't out; a task those that it
+-- controls.
 abbrev pub KeepsAs : PlanView → View → ℕ → Role → Type 0
-KeepsAs plan v p Root = (0 < window_at plan p) ⊎ ((t : ℕ) × (is_controller plan t p ≡ true) × ((Has t v.given → ⊥) ⊎ Has t v.joined))
+KeepsAs plan v p Root =
+    (0 < window_at plan p) ⊎ ((t : ℕ) × (is_controller plan t p ≡ true) × ((Has t v.given → ⊥) ⊎ Has t v.joined))
 KeepsAs plan v p (Task t) = is_controller plan t p ≡ true
 KeepsAs plan v p Spent = ⊥
 
@@ -173,11 +194,15 @@ module _ (plan : PlanView) (cell : ℕ → Cell) (sets : ℕ → ℕ → FactSet
   -- each note of a party is true of the cells and sets
   pub record Kept (v : View) : Type 0 where
     pub seen : (p t : ℕ) → Has (p, t) v.seen → (p < length plan.places) × (t ≤ (cell p).tag)
-    pub pending : (p t : ℕ) → v.pending ≡ Some (p, t) → (s : ℕ) × (0 < s) × (is_over plan s p ≡ true) × (t ≡ window_tag s) × Has (p, t) v.seen
-    pub marked : (s p : ℕ) (f : Fact) → Has (s, p, f) v.marked → (p < length plan.places) × (0 < s) × (is_over plan s p ≡ true) × (is_of_kind (kind_at plan p) f ≡ true) × (has_fact (sets s p) f ≡ true)
+    pub pending : (p t : ℕ) → v.pending ≡ Some (p, t)
+        → (s : ℕ) × (0 < s) × (is_over plan s p ≡ true) × (t ≡ window_tag s) × Has (p, t) v.seen
+    pub marked : (s p : ℕ) (f : Fact) → Has (s, p, f) v.marked
+        → (p < length plan.places) × (0 < s) × (is_over plan s p ≡ true) × (is_of_kind (kind_at plan p) f ≡ true)
+        × (has_fact (sets s p) f ≡ true)
     pub full : (s p : ℕ) → Has (s, p) v.full → (0 < s) × Has (p, window_tag s) v.seen × (is_full (kind_at plan p) (sets s p) ≡ true)
     pub free : (s p : ℕ) → Has (s, p) v.free → Has (s, p) v.full × (cell p ≢ planted s)
-    pub lifted : (s p : ℕ) → Has (s, p) v.lifted → (p < length plan.places) × (0 < s) × (is_over plan s p ≡ true) × Has (s, p) v.free
+    pub lifted : (s p : ℕ) → Has (s, p) v.lifted
+        → (p < length plan.places) × (0 < s) × (is_over plan s p ≡ true) × Has (s, p) v.free
     pub planted : (p t : ℕ) → Has (p, t) v.planted → Has (p, t) v.seen
     pub joined : (t : ℕ) → Has t v.joined → Has t v.given
 
@@ -192,14 +217,19 @@ pub record Held (plan : PlanView) (cell : ℕ → Cell) (sets : ℕ → ℕ → 
   pub site : (p : ℕ) → p < length plan.places → IsSite plan cell sets p
   pub kept : (j : ℕ) (v : View) → get_elem? views j ≡ some v → Kept plan cell sets v
   -- each fact of a set was marked by a party
-  pub known : (s p : ℕ) (f : Fact) → p < length plan.places → 0 < s → has_fact (sets s p) f ≡ true → (j : ℕ) × (v : View) × (get_elem? views j ≡ some v) × Has (s, p, f) v.marked
+  pub known : (s p : ℕ) (f : Fact) → p < length plan.places → 0 < s → has_fact (sets s p) f ≡ true
+      → (j : ℕ) × (v : View) × (get_elem? views j ≡ some v) × Has (s, p, f) v.marked
   -- the tag is the last one that the place's keeper gave it
-  pub ties : (j : ℕ) (v : View) → get_elem? views j ≡ some v → (p : ℕ) → p < length plan.places → Keeps plan v p → (cell p).tag ≡ last_tag p v.planted
+  pub ties : (j : ℕ) (v : View) → get_elem? views j ≡ some v → (p : ℕ) → p < length plan.places → Keeps plan v p
+      → (cell p).tag ≡ last_tag p v.planted
   -- a full set under a breakpoint is some party's to lift
-  pub owed : (s p : ℕ) → p < length plan.places → 0 < s → is_full (kind_at plan p) (sets s p) ≡ true → cell p ≡ planted s → (j : ℕ) × (v : View) × (get_elem? views j ≡ some v) × Owes s p v
-  pub once : (s p : ℕ) → p < length plan.places → 0 < s → Once s (original_at plan p) (cell p) (total (λ v. times s p v.lifted) views)
+  pub owed : (s p : ℕ) → p < length plan.places → 0 < s → is_full (kind_at plan p) (sets s p) ≡ true → cell p ≡ planted s
+      → (j : ℕ) × (v : View) × (get_elem? views j ≡ some v) × Owes s p v
+  pub once : (s p : ℕ) → p < length plan.places → 0 < s
+      → Once s (original_at plan p) (cell p) (total (λ v. times s p v.lifted) views)
   pub roles : (j : ℕ) (v : View) → get_elem? views j ≡ some v → IsRole views j v.role
   -- what was joined tells no more
   pub spent : (j : ℕ) (v : View) → get_elem? views j ≡ some v → v.role ≡ Spent → v ≡ blank Spent
   -- no two bear one task
-  pub apart : (i j : ℕ) (u v : View) (t : ℕ) → get_elem? views i ≡ some u → get_elem? views j ≡ some v → u.role ≡ Task t → v.role ≡ Task t → i ≡ j
+  pub apart : (i j : ℕ) (u v : View) (t : ℕ) → get_elem? views i ≡ some u → get_elem? views j ≡ some v → u.role ≡ Task t
+      → v.role ≡ Task t → i ≡ j

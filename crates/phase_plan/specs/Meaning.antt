@@ -23,12 +23,14 @@ window_of j phase place = window_from 1 j.sessions phase place.module
 -- the tasks of the phase, counted on from n
 abbrev pub tasks_from : ℕ → List TaskView → ℕ → List TaskNo
 tasks_from n [] phase = []
-tasks_from n (t ∷ ts) phase = if nat_eq t.phase phase then record { 0 = n } ∷ tasks_from (n + 1) ts phase else tasks_from (n + 1) ts phase
+tasks_from n (t ∷ ts) phase =
+    if nat_eq t.phase phase then record { 0 = n } ∷ tasks_from (n + 1) ts phase else tasks_from (n + 1) ts phase
 
 -- the numbers of the places of these modules, counted on from n
 abbrev pub places_from : ℕ → List Place → List ℕ → List PlaceNo
 places_from n [] modules = []
-places_from n (p ∷ ps) modules = if list_any (nat_eq p.module) modules then record { 0 = n } ∷ places_from (n + 1) ps modules else places_from (n + 1) ps modules
+places_from n (p ∷ ps) modules =
+    if list_any (nat_eq p.module) modules then record { 0 = n } ∷ places_from (n + 1) ps modules else places_from (n + 1) ps modules
 
 -- the controlled sessions of the phase, counted on from n, with their places
 abbrev pub with_controlled : ℕ → SessionView → List Place → Option ℕ → List ControlledView → List ControlledView
@@ -37,7 +39,9 @@ with_controlled n s places (Some t) cs = record { session = n; by = t; places = 
 
 abbrev pub controlled_from : ℕ → List SessionView → List Place → ℕ → List ControlledView
 controlled_from n [] places phase = []
-controlled_from n (s ∷ ss) places phase = if nat_eq s.phase phase then with_controlled n s places s.by (controlled_from (n + 1) ss places phase) else controlled_from (n + 1) ss places phase
+controlled_from n (s ∷ ss) places phase =
+    if nat_eq s.phase phase then with_controlled n s places s.by (controlled_from (n + 1) ss places phase)
+    else controlled_from (n + 1) ss places phase
 
 abbrev pub plan_view : JobView → List Place → ℕ → PlanView
 plan_view j places phase = record {
@@ -62,12 +66,14 @@ task_memory j places t = memory_of (task_of j t).private j.images places
 
 -- what this is of task t as it begins: over its phase's plan, in its memory, with its budget, from its first state
 abbrev pub of_task : {A : Type 0} → (PlanView → Memory → ℕ → State → A) → JobView → List Place → ℕ → A
-of_task f j places t = f (plan_view j places (task_of j t).phase) (task_memory j places t) (task_of j t).budget (first_state (task_of j t))
+of_task f j places t =
+    f (plan_view j places (task_of j t).phase) (task_memory j places t) (task_of j t).budget (first_state (task_of j t))
 
 -- the traces of the phase's tasks, of each task's trace by its index, counted on from n
 abbrev pub traces_from : ℕ → List TaskView → ℕ → (ℕ → List Visit) → List (List Visit)
 traces_from n [] phase trace = []
-traces_from n (t ∷ ts) phase trace = if nat_eq t.phase phase then trace n ∷ traces_from (n + 1) ts phase trace else traces_from (n + 1) ts phase trace
+traces_from n (t ∷ ts) phase trace =
+    if nat_eq t.phase phase then trace n ∷ traces_from (n + 1) ts phase trace else traces_from (n + 1) ts phase trace
 
 -- A whole session's executions are the begun visits of the traces of its phase's tasks at its places: the facts that
 -- they show at a place.

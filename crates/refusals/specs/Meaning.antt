@@ -25,7 +25,8 @@ use Rattle.cov_outside.specs.Meaning.{Rose, AppendsSome}
 -- The lines that refusals, and a `verify` that passes, are told by.
 
 abbrev pub usage_line : List ℕ
-usage_line = codes "USAGE: run | marks NAME | trial NUMBER TASKS | table | replay | combine | show NAME | early | count | exits | prove NAME | verify NAME | ends | services COMMAND\n"
+usage_line =
+    codes "USAGE: run | marks NAME | trial NUMBER TASKS | table | replay | combine | show NAME | early | count | exits | prove NAME | verify NAME | ends | services COMMAND\n"
 
 abbrev pub too_large_input_line : List ℕ
 too_large_input_line = codes "TOO LARGE INPUT\n"
@@ -79,7 +80,8 @@ row_text (Some row) = hex_bytes row
 
 -- the first row in which two tables differ
 abbrev pub other_table_line : Difference → List ℕ
-other_table_line d = codes "OTHER TABLE ROW " ++ decimal d.row ++ codes " LEFT " ++ row_text d.left ++ codes " RIGHT " ++ row_text d.right ++ 10 ∷ []
+other_table_line d =
+    codes "OTHER TABLE ROW " ++ decimal d.row ++ codes " LEFT " ++ row_text d.left ++ codes " RIGHT " ++ row_text d.right ++ 10 ∷ []
 
 -- the first bad field, or the first byte past the last entry, by its offset from the evidence's first byte
 abbrev pub bad_evidence_line : ℕ → List ℕ
@@ -137,7 +139,8 @@ code_text code = hex_bytes (take code.len code.bytes)
 
 -- a listing has six digits for where an instruction stands
 unfoldable pub mismatch_text : ℕ → Code → Code → List ℕ
-mismatch_text loc listing module' = codes " LOC " ++ hex_digits 6 (wrap loc) ++ codes " LISTING " ++ code_text listing ++ codes " MODULE " ++ code_text module'
+mismatch_text loc listing module' =
+    codes " LOC " ++ hex_digits 6 (wrap loc) ++ codes " LISTING " ++ code_text listing ++ codes " MODULE " ++ code_text module'
 
 abbrev pub build_refusal : List ℕ → ℕ → BuildFault → RefusalView
 build_refusal name loc (build.Odd n) = bad_listing name n (codes " ODD")
@@ -169,4 +172,5 @@ sink_change written faults old new = record { written = written old; grown = wri
 -- the text was written whole, or its first bytes where the sink failed; its count of faults never falls
 abbrev pub IsWritten : ℕ → List ℕ → SinkChange → ℕ → Type 0
 IsWritten status text k answer =
-    ((answer ≡ status) × Appends k.written k.grown text × (k.faults ≤ k.later)) ⊎ ((answer ≡ 6) × AppendsSome k.written k.grown text × Rose k.faults k.later)
+    ((answer ≡ status) × Appends k.written k.grown text × (k.faults ≤ k.later))
+    ⊎ ((answer ≡ 6) × AppendsSome k.written k.grown text × Rose k.faults k.later)

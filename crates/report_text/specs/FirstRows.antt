@@ -22,7 +22,8 @@ pub record HasStorage (task : TaskView) (tasks : ℕ) (results : ℕ → ResultV
 
 -- into a part of storage what the card has of it was stored
 abbrev pub StoresCard : DataView → ℕ → List ℕ → List ℕ → Type 0
-StoresCard card from old new = (bytes : List ℕ) → FitsIn (length bytes) card → IsPartOf old bytes from → IsPartOf new (with_card bytes card) from
+StoresCard card from old new =
+    (bytes : List ℕ) → FitsIn (length bytes) card → IsPartOf old bytes from → IsPartOf new (with_card bytes card) from
 
 -- the changed rows of a task's storage from one number on, below the other
 abbrev pub rows_from : TaskView → List ℕ → ℕ → ℕ → List (List ℕ)

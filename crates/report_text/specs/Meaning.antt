@@ -57,11 +57,13 @@ last_byte_of job p = location_of job p + p.len - 1
 
 -- the mark of line k of module m's listing is that of its place; a text line has none
 abbrev pub line_mark : TablesView → (ℕ → FactSet) → ℕ → ℕ → Mark
-line_mark tables sets m k = unwrap_or (option_map (λ n. mark_of (place_of tables.places n).kind (sets n)) (place_at_line tables.tables m k)) Text
+line_mark tables sets m k =
+    unwrap_or (option_map (λ n. mark_of (place_of tables.places n).kind (sets n)) (place_at_line tables.tables m k)) Text
 
 -- each of these lines of its listing with its mark; they number from 1
 abbrev pub marked_lines : TablesView → (ℕ → FactSet) → ℕ → List (List ℕ) → List (List ℕ)
-marked_lines tables sets m lines = lines_from (λ i. annotated (line_mark tables sets m (i + 1)) (get_or lines i []) ∷ []) 0 (length lines)
+marked_lines tables sets m lines =
+    lines_from (λ i. annotated (line_mark tables sets m (i + 1)) (get_or lines i []) ∷ []) 0 (length lines)
 
 -- its whole listing, if it has one
 abbrev pub marked_listing : JobView → TablesView → (ℕ → FactSet) → ℕ → List (List ℕ)
@@ -70,7 +72,8 @@ marked_listing job tables sets m = marked_lines tables sets m (unwrap_or (get_or
 -- the last byte of a run that has come to the byte `last`, and goes on as long as places from n on lack facts
 abbrev pub run_end : JobView → List Place → (ℕ → FactSet) → ℕ → ℕ → ℕ → ℕ
 run_end job places sets last n zero = last
-run_end job places sets last n (suc count) = if lacks (sets n) then run_end job places sets (last_byte_of job (place_of places n)) (n + 1) count else last
+run_end job places sets last n (suc count) =
+    if lacks (sets n) then run_end job places sets (last_byte_of job (place_of places n)) (n + 1) count else last
 
 unfoldable pub run_line : ℕ → ℕ → List ℕ
 run_line first last = codes "NOT EXECUTED " ++ hex_digits 6 first ++ codes "-" ++ hex_digits 6 last
@@ -81,7 +84,8 @@ abbrev pub run_lines : JobView → List Place → (ℕ → FactSet) → Bool →
 run_lines job places sets before n zero = []
 run_lines job places sets before n (suc count) =
     if lacks (sets n) then (if before then run_lines job places sets true (n + 1) count else
-    run_line (location_of job (place_of places n)) (run_end job places sets (last_byte_of job (place_of places n)) (n + 1) count) ∷ run_lines job places sets true (n + 1) count)
+    run_line (location_of job (place_of places n)) (run_end job places sets (last_byte_of job (place_of places n)) (n + 1) count)
+    ∷ run_lines job places sets true (n + 1) count)
     else run_lines job places sets false (n + 1) count
 
 -- of so many places from number n on: those with a fact, the facts, and the facts that there can be
@@ -97,14 +101,16 @@ possible_count places n count = sum_from (λ k. fact_count (full_of (place_of pl
 -- places, places with a fact, facts, and facts that there can be
 unfoldable pub totals_line : List ℕ → ℕ → ℕ → ℕ → ℕ → List ℕ
 totals_line name count executed facts possible =
-    codes "MODULE " ++ unpadded name ++ codes " PLACES " ++ decimal count ++ codes " EXECUTED " ++ decimal executed ++ codes " FACTS " ++ decimal facts ++ codes " OF " ++ decimal possible
+    codes "MODULE " ++ unpadded name ++ codes " PLACES " ++ decimal count ++ codes " EXECUTED " ++ decimal executed
+    ++ codes " FACTS " ++ decimal facts ++ codes " OF " ++ decimal possible
 
 -- of module m, by the session's sets at its places: their totals, its listing if it has one, and the runs without facts
 unfoldable pub module_lines : JobView → TablesView → (ℕ → FactSet) → ℕ → List (List ℕ)
 module_lines job tables sets m =
     let first : ℕ = first_place tables.tables m in
     let count : ℕ = place_count tables.tables m in
-    totals_line (module_of job m).name count (executed_count sets first count) (shown_count sets first count) (possible_count tables.places first count)
+    totals_line (module_of job m).name count (executed_count sets first count) (shown_count sets first count)
+    (possible_count tables.places first count)
     ∷ (marked_listing job tables sets m ++ run_lines job tables.places sets false first count)
 
 unfoldable pub session_line : List ℕ → List ℕ → List ℕ
@@ -198,7 +204,9 @@ kind_letter Conditional = codes "C"
 
 -- of a place by its location: the length, the kind and the original halfword
 unfoldable pub place_line : ℕ → Place → List ℕ
-place_line location p = codes "PLACE " ++ hex_digits 6 location ++ codes " " ++ decimal p.len ++ codes " " ++ kind_letter p.kind ++ codes " " ++ hex_digits 4 p.original
+place_line location p =
+    codes "PLACE " ++ hex_digits 6 location ++ codes " " ++ decimal p.len ++ codes " " ++ kind_letter p.kind ++ codes " "
+    ++ hex_digits 4 p.original
 
 unfoldable pub module_line : List ℕ → ℕ → List ℕ
 module_line name count = codes "MODULE " ++ unpadded name ++ codes " PLACES " ++ decimal count
@@ -251,7 +259,9 @@ count_text job tables results counts = text_of (codes "COVERAGE COUNT" ∷ job_l
 
 -- how many of the places bear the mark's character, by the sets that a session has there
 abbrev pub mark_count : Mark → List Place → (ℕ → FactSet) → ℕ
-mark_count mark places sets = sum_from (λ n. if nat_eq (mark_byte mark) (mark_byte (mark_of (place_of places n).kind (sets n))) then 1 else 0) 0 (length places)
+mark_count mark places sets =
+    sum_from (λ n. if nat_eq (mark_byte mark) (mark_byte (mark_of (place_of places n).kind (sets n))) then 1 else 0) 0
+    (length places)
 
 -- the job's number, and how many tasks it has
 unfoldable pub trial_line : ℕ → ℕ → List ℕ
@@ -263,7 +273,8 @@ amount_line places instructions = codes "PLACES " ++ decimal places ++ codes " I
 -- how many places bear each of the marks `^`, `:`, `>`, `V` and `&`
 unfoldable pub mark_line : ℕ → ℕ → ℕ → ℕ → ℕ → List ℕ
 mark_line not executed branched fell both =
-    codes "MARKS NOT " ++ decimal not ++ codes " EXECUTED " ++ decimal executed ++ codes " BRANCHED " ++ decimal branched ++ codes " FELL " ++ decimal fell ++ codes " BOTH " ++ decimal both
+    codes "MARKS NOT " ++ decimal not ++ codes " EXECUTED " ++ decimal executed ++ codes " BRANCHED " ++ decimal branched
+    ++ codes " FELL " ++ decimal fell ++ codes " BOTH " ++ decimal both
 
 -- by the sets of session 1, which is all that the job has
 abbrev pub trial_text : ℕ → ℕ → List Place → (ℕ → ResultView) → (ℕ → ℕ → FactSet) → List ℕ

@@ -31,7 +31,9 @@ VerifiesWritten = (name job marks evidence : List ℕ) → IsMarked Plain name j
 
 -- job and marks are shown
 abbrev pub ShowsWritten : Type 0
-ShowsWritten = (g : Grammar) (name job marks : List ℕ) → IsMarked g name job marks → length (job ++ marks) ≤ input_limit → HasStatus (Show name g) (job ++ marks) 0
+ShowsWritten =
+    (g : Grammar) (name job marks : List ℕ) → IsMarked g name job marks → length (job ++ marks) ≤ input_limit
+    → HasStatus (Show name g) (job ++ marks) 0
 
 -- all lines of a text of `show` but the first and the last stand in this report, one after another
 pub record IsPart (shown report : List ℕ) : Type 0 where
@@ -49,7 +51,9 @@ pub record HasReport (g : Grammar) (source : SourceChange) (areas : AreasChange)
 
 -- what is shown is a part of the report on the run that the marks are of
 abbrev pub ShowsRun : Type 0
-ShowsRun = (g : Grammar) (name job marks shown : List ℕ) (m : IsMarked g name job marks) → HasText (Show name g) (job ++ marks) shown → HasReport g m.file.source m.file.areas shown
+ShowsRun =
+    (g : Grammar) (name job marks shown : List ℕ) (m : IsMarked g name job marks) → HasText (Show name g) (job ++ marks) shown
+    → HasReport g m.file.source m.file.areas shown
 
 -- the job has a session of this name, without a controller
 pub record HasWhole (g : Grammar) (name job : List ℕ) : Type 0 where

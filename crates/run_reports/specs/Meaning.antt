@@ -32,7 +32,8 @@ areas_change ledger finals made old new = record {
 
 -- how many instructions the session's controller has done, alone, up to and including the one that closes it
 abbrev pub closing_of : JobView → List Place → ℕ → ℕ → Option ℕ
-closing_of j places by s = closing_count (first_control (plan_view j places (session_of j s).phase) by) (walk_by solo j places by).calls s
+closing_of j places by s =
+    closing_count (first_control (plan_view j places (session_of j s).phase) by) (walk_by solo j places by).calls s
 
 -- the tasks of the session's phase but its controller
 abbrev pub other_tasks : JobView → List Place → ℕ → ℕ → List TaskNo
@@ -57,13 +58,15 @@ pub record AreDrained (j : JobView) (places : List Place) (drained : ℕ → Opt
 -- results are those of each task's run along this course. At each place that a session observes its set is that of its
 -- executions where the session is whole, and lies between its bounds where a task controls it. At every place the sets are
 -- those of the area of the session's phase.
-pub record Reports (course : Course) (j : JobView) (tables : TablesView) (a : AreasChange) (text_by : (ℕ → ResultView) → (ℕ → ℕ → FactSet) → List ℕ) (text : List ℕ) : Type 0 where
+pub record Reports (course : Course) (j : JobView) (tables : TablesView) (a : AreasChange)
+    (text_by : (ℕ → ResultView) → (ℕ → ℕ → FactSet) → List ℕ) (text : List ℕ) : Type 0 where
   pub ran : HasRunBy course j tables.places a.before a.after
   pub results : ℕ → ResultView
   pub sets : ℕ → ℕ → FactSet
   pub are_results : (t : ℕ) → t < length j.tasks → results t ≡ result_by course j tables.places t
   pub are_sets : (s p : ℕ) → 0 < s → s ≤ length j.sessions → p < length tables.places →
-      is_whole (session_of j s) ≡ true → observes (session_of j s).phase (place_of tables.places p).module (session_of j s) ≡ true → sets s p ≡ set_by course j tables.places s p
+      is_whole (session_of j s) ≡ true → observes (session_of j s).phase (place_of tables.places p).module (session_of j s) ≡ true
+      → sets s p ≡ set_by course j tables.places s p
   pub are_bounded : (s p by : ℕ) → 0 < s → s ≤ length j.sessions → p < length tables.places →
       (session_of j s).by ≡ Some by → observes (session_of j s).phase (place_of tables.places p).module (session_of j s) ≡ true →
       IsBetween (least_by course j tables.places by s p) (most_by course j tables.places by s p) (sets s p)
@@ -81,6 +84,7 @@ abbrev pub named_file : JobView → TablesView → ℕ → (ℕ → ℕ → Fact
 named_file j tables s sets = session_file j tables (sets s) s
 
 -- their file, which keeps the rules of marks files
-pub record IsMarksText (course : Course) (j : JobView) (tables : TablesView) (s : ℕ) (a : AreasChange) (text : List ℕ) : Type 0 where
+pub record IsMarksText (course : Course) (j : JobView) (tables : TablesView) (s : ℕ) (a : AreasChange)
+    (text : List ℕ) : Type 0 where
   pub reports : Reports course j tables a (λ results sets. file_bytes Second (named_file j tables s sets)) text
   pub rules : keeps_rules (named_file j tables s reports.sets) ≡ true

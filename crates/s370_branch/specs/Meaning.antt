@@ -11,7 +11,9 @@ use Rattle.s370_decode.specs.declared.op.Op.TheVariants.{BC, BCR, BCT, BCTR, BAL
 
 -- the mask's bits 8, 4, 2 and 1 select the condition codes 0, 1, 2 and 3
 unfoldable pub is_selected : ℕ → ℕ → Bool
-is_selected mask code = if code == 0 then nat_le 8 mask else (if code == 1 then nat_le 4 (mask % 8) else (if code == 2 then nat_le 2 (mask % 4) else mask % 2 == 1))
+is_selected mask code =
+    if code == 0 then nat_le 8 mask
+    else (if code == 1 then nat_le 4 (mask % 8) else (if code == 2 then nat_le 2 (mask % 4) else mask % 2 == 1))
 
 -- R1 less 1
 abbrev pub less_one : CpuView → Code → ℕ

@@ -75,7 +75,8 @@ multiplied s c o =
 unfoldable pub divided_fields : Machine → Code → Operands → Outcome
 divided_fields s c o =
     if (nat_lt 0 o.second.magnitude && fits_field (longer_by (l1 c) (l2 c)) (o.first.magnitude / o.second.magnitude)) then
-    Completes (with_bytes s (store_field (store_field s.bytes (e1 s.cpu c) (longer_by (l1 c) (l2 c)) (o.first.magnitude / o.second.magnitude) (signs_differ o))
+    Completes (with_bytes s (store_field
+    (store_field s.bytes (e1 s.cpu c) (longer_by (l1 c) (l2 c)) (o.first.magnitude / o.second.magnitude) (signs_differ o))
     (wrap (e1 s.cpu c + (l1 c - l2 c))) (l2 c) (o.first.magnitude % o.second.magnitude) o.first.minus))
     else Program 11
 
@@ -92,7 +93,8 @@ code_of k = if k.lost then 3 else (if k.digits == 0 then 0 else (if k.minus then
 
 -- the field of length code l at a becomes what is kept; where digits are lost it is an overflow, with code X'A'
 abbrev pub results_kept : Machine → ℕ → ℕ → Kept → Outcome
-results_kept s a l k = Overflows (with_cc (with_bytes s (store_field s.bytes a l k.digits k.minus)) (code_of k)) (if k.lost then 10 else 0)
+results_kept s a l k =
+    Overflows (with_cc (with_bytes s (store_field s.bytes a l k.digits k.minus)) (code_of k)) (if k.lost then 10 else 0)
 
 -- The shift (Principles of Operation, "Decimal Instructions", "Shift and Round Decimal").
 
@@ -131,7 +133,8 @@ decimal_row CP c m s = Some (record {
 decimal_row MP c m s = Some (needing (is_shorter c) (on_both m s c (multiplied s c)))
 decimal_row DP c m s = Some (needing (is_shorter c) (on_both m s c (divided_fields s c)))
 -- the rounding digit, in bits 12-15, is to be a digit too
-decimal_row SRP c m s = Some (storing (e1 s.cpu c) (l1 c + 1) (on_data (if nat_le (r2 c) 9 then field_at m s.bytes (e1 s.cpu c) (l1 c) else None)
+decimal_row SRP c m s =
+    Some (storing (e1 s.cpu c) (l1 c + 1) (on_data (if nat_le (r2 c) 9 then field_at m s.bytes (e1 s.cpu c) (l1 c) else None)
     (λ f. results_kept s (e1 s.cpu c) (l1 c) (kept (l1 c) (digits_shifted f.magnitude (r2 c) (shift_distance s.cpu c)) f.minus))))
 decimal_row _ c m s = None
 
@@ -236,7 +239,11 @@ pattern_row marks c m s =
     let a = e1 s.cpu c in
     let b = e2 s.cpu c in
     let n = i2 c + 1 in
-    Some (record { well = true; uses = pattern_uses m s.bytes a b n; outcome = edited marks s a (formed m s.bytes a b n) (worked m s.bytes a b n) })
+    Some (record {
+      well = true;
+      uses = pattern_uses m s.bytes a b n;
+      outcome = edited marks s a (formed m s.bytes a b n) (worked m s.bytes a b n);
+    })
 
 -- EDMK also leaves the address of the last result byte whose digit is not 0 where significance was off before it
 abbrev pub edit_row : Op → Code → Memory → Machine → Option Row

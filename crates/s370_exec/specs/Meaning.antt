@@ -30,7 +30,8 @@ later m a = if can_reach m a 2 then (if m.is_touch a then Some (Touched a) else 
 
 -- the halfwords after the first
 unfoldable pub rest_tests : Memory → ℕ → ℕ → Option Ending
-rest_tests m a size = if size == 2 then None else option_or (later m (wrap (a + 2))) (if size == 4 then None else later m (wrap (a + 4)))
+rest_tests m a size =
+    if size == 2 then None else option_or (later m (wrap (a + 2))) (if size == 4 then None else later m (wrap (a + 4)))
 
 -- the instruction at a, whose first halfword is h
 unfoldable pub code_at : Memory → List ℕ → ℕ → ℕ → Code
@@ -54,7 +55,8 @@ modifier s c = if r1 c == 0 then 0 else slice_index s.regs (r1 c) % 256
 
 -- the subject of an EX as it is executed (Principles of Operation, "General Instructions", "Execute")
 unfoldable pub merged : CpuView → Code → Code → Code
-merged s c subject = record { at = subject.at; bytes = slice_set subject.bytes 1 (bit_or (part subject 1) (modifier s c)); len = subject.len }
+merged s c subject =
+    record { at = subject.at; bytes = slice_set subject.bytes 1 (bit_or (part subject 1) (modifier s c)); len = subject.len }
 
 -- The supervisor call that a step executes.
 
@@ -71,7 +73,8 @@ unfoldable pub subject_call : Memory → State → Code → Option ℕ
 subject_call m s c =
     let a = ex s.machine.cpu c in
     let h = half_at m s.machine.bytes a in
-    unless_ended (first_tests m a) (unless_ended (subject_tests m a h) (call_in (merged s.machine.cpu c (code_at m s.machine.bytes a h))))
+    unless_ended (first_tests m a)
+    (unless_ended (subject_tests m a h) (call_in (merged s.machine.cpu c (code_at m s.machine.bytes a h))))
 
 -- the number of the call that the next step executes, itself or by EX; none where it executes another instruction or ends
 -- before
@@ -95,7 +98,8 @@ unchanged s io next = record { machine = s; io = io; next = next }
 
 -- with this instruction address
 abbrev pub at_address : Machine → ℕ → Machine
-at_address s a = record { cpu = record { regs = s.cpu.regs; ia = a; condition = s.cpu.condition; mask = s.cpu.mask }; bytes = s.bytes }
+at_address s a =
+    record { cpu = record { regs = s.cpu.regs; ia = a; condition = s.cpu.condition; mask = s.cpu.mask }; bytes = s.bytes }
 
 -- the endings by codes 8 and 10 come once the results are in place
 abbrev pub is_completed : Ending → Bool
@@ -128,7 +132,8 @@ call_address s = wrap (reg s 1)
 abbrev pub put_tested : Memory → Machine → IoView → ℕ → Option Ending → Effect
 put_tested m s io next (Some e) = unchanged s io (Ended e)
 put_tested m s io next None =
-    if nat_le (reg s 0) (bytes_free io) then unchanged (at_address s next) (record io { output = io.output ++ operand m s.bytes (call_address s) (reg s 0) }) On
+    if nat_le (reg s 0) (bytes_free io)
+    then unchanged (at_address s next) (record io { output = io.output ++ operand m s.bytes (call_address s) (reg s 0) }) On
     else unchanged s io (Ended OutFull)
 
 unfoldable pub put_call : ℕ → Memory → Machine → IoView → Effect
@@ -166,7 +171,8 @@ call n next m s io =
 -- the row of an operation, from the table that has it
 abbrev pub row_of : Op → Code → Memory → Machine → Option Row
 row_of op c m s =
-    option_or (fixed_row op c m s) (option_or (logic_row op c m s) (option_or (storage_row op c m s) (option_or (decimal_row op c m s) (edit_row op c m s))))
+    option_or (fixed_row op c m s)
+    (option_or (logic_row op c m s) (option_or (storage_row op c m s) (option_or (decimal_row op c m s) (edit_row op c m s))))
 
 abbrev pub unless_branched : Option CpuView → Machine → IoView → Effect → Effect
 unless_branched (Some cpu) s io e = unchanged (machine_of cpu s.bytes) io On
@@ -215,7 +221,8 @@ visit s a begun went subject = record { at = a; begun = begun; went = went; befo
 -- the subject of the EX at x, whose halfwords were fetched, as it is executed
 abbrev pub subject_begun : Memory → State → ℕ → Code → Step
 subject_begun m s x c =
-    stepped s (effect m s.machine s.io c (op_of (first_half c)) (updated c (Some x)) (link_code c (Some x))) (visit s c.at true (goes (op_of (first_half c)) s.machine.cpu c) true ∷ [])
+    stepped s (effect m s.machine s.io c (op_of (first_half c)) (updated c (Some x)) (link_code c (Some x)))
+    (visit s c.at true (goes (op_of (first_half c)) s.machine.cpu c) true ∷ [])
 
 abbrev pub subject_fetched : Memory → State → Code → ℕ → ℕ → Option Ending → Step
 subject_fetched m s c a h (Some e) = ended s e (visit s a false false true ∷ [])
@@ -240,7 +247,8 @@ behind v t = record { state = t.state; next = t.next; visits = v ∷ t.visits }
 abbrev pub begun_step : Memory → State → Code → ℕ → Step
 begun_step m s c h =
     if is_execute h then behind (visit s c.at true false false) (subject_step m s c)
-    else stepped s (effect m s.machine s.io c (op_of h) (updated c None) (link_code c None)) (visit s c.at true (goes (op_of h) s.machine.cpu c) false ∷ [])
+    else stepped s (effect m s.machine s.io c (op_of h) (updated c None) (link_code c None))
+    (visit s c.at true (goes (op_of h) s.machine.cpu c) false ∷ [])
 
 abbrev pub fetched : Memory → State → ℕ → ℕ → Option Ending → Step
 fetched m s a h (Some e) = ended s e (visit s a false false false ∷ [])

@@ -93,7 +93,8 @@ divides p d = nat_lt 0 (unsigned_abs d) && is_word (int_div p d)
 
 -- remainder, with the dividend's sign, to register r, and quotient, truncated towards zero, to the next
 abbrev pub divided : Machine → ℕ → ℤ → ℤ → Outcome
-divided s r p d = if divides p d then Completes (with_reg (with_reg s r (low_word (int_rem p d))) (r + 1) (low_word (int_div p d))) else Program 9
+divided s r p d =
+    if divides p d then Completes (with_reg (with_reg s r (low_word (int_rem p d))) (r + 1) (low_word (int_div p d))) else Program 9
 
 -- Shifts (Principles of Operation, "General Instructions"). They multiply a signed number by a power of two, or divide by it and
 -- round down.
@@ -157,11 +158,14 @@ fixed_row SRA c m s =
 -- the same of the 64 bits of a pair
 fixed_row SLDA c m s =
     let z = left_by (signed_pair s c) (shift_distance s.cpu c) in
-    Some (needing (is_even (r1 c)) (at_once (signals (to_pair s c (with_sign 9223372036854775808 (signed_pair s c) z)) (is_doubleword z) z)))
+    Some (needing (is_even (r1 c))
+    (at_once (signals (to_pair s c (with_sign 9223372036854775808 (signed_pair s c) z)) (is_doubleword z) z)))
 fixed_row SRDA c m s =
     let z = right_by (signed_pair s c) (shift_distance s.cpu c) in
     Some (needing (is_even (r1 c)) (at_once (Completes (with_cc (to_pair s c (cast_unsigned w64 z)) (sign_code z)))))
 -- packed decimal doublewords, which are fields of 8 bytes
 fixed_row CVB c m s = Some (reading (ex s.cpu c) 8 (on_data (field_at m s.bytes (ex s.cpu c) 7) (converted s (r1 c))))
-fixed_row CVD c m s = Some (storing (ex s.cpu c) 8 (Completes (with_bytes s (store_field s.bytes (ex s.cpu c) 7 (unsigned_abs (first s c)) (is_negative (first s c))))))
+fixed_row CVD c m s =
+    Some (storing (ex s.cpu c) 8
+    (Completes (with_bytes s (store_field s.bytes (ex s.cpu c) 7 (unsigned_abs (first s c)) (is_negative (first s c))))))
 fixed_row _ c m s = None

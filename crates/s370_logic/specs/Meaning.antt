@@ -38,7 +38,8 @@ joined_byte f m bytes a b n = f (byte_at m bytes (wrap (a + n))) (byte_at m byte
 -- overlap, a byte can be read after it was stored
 unfoldable pub bytes_joined : (ℕ → ℕ → ℕ) → Memory → List ℕ → ℕ → ℕ → ℕ → List ℕ
 bytes_joined f m bytes a b zero = bytes
-bytes_joined f m bytes a b (suc n) = slice_set (bytes_joined f m bytes a b n) (wrap (a + n)) (joined_byte f m (bytes_joined f m bytes a b n) a b n)
+bytes_joined f m bytes a b (suc n) =
+    slice_set (bytes_joined f m bytes a b n) (wrap (a + n)) (joined_byte f m (bytes_joined f m bytes a b n) a b n)
 
 -- each of these results is zero
 unfoldable pub are_zero : (ℕ → ℕ → ℕ) → Memory → List ℕ → ℕ → ℕ → ℕ → Bool
@@ -50,7 +51,8 @@ row_fields f c m s =
     let a = e1 s.cpu c in
     let b = e2 s.cpu c in
     let n = i2 c + 1 in
-    Some (replacing a n b n (Completes (with_cc (with_bytes s (bytes_joined f m s.bytes a b n)) (zero_code (are_zero f m s.bytes a b n)))))
+    Some (replacing a n b n
+    (Completes (with_cc (with_bytes s (bytes_joined f m s.bytes a b n)) (zero_code (are_zero f m s.bytes a b n)))))
 
 -- Comparisons without signs (Principles of Operation, "General Instructions", "Compare Logical").
 
@@ -140,19 +142,28 @@ logic_row CL c m s = Some (from_word m s c (compares_logical s (reg s (r1 c))))
 -- a byte in storage with the immediate byte, and two fields
 logic_row CLI c m s = Some (reading (e1 s.cpu c) 1 (compares_logical s (byte_at m s.bytes (e1 s.cpu c)) (i2 c)))
 logic_row CLC c m s =
-    Some (comparing (e1 s.cpu c) (i2 c + 1) (e2 s.cpu c) (i2 c + 1) (Completes (with_cc s (compared m s.bytes (e1 s.cpu c) (e2 s.cpu c) (i2 c + 1)))))
+    Some (comparing (e1 s.cpu c) (i2 c + 1) (e2 s.cpu c) (i2 c + 1)
+    (Completes (with_cc s (compared m s.bytes (e1 s.cpu c) (e2 s.cpu c) (i2 c + 1)))))
 -- the byte goes to bits 24-31 of R1, or comes from there
-logic_row IC c m s = Some (reading (ex s.cpu c) 1 (Completes (with_reg s (r1 c) (reg s (r1 c) / 256 * 256 + byte_at m s.bytes (ex s.cpu c)))))
+logic_row IC c m s =
+    Some (reading (ex s.cpu c) 1 (Completes (with_reg s (r1 c) (reg s (r1 c) / 256 * 256 + byte_at m s.bytes (ex s.cpu c)))))
 logic_row STC c m s = stores_byte (ex s.cpu c) (reg s (r1 c) % 256) m s
 logic_row ICM c m s =
     let v = number_at m s.bytes (e2 s.cpu c) (size c) in
-    Some (reading (e2 s.cpu c) (size c) (Completes (with_cc (with_reg s (r1 c) (inserted 4 (r2 c) (reg s (r1 c)) v)) (insert_code v (byte_at m s.bytes (e2 s.cpu c))))))
+    Some (reading (e2 s.cpu c) (size c)
+    (Completes (with_cc (with_reg s (r1 c) (inserted 4 (r2 c) (reg s (r1 c)) v))
+    (insert_code v (byte_at m s.bytes (e2 s.cpu c))))))
 logic_row STCM c m s = Some (to_storage s (e2 s.cpu c) (size c) (gathered 4 (r2 c) (reg s (r1 c))))
-logic_row CLM c m s = Some (reading (e2 s.cpu c) (size c) (compares_logical s (gathered 4 (r2 c) (reg s (r1 c))) (number_at m s.bytes (e2 s.cpu c) (size c))))
-logic_row TM c m s = Some (reading (e1 s.cpu c) 1 (Completes (with_cc s (mask_code (bit_and (byte_at m s.bytes (e1 s.cpu c)) (i2 c)) (i2 c)))))
+logic_row CLM c m s =
+    Some (reading (e2 s.cpu c) (size c)
+    (compares_logical s (gathered 4 (r2 c) (reg s (r1 c))) (number_at m s.bytes (e2 s.cpu c) (size c))))
+logic_row TM c m s =
+    Some (reading (e1 s.cpu c) 1 (Completes (with_cc s (mask_code (bit_and (byte_at m s.bytes (e1 s.cpu c)) (i2 c)) (i2 c)))))
 logic_row MVI c m s = stores_byte (e1 s.cpu c) (i2 c) m s
 -- the byte's leftmost bit as it was is the condition code, and the byte becomes all ones
-logic_row TS c m s = Some (storing (e2 s.cpu c) 1 (Completes (with_cc (with_bytes s (slice_set s.bytes (e2 s.cpu c) 255)) (byte_at m s.bytes (e2 s.cpu c) / 128))))
+logic_row TS c m s =
+    Some (storing (e2 s.cpu c) 1
+    (Completes (with_cc (with_bytes s (slice_set s.bytes (e2 s.cpu c) 255)) (byte_at m s.bytes (e2 s.cpu c) / 128))))
 -- where R1 equals the word, R3 is stored; else R1 becomes the word; the operand counts as stored in either case
 logic_row CS c m s =
     let a = e2 s.cpu c in
@@ -170,7 +181,8 @@ logic_row CDS c m s =
 -- bits 2-3 of R1 are the condition code, and bits 4-7 the program mask
 logic_row SPM c m s =
     let w = reg s (r1 c) in
-    Some (at_once (Completes (record { cpu = record s.cpu { condition = w / 268435456 % 4; mask = w / 16777216 % 16 }; bytes = s.bytes })))
+    Some (at_once (Completes
+    (record { cpu = record s.cpu { condition = w / 268435456 % 4; mask = w / 16777216 % 16 }; bytes = s.bytes })))
 logic_row ALR c m s = Some (from_register s c (λ v. sums s c (reg s (r1 c) + v)))
 logic_row AL c m s = Some (from_word m s c (λ v. sums s c (reg s (r1 c) + v)))
 logic_row SLR c m s = Some (from_register s c (differs s c))

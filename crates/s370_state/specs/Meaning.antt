@@ -35,7 +35,8 @@ is_digit n = nat_lt n 10
 -- the half bytes of the n bytes from a on, left to right
 unfoldable pub halves_at : Memory → List ℕ → ℕ → ℕ → List ℕ
 halves_at m bytes a zero = []
-halves_at m bytes a (suc n) = halves_at m bytes a n ++ byte_at m bytes (wrap (a + n)) / 16 ∷ (byte_at m bytes (wrap (a + n)) % 16 ∷ [])
+halves_at m bytes a (suc n) =
+    halves_at m bytes a n ++ byte_at m bytes (wrap (a + n)) / 16 ∷ (byte_at m bytes (wrap (a + n)) % 16 ∷ [])
 
 abbrev pub digits_at : Memory → List ℕ → ℕ → ℕ → List ℕ
 digits_at m bytes a l = halves_at m bytes a l ++ byte_at m bytes (wrap (a + l)) / 16 ∷ []
@@ -164,7 +165,8 @@ touch_ending None = None
 touch_ending (Some a) = Some (Touched a)
 
 unfoldable pub use_tests : Memory → List Use → Option Ending
-use_tests m us = if all_reached m us then (if all_stored m us then touch_ending (touched m us) else Some (Abend 4)) else Some (Abend 5)
+use_tests m us =
+    if all_reached m us then (if all_stored m us then touch_ending (touched m us) else Some (Abend 4)) else Some (Abend 5)
 
 -- the ending by the tests of registers, access, protection and touch, if any
 unfoldable pub tests : Memory → Bool → List Use → Option Ending
@@ -210,7 +212,11 @@ abbrev pub pair : CpuView → ℕ → ℕ
 pair s r = slice_index s.regs r * 4294967296 + slice_index s.regs (r + 1)
 
 abbrev pub with_reg : Machine → ℕ → ℕ → Machine
-with_reg s r v = record { cpu = record { regs = slice_set s.cpu.regs r v; ia = s.cpu.ia; condition = s.cpu.condition; mask = s.cpu.mask }; bytes = s.bytes }
+with_reg s r v =
+    record {
+      cpu = record { regs = slice_set s.cpu.regs r v; ia = s.cpu.ia; condition = s.cpu.condition; mask = s.cpu.mask };
+      bytes = s.bytes;
+    }
 
 -- the registers with other 64 bits in a pair
 abbrev pub with_pair : List ℕ → ℕ → ℕ → List ℕ
@@ -221,7 +227,8 @@ abbrev pub with_address : List ℕ → ℕ → ℕ → List ℕ
 with_address regs r a = slice_set regs r (slice_index regs r / 16777216 * 16777216 + a)
 
 abbrev pub with_regs : Machine → List ℕ → Machine
-with_regs s regs = record { cpu = record { regs = regs; ia = s.cpu.ia; condition = s.cpu.condition; mask = s.cpu.mask }; bytes = s.bytes }
+with_regs s regs =
+    record { cpu = record { regs = regs; ia = s.cpu.ia; condition = s.cpu.condition; mask = s.cpu.mask }; bytes = s.bytes }
 
 abbrev pub with_cc : Machine → ℕ → Machine
 with_cc s code = record { cpu = record { regs = s.cpu.regs; ia = s.cpu.ia; condition = code; mask = s.cpu.mask }; bytes = s.bytes }

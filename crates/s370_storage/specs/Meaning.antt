@@ -47,7 +47,8 @@ moved p m bytes a b (suc n) =
 -- L+1 bytes each
 abbrev pub moves : Part → Code → Memory → Machine → Option Row
 moves p c m s =
-    Some (replacing (e1 s.cpu c) (i2 c + 1) (e2 s.cpu c) (i2 c + 1) (Completes (with_bytes s (moved p m s.bytes (e1 s.cpu c) (e2 s.cpu c) (i2 c + 1)))))
+    Some (replacing (e1 s.cpu c) (i2 c + 1) (e2 s.cpu c) (i2 c + 1)
+    (Completes (with_bytes s (moved p m s.bytes (e1 s.cpu c) (e2 s.cpu c) (i2 c + 1)))))
 
 -- the address n bytes to the left of b, for n up to 2^24
 abbrev pub left_of : ℕ → ℕ → ℕ
@@ -87,7 +88,11 @@ long regs r q = record {
 -- the registers after j bytes of the first operand and k of the second: these are passed, and the rest is left
 abbrev pub passed : List ℕ → ℕ → ℕ → Long → ℕ → ℕ → List ℕ
 passed regs r q o j k =
-    slice_set (slice_set (slice_set (slice_set regs r (wrap (o.first + j))) (r + 1) (high (slice_index regs (r + 1)) + (o.first_length - j))) q (wrap (o.second + k))) (q + 1) (high (slice_index regs (q + 1)) + (o.second_length - k))
+    slice_set
+    (slice_set
+    (slice_set (slice_set regs r (wrap (o.first + j))) (r + 1) (high (slice_index regs (r + 1)) + (o.first_length - j)))
+    q (wrap (o.second + k)))
+    (q + 1) (high (slice_index regs (q + 1)) + (o.second_length - k))
 
 abbrev pub lesser : Long → ℕ
 lesser o = min o.first_length o.second_length
@@ -108,7 +113,8 @@ long_moved m bytes o = padded_bytes (moved Byte m bytes o.first o.second (lesser
 -- where they don't overlap so; the code compares the lengths
 abbrev pub moves_apart : ℕ → ℕ → Long → Memory → Machine → Option Row
 moves_apart r q o m s = Some (needing (is_even r && is_even q) (replacing o.first o.first_length o.second (lesser o) (Completes (
-    with_bytes (with_cc (with_regs s (passed s.cpu.regs r q o o.first_length (lesser o))) (order_code (nat_cmp o.first_length o.second_length))) (long_moved m s.bytes o)))))
+    with_bytes (with_cc (with_regs s (passed s.cpu.regs r q o o.first_length (lesser o)))
+    (order_code (nat_cmp o.first_length o.second_length))) (long_moved m s.bytes o)))))
 
 -- where they do, there is no further test, and no effect but code 3
 abbrev pub long_moves : ℕ → ℕ → Memory → Machine → Option Row
@@ -134,7 +140,8 @@ unequal m bytes o n = first_where (λ i. not (first_byte m bytes o i == second_b
 abbrev pub compares : Memory → Machine → ℕ → ℕ → Long → Option ℕ → Outcome
 compares m s r q o None = Completes (with_cc (with_regs s (passed s.cpu.regs r q o o.first_length o.second_length)) 0)
 compares m s r q o (Some i) =
-    Completes (with_cc (with_regs s (passed s.cpu.regs r q o (min i o.first_length) (min i o.second_length))) (order_code (nat_cmp (first_byte m s.bytes o i) (second_byte m s.bytes o i))))
+    Completes (with_cc (with_regs s (passed s.cpu.regs r q o (min i o.first_length) (min i o.second_length)))
+    (order_code (nat_cmp (first_byte m s.bytes o i) (second_byte m s.bytes o i))))
 
 -- both are read whole, also past an unequal pair
 abbrev pub long_compares : ℕ → ℕ → Memory → Machine → Option Row
@@ -258,14 +265,17 @@ search_uses m bytes a t n = reads a n ∷ functions m bytes a t (looked_up n (se
 -- The row of each operation on fields in storage (Principles of Operation, "General Instructions").
 
 abbrev pub storage_row : Op → Code → Memory → Machine → Option Row
-storage_row LM c m s = Some (reading (e2 s.cpu c) (4 * many c) (Completes (with_regs s (loaded m s.bytes s.cpu.regs (r1 c) (e2 s.cpu c) (many c)))))
-storage_row STM c m s = Some (storing (e2 s.cpu c) (4 * many c) (Completes (with_bytes s (stored s.bytes s.cpu.regs (r1 c) (e2 s.cpu c) (many c)))))
+storage_row LM c m s =
+    Some (reading (e2 s.cpu c) (4 * many c) (Completes (with_regs s (loaded m s.bytes s.cpu.regs (r1 c) (e2 s.cpu c) (many c)))))
+storage_row STM c m s =
+    Some (storing (e2 s.cpu c) (4 * many c) (Completes (with_bytes s (stored s.bytes s.cpu.regs (r1 c) (e2 s.cpu c) (many c)))))
 storage_row MVC c m s = moves Byte c m s
 storage_row MVN c m s = moves Numeric c m s
 storage_row MVZ c m s = moves Zone c m s
 -- the second operand is named by its rightmost byte
 storage_row MVCIN c m s =
-    Some (replacing (e1 s.cpu c) (i2 c + 1) (left_of (e2 s.cpu c) (i2 c)) (i2 c + 1) (Completes (with_bytes s (inverted m s.bytes (e1 s.cpu c) (e2 s.cpu c) (i2 c + 1)))))
+    Some (replacing (e1 s.cpu c) (i2 c + 1) (left_of (e2 s.cpu c) (i2 c)) (i2 c + 1)
+    (Completes (with_bytes s (inverted m s.bytes (e1 s.cpu c) (e2 s.cpu c) (i2 c + 1)))))
 storage_row TR c m s = Some (record {
   well = true;
   uses = translation_uses m s.bytes (e1 s.cpu c) (e2 s.cpu c) (i2 c + 1);

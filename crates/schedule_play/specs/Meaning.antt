@@ -29,7 +29,8 @@ pub data Play : Type 0 where
 
 -- the plant of a place for the whole session that observes it, where one does
 abbrev pub plant_at : World → ℕ → List Event
-plant_at w p = if nat_lt 0 (window_at (plan_in w) p) then event.Plant (record { 0 = window_at (plan_in w) p }) (record { 0 = p }) ∷ [] else []
+plant_at w p =
+    if nat_lt 0 (window_at (plan_in w) p) then event.Plant (record { 0 = window_at (plan_in w) p }) (record { 0 = p }) ∷ [] else []
 
 -- before the first item all these places are planted, in their order
 abbrev pub plants : World → List Event
@@ -56,7 +57,8 @@ item_event w c item = None
 
 -- an item, where it is possible: its event, or all events of a task that hasn't ended
 abbrev pub play_item : World → Parts → Item → Option Stepped
-play_item w c (Go t) = if is_none (next_of w c t) then None else Some (record { parts = go w (most_events w t.0) c t; shown = Done })
+play_item w c (Go t) =
+    if is_none (next_of w c t) then None else Some (record { parts = go w (most_events w t.0) c t; shown = Done })
 play_item w c item = option_and_then (parts_step w c) (item_event w c item)
 
 abbrev pub with_item : Played → Play → Play
@@ -78,7 +80,8 @@ is_end item = false
 
 abbrev pub play_line : (Parts → Play) → World → ℕ → Parts → List LineView → Option Item → Play
 play_line more w n c lines None = Bad n
-play_line more w n c lines (Some item) = if is_end item then play_end n c lines else play_on more n item (item_event w c item) (play_item w c item)
+play_line more w n c lines (Some item) =
+    if is_end item then play_end n c lines else play_on more n item (item_event w c item) (play_item w c item)
 
 -- the lines from number n of the input on, up to ENDSCHED
 abbrev pub play : World → ℕ → Parts → List LineView → Play
@@ -89,7 +92,8 @@ play w n c (line ∷ lines) = play_line (λ d. play w (n + 1) d lines) w n c lin
 abbrev pub play_of : JobView → List Place → ℕ → List LineView → Play
 play_of j places count lines =
     let w : World = record { job = j; places = places } in
-    if nat_eq (length j.phases) 1 then option_map_or (λ (c : Parts). play w (count + 1) c lines) (run_on w (first_parts w) (plants w)) (Bad 0) else Bad 0
+    if nat_eq (length j.phases) 1
+    then option_map_or (λ (c : Parts). play w (count + 1) c lines) (run_on w (first_parts w) (plants w)) (Bad 0) else Bad 0
 
 -- The play is a run of the core, whose first events are the plants. It stands as the core does after every list of events.
 pub record IsRun (w : World) (parts : Parts) : Type 0 where
@@ -137,7 +141,8 @@ event_words j places made = []
 
 -- of item n, which numbers from 1
 abbrev pub event_line : JobView → List Place → ℕ → Played → List ℕ
-event_line j places n p = codes "EVENT " ++ decimal n ++ codes " " ++ item_words j p.item ++ event_words j places p.event ++ shown_words p.shown
+event_line j places n p =
+    codes "EVENT " ++ decimal n ++ codes " " ++ item_words j p.item ++ event_words j places p.event ++ shown_words p.shown
 
 abbrev pub no_item : Played
 no_item = record { item = End; event = None; shown = Done }

@@ -44,11 +44,13 @@ IsLine None play played end = play ≡ end
 -- so it is whatever stands behind it
 abbrev pub IsLineOf : JobView → List ℕ → CoreView → CoreView → Option Played → Type 0
 IsLineOf j line old new o = (more : Parts → Play) (n : ℕ) (rest : List LineView) →
-    IsLine o (play_line more old.world n old.parts rest (item_at j line)) (λ p. with_item p (more new.parts)) (play_end n new.parts rest)
+    IsLine o (play_line more old.world n old.parts rest (item_at j line)) (λ p. with_item p (more new.parts))
+    (play_end n new.parts rest)
 
 -- a line that is no item, or none that is possible
 abbrev pub IsBadLine : JobView → List ℕ → CoreView → Type 0
-IsBadLine j line c = (more : Parts → Play) (n : ℕ) (rest : List LineView) → play_line more c.world n c.parts rest (item_at j line) ≡ Bad n
+IsBadLine j line c =
+    (more : Parts → Play) (n : ℕ) (rest : List LineView) → play_line more c.world n c.parts rest (item_at j line) ≡ Bad n
 
 -- want of memory may come at any item
 abbrev pub IsUnplayed : Play → ScheduleFault → Type 0

@@ -31,7 +31,8 @@ is_same_controller t u = false
 
 -- no module is in two sessions of one phase but in those of one controller
 abbrev pub AreParted : SessionView → SessionView → Type 0
-AreParted s t = s.phase ≡ t.phase → is_same_controller s.by t.by ≡ false → All (λ m. list_any (nat_eq m) t.modules ≡ false) s.modules
+AreParted s t =
+    s.phase ≡ t.phase → is_same_controller s.by t.by ≡ false → All (λ m. list_any (nat_eq m) t.modules ≡ false) s.modules
 
 -- a task of the phase
 abbrev pub IsTaskOf : List TaskView → ℕ → ℕ → Type 0

@@ -29,7 +29,8 @@ HasSetsAt sets n places = (k : ℕ) (d : MarkedPlace) → k < length places → 
 
 -- the sets of the first so many of a file's modules, which are these
 abbrev pub HaveSetsAt : List TableView → (ℕ → FactSet) → ℕ → List ℕ → List MarkedView → Type 0
-HaveSetsAt tables sets count modules file = (i m : ℕ) (d : MarkedView) → i < count → HasSetsAt sets (first_place tables (get_or modules i m)) (get_or file i d).places
+HaveSetsAt tables sets count modules file =
+    (i m : ℕ) (d : MarkedView) → i < count → HasSetsAt sets (first_place tables (get_or modules i m)) (get_or file i d).places
 
 -- the sets of all of them
 abbrev pub HaveSets : List TableView → (ℕ → FactSet) → List ℕ → List MarkedView → Type 0
@@ -37,7 +38,8 @@ HaveSets tables sets modules file = HaveSetsAt tables sets (length modules) modu
 
 -- each of them has as many places as its table
 abbrev pub HaveCounts : List TableView → List ℕ → List MarkedView → Type 0
-HaveCounts tables modules file = (i m : ℕ) (d : MarkedView) → i < length modules → length (get_or file i d).places ≡ place_count tables (get_or modules i m)
+HaveCounts tables modules file =
+    (i m : ℕ) (d : MarkedView) → i < length modules → length (get_or file i d).places ≡ place_count tables (get_or modules i m)
 
 -- the number is of no place of module m
 abbrev pub IsOutside : List TableView → ℕ → ℕ → Type 0
@@ -63,11 +65,14 @@ pub record IsOwn (j : JobView) (tables : TablesView) (s : ℕ) (file : List Mark
 
 -- at each place of module m the same set
 abbrev pub AreSameAt : TablesView → (ℕ → FactSet) → (ℕ → FactSet) → ℕ → Type 0
-AreSameAt tables sets others m = (n : ℕ) → first_place tables.tables m ≤ n → n < first_place tables.tables m + place_count tables.tables m → sets n ≡ others n
+AreSameAt tables sets others m =
+    (n : ℕ) → first_place tables.tables m ≤ n → n < first_place tables.tables m + place_count tables.tables m → sets n ≡ others n
 
 -- Of a file that keeps the rules of marks files, as the session's table does: it is the session's marks with some sets
 -- exactly where no row differs, and its sets at the session's places are then the only ones.
 pub record IsDecided (j : JobView) (tables : TablesView) (s : ℕ) (file : List MarkedView) : Type 0 where
   pub own : IsOwn j tables s file → first_difference 0 (session_rows j tables s) (rows file) ≡ None
-  pub found : are_marks (session_marks j tables (λ n. no_facts) s) ≡ true → are_marks file ≡ true → first_difference 0 (session_rows j tables s) (rows file) ≡ None → IsOwn j tables s file
-  pub one : (sets others : ℕ → FactSet) → file ≡ session_marks j tables sets s → file ≡ session_marks j tables others s → All (AreSameAt tables sets others) (session_of j s).modules
+  pub found : are_marks (session_marks j tables (λ n. no_facts) s) ≡ true → are_marks file ≡ true
+      → first_difference 0 (session_rows j tables s) (rows file) ≡ None → IsOwn j tables s file
+  pub one : (sets others : ℕ → FactSet) → file ≡ session_marks j tables sets s → file ≡ session_marks j tables others s
+      → All (AreSameAt tables sets others) (session_of j s).modules

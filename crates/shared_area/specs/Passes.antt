@@ -23,4 +23,6 @@ HasWord plan word (Task t) = (has_task plan.tasks t ≡ true) × (word ≡ task_
 HasWord plan word r = Unit {0}
 
 abbrev pub IsPassOf : SharedCells → SharedPass → Type 0
-IsPassOf cells pass = (pass.seat.table_id ≡ cells.table.shared.table_id) × (pass.seat.me.1 ≡ []) × IsWithin cells.plan pass.seat.me.0.pending × HasWord cells.plan pass.word pass.seat.me.0.role
+IsPassOf cells pass =
+    (pass.seat.table_id ≡ cells.table.shared.table_id) × (pass.seat.me.1 ≡ []) × IsWithin cells.plan pass.seat.me.0.pending
+    × HasWord cells.plan pass.word pass.seat.me.0.role

@@ -68,7 +68,8 @@ abbrev pub is_only : Fact → FactSet → Bool
 is_only f found = same_set found (only f)
 
 -- a look at the set that was found: the mark itself where the set is such a one, and else nothing
-pub record Looked (is : FactSet → Bool) (plan : PlanView) (s p : ℕ) (f : Fact) (v : View) (found : FactSet) (v' : View) : Type 0 where
+pub record Looked (is : FactSet → Bool) (plan : PlanView) (s p : ℕ) (f : Fact) (v : View) (found : FactSet)
+    (v' : View) : Type 0 where
   pub there : is found ≡ true → Marked plan s p f v found v'
   pub wanting : is found ≡ false → v' ≡ v
 

@@ -17,7 +17,8 @@ use Rattle.annotator.specs.Meaning.{hex_digits}
 -- how many instructions were begun, as an instruction or as a subject, in the module, where no place begins
 abbrev pub unlisted_visits : List Place → ImageView → List Visit → ℕ
 unlisted_visits places image [] = 0
-unlisted_visits places image (v ∷ vs) = (if v.begun && (in_image image v.at && not (is_place places v.at)) then 1 else 0) + unlisted_visits places image vs
+unlisted_visits places image (v ∷ vs) =
+    (if v.begun && (in_image image v.at && not (is_place places v.at)) then 1 else 0) + unlisted_visits places image vs
 
 -- Where each task of a job ends in its own run, and how many visits of all tasks are in a module where no place begins.
 
@@ -35,7 +36,8 @@ end_of j places t = record {
 
 -- in module m, of all tasks of the job, whatever their phases
 abbrev pub unlisted_of : JobView → List Place → ℕ → ℕ
-unlisted_of j places m = sum_from (λ t. unlisted_visits places (module_of j m) (visits_of (run_of j places t).turns)) 0 (length j.tasks)
+unlisted_of j places m =
+    sum_from (λ t. unlisted_visits places (module_of j m) (visits_of (run_of j places t).turns)) 0 (length j.tasks)
 
 -- The text of the ends of a job's tasks.
 
@@ -58,7 +60,8 @@ end_lines j t e = end_line (task_of j t).name e (place_words (task_of j t).priva
 
 -- of module m, where it has a listing, with so many visits
 abbrev pub unlisted_lines : JobView → ℕ → ℕ → List (List ℕ)
-unlisted_lines j m count = if is_monitored j m then (codes "UNLISTED " ++ unpadded (module_of j m).name ++ codes " " ++ decimal count) ∷ [] else []
+unlisted_lines j m count =
+    if is_monitored j m then (codes "UNLISTED " ++ unpadded (module_of j m).name ++ codes " " ++ decimal count) ∷ [] else []
 
 -- tasks and modules in the order of the job
 abbrev pub end_parts : JobView → (ℕ → TaskEnd) → List (List ℕ)
@@ -68,4 +71,5 @@ abbrev pub unlisted_parts : JobView → (ℕ → ℕ) → List (List ℕ)
 unlisted_parts j unlisted = lines_from (λ m. unlisted_lines j m (unlisted m)) 0 (length j.images)
 
 abbrev pub ends_text : JobView → (ℕ → TaskEnd) → (ℕ → ℕ) → List ℕ
-ends_text j ends unlisted = text_of (codes "COVERAGE ENDS" ∷ (end_parts j ends ++ (unlisted_parts j unlisted ++ (codes "END" ∷ []))))
+ends_text j ends unlisted =
+    text_of (codes "COVERAGE ENDS" ∷ (end_parts j ends ++ (unlisted_parts j unlisted ++ (codes "END" ∷ []))))

@@ -10,7 +10,8 @@ use Rattle.task_ends.specs.Meaning.{unlisted_visits, run_of}
 -- from old to new those among the visits were added to the count of each module
 pub record Adds (places : List Place) (images : List ImageView) (visits : List Visit) (old new : List ℕ) : Type 0 where
   pub size : length new ≡ length old
-  pub each : (m : ℕ) → m < length images → slice_index new m ≡ slice_index old m + unlisted_visits places (get_or images m no_module) visits
+  pub each : (m : ℕ) → m < length images
+      → slice_index new m ≡ slice_index old m + unlisted_visits places (get_or images m no_module) visits
 
 -- of task t's own run
 abbrev pub AddsTask : JobView → List Place → ℕ → List ℕ → List ℕ → Type 0
@@ -18,4 +19,5 @@ AddsTask j places t old new = Adds places j.images (visits_of (run_of j places t
 
 -- and one visit at this address
 abbrev pub AddsOne : List ImageView → ℕ → List ℕ → List ℕ → Type 0
-AddsOne images at old new = (m : ℕ) → m < length images → slice_index new m ≡ slice_index old m + (if in_image (get_or images m no_module) at then 1 else 0)
+AddsOne images at old new =
+    (m : ℕ) → m < length images → slice_index new m ≡ slice_index old m + (if in_image (get_or images m no_module) at then 1 else 0)

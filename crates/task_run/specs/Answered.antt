@@ -39,8 +39,10 @@ pub record Answered (plan : PlanView) (old new : Notes) (last : ℕ → ℕ → 
   pub pairs : List (ℕ × Cell)
   pub appended : new.answered ≡ old.answered ++ pairs
   pub each : ArePairs plan old last pairs (at_places plan.places visits)
-  pub shown : (s p : ℕ) (f : Fact) → has_fact (facts_under plan s p pairs (at_places plan.places visits)) f ≡ true → IsRecorded new s p f
-  pub nothing_else : (s p : ℕ) (f : Fact) → new.marked s p f ≡ true → old.marked s p f ≡ true ⊎ has_fact (facts_under plan s p pairs (at_places plan.places visits)) f ≡ true
+  pub shown : (s p : ℕ) (f : Fact) → has_fact (facts_under plan s p pairs (at_places plan.places visits)) f ≡ true
+      → IsRecorded new s p f
+  pub nothing_else : (s p : ℕ) (f : Fact) → new.marked s p f ≡ true
+      → old.marked s p f ≡ true ⊎ has_fact (facts_under plan s p pairs (at_places plan.places visits)) f ≡ true
 
 -- it has planted and closed nothing, knows of no lower tag, has made no boundary, and has looked at no task and no set
 pub record LeavesSessions (old new : Notes) : Type 0 where

@@ -21,7 +21,8 @@ last_by plan n c calls before = (notes_by plan n c (take before calls)).last
 -- From the old to the new notes the pass has made these visits, and at each instruction has opened or closed what its
 -- call asks for, behind the instruction's visits. Where it is tied to a control that has opened nothing, the tags of its
 -- fetches never fall at any place.
-pub record Follows (plan : PlanView) (old new : Notes) (trace : List Visit) (calls : List (Option ℕ)) (c d : ControlView) : Type 0 where
+pub record Follows (plan : PlanView) (old new : Notes) (trace : List Visit) (calls : List (Option ℕ))
+    (c d : ControlView) : Type 0 where
   pub observes : Observes plan old new trace
   pub answered : Answered plan old new (last_by plan old c calls) trace
   pub rises : IsTied plan old c → c.next ≡ 0 → (p : ℕ) → RisesAt p (known_tag plan old p) answered.pairs (known_tag plan new p)

@@ -19,7 +19,8 @@ pub record Way (H O P : Type 0) : Type 1 where
   pub Aside : H → O → P → ControlView → ℕ → P → H → Type 0
 
 -- An instruction has left hook, pass and bench so, and how the task would go on; before it, it could be done, and the hook was set.
-pub record IsBehind {H O P : Type 0} (way : Way H O P) (by : observer.Ghosts O P) (h : H) (o : O) (t : TablesView) (q : P) (new : Bench) (done : ℕ) (next : Next) : Type 0 where
+pub record IsBehind {H O P : Type 0} (way : Way H O P) (by : observer.Ghosts O P) (h : H) (o : O) (t : TablesView) (q : P)
+    (new : Bench) (done : ℕ) (next : Next) : Type 0 where
   pub pass : P
   pub bench : Bench
   pub before : ℕ
@@ -29,9 +30,11 @@ pub record IsBehind {H O P : Type 0} (way : Way H O P) (by : observer.Ghosts O P
   pub steps : StepsAs by.Makes by.Answers o t pass bench before q new next
 
 -- What was done behind the instruction: of the bench only the processor was changed.
-pub record DoesBehind {H O P : Type 0} (way : Way H O P) (o : O) (h : H) (p : P) (old : Bench) (done : ℕ) (next : Next) (g : H) (q : P) (new : Bench) (result : Next) : Type 0 where
+pub record DoesBehind {H O P : Type 0} (way : Way H O P) (o : O) (h : H) (p : P) (old : Bench) (done : ℕ) (next : Next) (g : H)
+    (q : P) (new : Bench) (result : Next) : Type 0 where
   pub bench : new ≡ record old { cpu = new.cpu }
-  pub course : way.after (way.key h) (memory_at old) (machine_of old.cpu old.space.bytes) next ≡ record { cpu = new.cpu; next = result; key = way.key g }
+  pub course : way.after (way.key h) (memory_at old) (machine_of old.cpu old.space.bytes) next
+      ≡ record { cpu = new.cpu; next = result; key = way.key g }
   pub set : way.IsSet g o q new.control done
   pub aside : way.Aside h o p new.control done q g
 

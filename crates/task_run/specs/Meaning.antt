@@ -87,7 +87,8 @@ course_on after m zero k s = ends_here (if has_returned s then Returned else Spe
 course_on after m (suc n) k s =
     if has_returned s then ends_here Returned s
     else turned (turn_of m s ∷ [])
-    (tour_behind (λ t. course_on after m n (step_behind after m k s).key t) s.machine.cpu.ia (state_behind after m k s) (step_behind after m k s).next)
+    (tour_behind (λ t. course_on after m n (step_behind after m k s).key t) s.machine.cpu.ia (state_behind after m k s)
+    (step_behind after m k s).next)
 
 -- 2. Fetches: what the observer over planted cells has met.
 
@@ -106,7 +107,9 @@ is_under s p x v = (nat_eq x.0 p && nat_eq (x.1.tag + 1) (2 * s)) && v.begun
 abbrev pub facts_under : PlanView → ℕ → ℕ → List (ℕ × Cell) → List Visit → FactSet
 facts_under plan s p [] vs = no_facts
 facts_under plan s p (x ∷ xs) [] = no_facts
-facts_under plan s p (x ∷ xs) (v ∷ vs) = if is_under s p x v then with_fact (facts_under plan s p xs vs) (fact_of (kind_at plan p) v.went) else facts_under plan s p xs vs
+facts_under plan s p (x ∷ xs) (v ∷ vs) =
+    if is_under s p x v then with_fact (facts_under plan s p xs vs) (fact_of (kind_at plan p) v.went)
+    else facts_under plan s p xs vs
 
 -- 3. Runs: how tasks run over planted cells, and the sessions that they open and close.
 
@@ -136,7 +139,8 @@ tag_closed plan p tag (Some s) = if has_place (places_under plan s.0) p then 2 *
 
 abbrev pub tag_after : PlanView → ℕ → ControlView → ℕ → Option ℕ → ℕ
 tag_after plan p c tag None = tag
-tag_after plan p c tag (Some k) = if k == 4 then tag_opened plan p tag (to_open c) else (if k == 5 then tag_closed plan p tag c.opened else tag)
+tag_after plan p c tag (Some k) =
+    if k == 4 then tag_opened plan p tag (to_open c) else (if k == 5 then tag_closed plan p tag c.opened else tag)
 
 -- the tag that the place has after these calls: of session s, 2s-1 while it is open and 2s behind that
 abbrev pub tag_by : PlanView → ℕ → ControlView → ℕ → List (Option ℕ) → ℕ
@@ -198,7 +202,8 @@ traces_but walks (t ∷ ts) by = if nat_eq t.0 by then traces_but walks ts by el
 -- the phase show there.
 abbrev pub most_set : PlanView → (ℕ → Walk) → ℕ → ℕ → Place → FactSet
 most_set plan walks by s place =
-    if has_session (opened_by (last_control plan walks by)) s then union (least_set plan walks by s place) (facts_of_all place (traces_but walks plan.tasks by)) else no_facts
+    if has_session (opened_by (last_control plan walks by)) s
+    then union (least_set plan walks by s place) (facts_of_all place (traces_but walks plan.tasks by)) else no_facts
 
 -- no fewer facts than the least set, and no others than the most
 pub record IsBetween (fewest all set : FactSet) : Type 0 where

@@ -23,7 +23,8 @@ MakesEach plan old [] new = new ≡ old
 MakesEach plan old (v ∷ vs) new = (mid : Notes) × Makes plan old mid (v ∷ []) × MakesEach plan mid vs new
 
 -- it has changed its task's sessions as the call asks, if there is one, by at most one call of the area for each place
-pub record HasAnswered (plan : PlanView) (old : Notes) (c : ControlView) (call : Option ℕ) (new : Notes) (d : ControlView) : Type 0 where
+pub record HasAnswered (plan : PlanView) (old : Notes) (c : ControlView) (call : Option ℕ) (new : Notes)
+    (d : ControlView) : Type 0 where
   pub notes : new ≡ after_call plan old c call
   pub control : d ≡ control_after c call
   pub few : calls new ≤ calls old + PLACE_LIMIT

@@ -26,7 +26,8 @@ pub record RanAs (course : Course) (plan : PlanView) (before after : Notes) (old
   pub done : new.done ≤ old.budget
   pub ending : result ≡ (run_from course plan old).ending
   pub state : stands new.bench new.done ≡ (run_from course plan old).state
-  pub follows : Follows plan before after (walk_from course plan old).trace (walk_from course plan old).calls old.bench.control new.bench.control
+  pub follows : Follows plan before after (walk_from course plan old).trace
+      (walk_from course plan old).calls old.bench.control new.bench.control
   pub windows : HasWindows plan before old.bench.control (walk_from course plan old).calls
   pub planted : HasPlanted plan before after new.bench.control
   pub tied : IsTied plan after new.bench.control

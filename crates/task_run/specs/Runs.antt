@@ -22,8 +22,10 @@ stand h p b = record { hook = h; pass = p; control = b.control }
 
 -- One instruction, with which so many are done: the pass has made its visits and then answered its call, and behind that the
 -- hook has done what it does.
-pub record Takes {H O P : Type 0} (makes : O → TablesView → P → List Visit → P → Type 0) (answers : O → P → ControlView → Option ℕ → P → ControlView → Type 0)
-    (aside : H → O → P → ControlView → ℕ → P → H → Type 0) (o : O) (t : TablesView) (done : ℕ) (turn : Turn) (x y : Stand H P) : Type 0 where
+pub record Takes {H O P : Type 0} (makes : O → TablesView → P → List Visit → P → Type 0)
+    (answers : O → P → ControlView → Option ℕ → P → ControlView → Type 0)
+    (aside : H → O → P → ControlView → ℕ → P → H → Type 0) (o : O) (t : TablesView) (done : ℕ) (turn : Turn)
+    (x y : Stand H P) : Type 0 where
   pub visited : P
   pub made : makes o t x.pass turn.visits visited
   pub called : P
@@ -49,4 +51,6 @@ pub record EndsAs {H O P : Type 0} (way : Way H O P) (h : H) (budget : ℕ) (old
 
 -- and hook, pass and control have gone through the turns of it
 abbrev pub GoesAs : {H O P : Type 0} → observer.Ghosts O P → Way H O P → Watch O → ℕ → H → P → Bench → H → P → Bench → Type 0
-GoesAs by way w budget h p old g q new = Goes (Takes by.Makes by.Answers way.Aside w.observer.now w.tables.now) 0 (course_of way h budget old).turns (stand h p old) (stand g q new)
+GoesAs by way w budget h p old g q new =
+    Goes (Takes by.Makes by.Answers way.Aside w.observer.now w.tables.now) 0 (course_of way h budget old).turns (stand h p old)
+    (stand g q new)

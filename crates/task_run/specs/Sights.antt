@@ -33,7 +33,8 @@ stage_of s = if s.subject then 1 else 0
 
 -- the visit of an instruction that is begun, which is executed as this code
 abbrev pub begun_visit : Sight → CpuView → Code → Visit
-begun_visit s cpu code = record { at = s.at; begun = true; went = goes (op_of (first_half code)) cpu code; before = s.done; subject = s.subject }
+begun_visit s cpu code =
+    record { at = s.at; begun = true; went = goes (op_of (first_half code)) cpu code; before = s.done; subject = s.subject }
 
 -- what is known of it as it begins
 abbrev pub IsKnown : Known → Code → CpuView → Type 0

@@ -36,7 +36,14 @@ code_there b = code_at (memory_at b) b.space.bytes b.cpu.ia (half_at (memory_at 
 
 -- its visit, where it is begun
 abbrev pub own_visit : Bench → ℕ → Visit
-own_visit b done = record { at = b.cpu.ia; begun = true; went = goes (op_of (first_half (code_there b))) b.cpu (code_there b); before = done; subject = false }
+own_visit b done =
+    record {
+      at = b.cpu.ia;
+      begun = true;
+      went = goes (op_of (first_half (code_there b))) b.cpu (code_there b);
+      before = done;
+      subject = false;
+    }
 
 -- The pass has room for the rest of an instruction, of which so many visits were shown, and is tied to the task's control.
 pub record CanStep {O P : Type 0} (is_ready : O → TablesView → P → ℕ → ℕ → Type 0) (is_tied : O → P → ControlView → Type 0)
@@ -47,8 +54,10 @@ pub record CanStep {O P : Type 0} (is_ready : O → TablesView → P → ℕ →
 
 -- The task's state and how it goes on are those of this step; the pass has made the step's visits, and has then answered the
 -- call, if there was one.
-pub record Does {O P : Type 0} (makes : O → TablesView → P → List Visit → P → Type 0) (answers : O → P → ControlView → Option ℕ → P → ControlView → Type 0)
-    (o : O) (t : TablesView) (p : P) (c : ControlView) (step : Step) (call : Option ℕ) (q : P) (new : Bench) (done : ℕ) (result : Next) : Type 0 where
+pub record Does {O P : Type 0} (makes : O → TablesView → P → List Visit → P → Type 0)
+    (answers : O → P → ControlView → Option ℕ → P → ControlView → Type 0)
+    (o : O) (t : TablesView) (p : P) (c : ControlView) (step : Step) (call : Option ℕ) (q : P) (new : Bench) (done : ℕ)
+    (result : Next) : Type 0 where
   pub state : step.state ≡ stands new done
   pub next : step.next ≡ result
   pub mid : P
@@ -56,25 +65,31 @@ pub record Does {O P : Type 0} (makes : O → TablesView → P → List Visit �
   pub answered : answers o mid c call q new.control
 
 -- the memory is as it was, and what was done is the step of a task alone
-pub record StepsAs {O P : Type 0} (makes : O → TablesView → P → List Visit → P → Type 0) (answers : O → P → ControlView → Option ℕ → P → ControlView → Type 0)
+pub record StepsAs {O P : Type 0} (makes : O → TablesView → P → List Visit → P → Type 0)
+    (answers : O → P → ControlView → Option ℕ → P → ControlView → Type 0)
     (o : O) (t : TablesView) (p : P) (old : Bench) (done : ℕ) (q : P) (new : Bench) (result : Next) : Type 0 where
   pub memory : memory_at new ≡ memory_at old
-  pub does : Does makes answers o t p old.control (solo_step (memory_at old) (stands old done)) (call_of (memory_at old) (stands old done)) q new (done + 1) result
+  pub does : Does makes answers o t p old.control (solo_step (memory_at old) (stands old done))
+      (call_of (memory_at old) (stands old done)) q new (done + 1) result
 
 -- and it was told whether the task has ended, and how
 abbrev pub StepsTold : {O P : Type 0} → observer.Ghosts O P → O → TablesView → P → Bench → ℕ → P → Bench → Told → Ending → Type 0
 StepsTold by o t p old done q new told end = StepsAs by.Makes by.Answers o t p old done q new (next_of told end)
 
 -- and of the subject of this EX, which was begun
-pub record StepsOn {O P : Type 0} (by : observer.Ghosts O P) (ex : Code) (o : O) (t : TablesView) (p : P) (old : Bench) (done : ℕ) (q : P) (new : Bench) (result : Next) : Type 0 where
+pub record StepsOn {O P : Type 0} (by : observer.Ghosts O P) (ex : Code) (o : O) (t : TablesView) (p : P) (old : Bench) (done : ℕ)
+    (q : P) (new : Bench) (result : Next) : Type 0 where
   pub memory : memory_at new ≡ memory_at old
-  pub does : Does by.Makes by.Answers o t p old.control (subject_step (memory_at old) (stands old done) ex) (subject_call (memory_at old) (stands old done) ex) q new (done + 1) result
+  pub does : Does by.Makes by.Answers o t p old.control (subject_step (memory_at old) (stands old done) ex)
+      (subject_call (memory_at old) (stands old done) ex) q new (done + 1) result
 
 -- The instruction was fetched whole, and its visit was shown: what is done from before that visit on is the whole step.
-pub record GoesOn {O P : Type 0} (by : observer.Ghosts O P) (o : O) (t : TablesView) (p : P) (old : Bench) (done : ℕ) (q : P) (new : Bench) (result : Next) : Type 0 where
+pub record GoesOn {O P : Type 0} (by : observer.Ghosts O P) (o : O) (t : TablesView) (p : P) (old : Bench) (done : ℕ) (q : P)
+    (new : Bench) (result : Next) : Type 0 where
   pub memory : memory_at new ≡ memory_at old
   pub does : (first : P) → by.Makes o t first (own_visit old done ∷ []) p →
-      Does by.Makes by.Answers o t first old.control (solo_step (memory_at old) (stands old done)) (call_of (memory_at old) (stands old done)) q new (done + 1) result
+      Does by.Makes by.Answers o t first old.control (solo_step (memory_at old) (stands old done))
+      (call_of (memory_at old) (stands old done)) q new (done + 1) result
 
 -- and it was told whether the task has ended, and how
 abbrev pub GoesOnTold : {O P : Type 0} → observer.Ghosts O P → O → TablesView → P → Bench → ℕ → P → Bench → Told → Ending → Type 0

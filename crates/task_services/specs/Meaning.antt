@@ -62,8 +62,10 @@ by_call k m s (Ended e) = by_ending k m s e
 -- the caller's processor, with registers 0, 1 and 15 as the routine has left them
 abbrev pub resumed : CpuView → CpuView → CpuView
 resumed s caller =
-    record caller { regs = slice_set (slice_set (slice_set caller.regs 0 (slice_index s.regs 0)) 1 (slice_index s.regs 1)) 15
-      (slice_index s.regs 15) }
+    record caller {
+      regs = slice_set (slice_set (slice_set caller.regs 0 (slice_index s.regs 0)) 1 (slice_index s.regs 1)) 15
+          (slice_index s.regs 15);
+    }
 
 abbrev pub gone_back : List Service → CpuView → Option CpuView → Behind Served
 gone_back services cpu None = left services None cpu On
@@ -115,7 +117,7 @@ interrupted s code (Some a) = goes_on (at_exit s.cpu code a) None
 abbrev pub exit_called : Option ℕ → Memory → Machine → ℕ → Behind (Option ℕ)
 exit_called exit m s number =
     if number == 6 then goes_on (record s.cpu { ia = behind_call m s }) (exit_named (call_address s))
-      else as_left exit s (Ended (BadSvc number))
+    else as_left exit s (Ended (BadSvc number))
 
 -- every other ending stays
 abbrev pub exit_by_ending : Option ℕ → Memory → Machine → Ending → Behind (Option ℕ)
