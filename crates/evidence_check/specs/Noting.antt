@@ -24,18 +24,21 @@ or_or : (x y z : Option First) → option_or (option_or x y) z ≡ option_or x (
 or_or None y z = refl
 or_or (Some v) y z = refl
 
-map_or : (t : ℕ) (x y : Option Visit) → option_map (first_of t) (option_or x y) ≡ option_or (option_map (first_of t) x) (option_map (first_of t) y)
+map_or : (t : ℕ) (x y : Option Visit)
+    → option_map (first_of t) (option_or x y) ≡ option_or (option_map (first_of t) x) (option_map (first_of t) y)
 map_or t None y = refl
 map_or t (Some v) y = refl
 
-first_in-append : (place : Place) (f : Fact) (t : ℕ) (vs ws : List Visit) → first_in place f t (vs ++ ws) ≡ option_or (first_in place f t vs) (first_in place f t ws)
+first_in-append : (place : Place) (f : Fact) (t : ℕ) (vs ws : List Visit)
+    → first_in place f t (vs ++ ws) ≡ option_or (first_in place f t vs) (first_in place f t ws)
 first_in-append place f t vs ws =
     ap (option_map (first_of t)) (find-append (shows place f) vs ws) ∙ map_or t (find (shows place f) vs) (find (shows place f) ws)
 
 pub notes_none : (places : List Place) (t : ℕ) (found : List Found) → Notes places t [] found found
 notes_none places t found = record { size = refl; firsts = λ n lt f. sym (or_none (found_at found n f)) }
 
-pub notes_more : (places : List Place) (t : ℕ) (vs ws : List Visit) (old mid new : List Found) → Notes places t vs old mid → Notes places t ws mid new → Notes places t (vs ++ ws) old new
+pub notes_more : (places : List Place) (t : ℕ) (vs ws : List Visit) (old mid new : List Found) → Notes places t vs old mid
+    → Notes places t ws mid new → Notes places t (vs ++ ws) old new
 notes_more places t vs ws old mid new a b = record {
   size = b.size ∙ a.size;
   firsts = λ n lt f.
