@@ -1,5 +1,7 @@
 """What must be read to know what `cover` claims stands in its place, and tests/meaning tells where that isn't so."""
 import os
+import pathlib
+import re
 import shutil
 import subprocess
 
@@ -50,4 +52,19 @@ def elsewhere() -> None:
                      f"not reached: never_read crates/cov_base/specs/Meaning.antt:{last}"])
 
 
-CHECKS = [in_place, elsewhere]
+def widths() -> None:
+    """crates: a clause has at most 120 characters, and a line of specs/Meaning*.antt 132, but for imports and texts"""
+    crates = pathlib.Path(TOP, "crates")
+    clause, text = re.compile(r" *((?:requires|ensures)\b.*)"), re.compile(r'use |.*"')
+    wide, clauses = [], 0
+    for path in sorted([*crates.glob("*/src/**/*.rt"), *crates.glob("*/specs/Meaning*.antt")]):
+        for number, line in enumerate(path.read_text("utf-8").split("\n"), 1):
+            found = clause.fullmatch(line)
+            clauses += bool(found)
+            if len(found[1]) > 120 if found else path.suffix == ".antt" and len(line) > 132 and not text.match(line):
+                wide.append(f"{path.relative_to(crates)}:{number}")
+    equal(wide, [])
+    assert clauses > 3000, clauses
+
+
+CHECKS = [in_place, elsewhere, widths]
