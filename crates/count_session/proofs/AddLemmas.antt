@@ -4,8 +4,8 @@ use Rattle.std.proofs.lemmas.List.Elements.{All-get_or}
 use native.Mathlib.Decide.{ℕ_discrete}
 use Rattle.cov_base.specs.Meaning.{breakpoint, same_fact, fact_of, Visit}
 use Rattle.cov_base.specs.declared.facts.Fact.{Fact}
-use Rattle.cov_base.specs.declared.facts.Fact.TheVariants.{Ran, Went, Stayed}
 use Rattle.cov_base.specs.declared.numbers.PlaceNo.{PlaceNo}
+use Rattle.cov_base.proofs.Laws.{same_fact-turned}
 use Rattle.module_area.specs.declared.cells.Cell.{Cell}
 use Rattle.module_area.specs.declared.places.Place.{Place}
 use Rattle.module_area.specs.Meaning.{executes, shows, PlanView, place_of, no_place, kind_at, window_at, original_at}
@@ -17,17 +17,6 @@ use Rattle.count_session.specs.Counting.{planted_count, Adds}
 
 abbrev one_of : Bool → ℕ
 one_of b = if b then 1 else 0
-
-turned : (f g : Fact) → same_fact f g ≡ same_fact g f
-turned Ran Ran = refl
-turned Ran Went = refl
-turned Ran Stayed = refl
-turned Went Ran = refl
-turned Went Went = refl
-turned Went Stayed = refl
-turned Stayed Ran = refl
-turned Stayed Went = refl
-turned Stayed Stayed = refl
 
 -- a visit that isn't at the place, or wasn't begun, gives no fact there
 gives_not : (place : Place) (f : Fact) (v : Visit) → executes place v ≡ false → count_at place f (v ∷ []) ≡ 0
@@ -119,7 +108,7 @@ module _ (plan : PlanView) (old mid : CountNotes) (p : ℕ) (v : Visit) (cell : 
           let at : (place_of plan.places q).at ≡ v.at = ap (λ k. (place_of plan.places k).at) same ∙ begins.begins in
           let runs : executes (place_of plan.places q) v ≡ true = ap (λ b. b && (v.at == (place_of plan.places q).at)) begun ∙ eq-eqb v.at (place_of plan.places q).at (sym at) in
           let shown : shows (place_of plan.places q) f v ≡ same_fact f (fact_at plan p v.went) =
-          ap (λ b. b && same_fact (fact_at plan q v.went) f) runs ∙ (ap (λ k. same_fact (fact_at plan k v.went) f) same ∙ turned (fact_at plan p v.went) f) in
+          ap (λ b. b && same_fact (fact_at plan q v.went) f) runs ∙ (ap (λ k. same_fact (fact_at plan k v.went) f) same ∙ same_fact-turned (fact_at plan p v.went) f) in
           let count : planted_count plan old q f (v ∷ []) ≡ one_of (same_fact f (fact_at plan p v.went)) + 0 =
           ap (λ b. if b then count_at (place_of plan.places q) f (v ∷ []) else 0) (ap old.planted same ∙ here) ∙ ap (λ b. one_of b + 0) shown in
           omega (arith, now, test, count)

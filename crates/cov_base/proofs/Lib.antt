@@ -1,3 +1,4 @@
+mod FactLemmas
 mod FactNumbers
 mod NameLemmas
 pub mod Laws

@@ -4,18 +4,17 @@ use Rattle.std.proofs.lemmas.Option.{same_Some}
 use Rattle.std.proofs.lemmas.Bool.{and_from, ltb-true}
 use mathlib.Core.Option.{some, some-injective, some-ne-none}
 use lib.ListN.{get_elem?}
-use Rattle.cov_base.specs.Meaning.{FactSet, has_fact, with_fact, is_full, full_of, fact_of}
+use Rattle.cov_base.specs.Meaning.{FactSet, has_fact, with_fact, is_full, fact_of}
 use Rattle.cov_base.specs.FactKind.{is_of_kind}
 use Rattle.cov_base.specs.declared.facts.Fact.{Fact}
-use Rattle.cov_base.specs.declared.facts.Fact.TheVariants.{Ran, Went, Stayed}
 use Rattle.cov_base.specs.declared.facts.Kind.{Kind}
-use Rattle.cov_base.specs.declared.facts.Kind.TheVariants.{Straight, Conditional}
+use Rattle.cov_base.proofs.Laws.{is_of_kind-fact_of, has_fact-full_of, is_full-true}
 use Rattle.s370_state.specs.declared.endings.Ending.{Ending}
 use Rattle.module_area.specs.Rule.{planted, IsForm, Has, window_tag, is_breakpoint, is_lifted, fetching, planting}
 use Rattle.module_area.specs.Meaning.{tag_session, word_at, PlanView, original_at, kind_at}
 use Rattle.module_area.specs.declared.cells.Cell.{Cell}
 use Rattle.module_area.specs.declared.parties.View.{View}
-use Rattle.module_area.proofs.Laws.{is_full-true, here-add_if, more-add_if}
+use Rattle.module_area.proofs.Laws.{here-add_if, more-add_if}
 use Rattle.interleave_core.specs.Meaning.{World, TaskPart, Parts, part_of, plan_in, Stepped, parts_step, cell_fetched, fact_marked, lifted, done_by, with_due, with_stage, original_under, same_cell, in_hand, hand_at, step_of, place_due, is_awaiting, task_done, set_of, fact_in, controller_of}
 use Rattle.interleave_core.specs.World.{IsWorld}
 use Rattle.s370_exec.specs.Meaning.{visit_of}
@@ -34,7 +33,7 @@ use Rattle.interleave_core.proofs.Runs.{got, lifted_tasks, exists_by, through}
 use Rattle.interleave_core.proofs.Logs.{one_log, changed_log, got_step}
 use Rattle.interleave_core.proofs.Tied.{tied_step, tied_first}
 use Rattle.interleave_core.proofs.Rule.{Ruled, HasBreakpoint, IsMarked, AreMarked, entry_in, InStage, held_hand, view_at}
-use Rattle.interleave_core.proofs.Ruled.{fetch_due, kind_fact, ruled_step, ruled_first}
+use Rattle.interleave_core.proofs.Ruled.{fetch_due, ruled_step, ruled_first}
 
 -- ---- what a log shows
 
@@ -64,7 +63,7 @@ no_set : (A : Type 0) (found : FactSet) → None ≡ Some found → A
 no_set A found h = absurd cc
 
 shown_kind : (b : Bool) (k : Kind) (went : Bool) (f : Fact) → (if b then Some (fact_of k went) else None) ≡ Some f → is_of_kind k f ≡ true
-shown_kind true k went f h = subst (λ (g : Fact). is_of_kind k g ≡ true) (same_Some (fact_of k went) f h) (kind_fact k went)
+shown_kind true k went f h = subst (λ (g : Fact). is_of_kind k g ≡ true) (same_Some (fact_of k went) f h) (is_of_kind-fact_of k went)
 shown_kind false k went f h = let n : None ≡ Some f = h in absurd cc
 
 fetch_settled : (w : World) (t : ℕ) (u : TaskPart) (h : Hand) → h.place.0 < length w.places → IsForm (plan_in w) h.place.0 h.cell → IsSettled w (entry_of w t u h)
@@ -287,16 +286,8 @@ log_tells w t (Gave q tag ∷ log) s p f is marks pos h = log_tells w t log s p 
 
 -- ---- the sets
 
-all_of_kind : (k : Kind) (f : Fact) → is_of_kind k f ≡ true → has_fact (full_of k) f ≡ true
-all_of_kind Straight Ran h = refl
-all_of_kind Straight Went h = absurd cc
-all_of_kind Straight Stayed h = absurd cc
-all_of_kind Conditional Ran h = absurd cc
-all_of_kind Conditional Went h = refl
-all_of_kind Conditional Stayed h = refl
-
 full_has : (k : Kind) (x : FactSet) (f : Fact) → is_full k x ≡ true → is_of_kind k f ≡ true → has_fact x f ≡ true
-full_has k x f full is = subst (λ (y : FactSet). has_fact y f ≡ true) (sym (is_full-true k x full)) (all_of_kind k f is)
+full_has k x f full is = subst (λ (y : FactSet). has_fact y f ≡ true) (sym (is_full-true k x full)) (has_fact-full_of k f is)
 
 -- a party is the planter, or a task
 party_is : (w : World) (logs : ℕ → List Item) (t n k : ℕ) (x : View) → get_elem? (task_views w logs t n) k ≡ some x → (m : ℕ) × (m < t + n) × (x ≡ task_view w m (logs m))

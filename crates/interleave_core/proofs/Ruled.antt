@@ -1,15 +1,12 @@
 -- The rule of an area holds of a core after every list of events.
-use Rattle.std.proofs.Common.{◌≡◌, ◌≢◌, ◌⊎◌, inl, inr, ℕ, zero, suc, ◌+◌, ◌*◌, ◌<◌, ◌≤◌, Bool, true, false, not, ◌&&◌, nat_lt, nat_eq, if◌then◌else◌, Option, Some, None, is_none, List, [], ◌∷◌, ◌++◌, length, get_or, set, replicate, refl, sym, ◌∙◌, ap, subst, arith, eqb-true, option_map}
+use Rattle.std.proofs.Common.{◌≡◌, ◌≢◌, ◌⊎◌, inl, inr, ℕ, zero, suc, ◌+◌, ◌*◌, ◌<◌, ◌≤◌, Bool, true, false, not, ◌&&◌, nat_lt, nat_eq, if◌then◌else◌, Option, Some, None, is_none, List, [], ◌∷◌, ◌++◌, length, get_or, set, refl, sym, ◌∙◌, ap, subst, arith, eqb-true, option_map}
 use Rattle.std.proofs.lemmas.Grind.{get_or-set_at}
-use Rattle.std.proofs.lemmas.List.{get_or-map, get_or-set_other, get_or-replicate, length-set, length-map, length-replicate}
+use Rattle.std.proofs.lemmas.List.{get_or-map, get_or-set_other, length-set, length-map, length-replicate}
 use Rattle.std.proofs.lemmas.Option.{same_Some}
-use Rattle.std.proofs.lemmas.Bool.{and_parts, ltb-true, cases_lt}
-use Rattle.cov_base.specs.Meaning.{breakpoint, FactSet, no_facts, has_fact, with_fact, is_full, fact_of, Visit}
-use Rattle.cov_base.specs.FactKind.{is_of_kind}
+use Rattle.std.proofs.lemmas.Bool.{and_parts, ltb-true, both_ways}
+use Rattle.cov_base.specs.Meaning.{breakpoint, FactSet, no_facts, has_fact, with_fact, is_full, Visit}
 use Rattle.cov_base.specs.declared.facts.Fact.{Fact}
-use Rattle.cov_base.specs.declared.facts.Fact.TheVariants.{Ran, Went, Stayed}
-use Rattle.cov_base.specs.declared.facts.Kind.{Kind}
-use Rattle.cov_base.specs.declared.facts.Kind.TheVariants.{Straight, Conditional}
+use Rattle.cov_base.proofs.Laws.{has_fact-none, is_of_kind-fact_of}
 use Rattle.s370_state.specs.declared.endings.Ending.TheVariants.{Returned, Spent as SpentEnding}
 use Rattle.s370_state.specs.declared.endings.Next.{Next}
 use Rattle.s370_state.specs.declared.endings.Next.TheVariants.{On, Ended as NextEnded}
@@ -35,7 +32,7 @@ use Rattle.interleave_core.specs.declared.stage.Stage.{Stage}
 use Rattle.interleave_core.specs.declared.stage.Stage.TheVariants.{Ready, Awaiting, Holding, Ended}
 use Rattle.interleave_core.specs.Views.{AreTied}
 use Rattle.interleave_core.proofs.Changes.{goes_on, Changed, plant_cases, close_by, logs_whole, logs_plant, logs_close}
-use Rattle.interleave_core.proofs.Runs.{got, lifted_tasks, exists_by, through}
+use Rattle.interleave_core.proofs.Runs.{got, lifted_tasks, exists_by, through, no_set_at}
 use Rattle.interleave_core.proofs.Logs.{found_at, due_at, itself, got_step}
 use Rattle.interleave_core.proofs.Tied.{tied_step, tied_first}
 use Rattle.interleave_core.proofs.Begun.{begun_instruction, begun_subject}
@@ -102,11 +99,6 @@ rule_fetch w c v t p world is lt due =
 
 -- ---- Mark
 
-pub kind_fact : (k : Kind) (went : Bool) → is_of_kind k (fact_of k went) ≡ true
-kind_fact Straight went = refl
-kind_fact Conditional true = refl
-kind_fact Conditional false = refl
-
 same_hand : (w : World) (h g : Hand) → g.place ≡ h.place → g.cell ≡ h.cell → HasBreakpoint w h → HasBreakpoint w g
 same_hand w h g at cell b = record {
   session = b.session;
@@ -171,7 +163,7 @@ rule_mark w c v t h is lt due =
     after_task w c v (fact_marked w c.parts t u h).parts t u2 (Marked found) (marking (plan_in w) b.session p f (set_of w c.parts b.session p) view) is lt refl is.cells
     (length-set c.parts.sets (index_of (length w.places) (tag_session h.cell.tag) p) (with_fact found f) ∙ is.sets)
     (marks (plan_in w) (λ q. word_at c.parts.cells q) (λ s q. set_of w c.parts s q) (v ∷ task_views w c.logs 0 (length w.job.tasks)) is.held (suc t) view (view_at w c.logs 0 (length w.job.tasks) t t (omega arith) there) live
-    b.session p f b.inside b.some_session pending (kind_fact (kind_at (plan_in w) p) (visit_of (step_of w t u) h.subject).went) (λ q. word_at c.parts.cells q) (λ s q. set_of w (fact_marked w c.parts t u h).parts s q)
+    b.session p f b.inside b.some_session pending (is_of_kind-fact_of (kind_at (plan_in w) p) (visit_of (step_of w t u) h.subject).went) (λ q. word_at c.parts.cells q) (λ s q. set_of w (fact_marked w c.parts t u h).parts s q)
     (λ q l. refl) (set_here w c.parts h b f is.held.is_plan is.sets) (set_other w c.parts h b f is.held.is_plan is.sets))
     view_is
     (subst (λ (l : List Item). InHand w t u2 l (record h { due = d }) d) (sym logged)
@@ -321,20 +313,6 @@ gave plan w cell sets (suc n) h =
     splits plan cell sets (first_planter n ∷ task_views w nothing 0 n) before 0 (first_planter n) refl refl n (λ has. itself_not n (numbers_below n n has)) in
     subst (λ (vs : List View). Held plan cell sets (first_planter (suc n) ∷ vs)) (views_push w 0 n n (omega arith)) after
 
-no_fact : (f : Fact) → has_fact no_facts f ≡ true → ⊥
-no_fact Ran h = absurd cc
-no_fact Went h = absurd cc
-no_fact Stayed h = absurd cc
-
-empty_by : (n i : ℕ) → (i < n) ⊎ (n ≤ i) → get_or (replicate n no_facts) i no_facts ≡ no_facts
-empty_by n i (inl lt) = get_or-replicate n i no_facts no_facts lt
-empty_by n i (inr le) = past n i le
-  where
-    past : (k j : ℕ) → k ≤ j → get_or (replicate k no_facts) j no_facts ≡ no_facts
-    past zero j l = refl
-    past (suc k) zero l = absurd (omega arith)
-    past (suc k) (suc j) l = past k j (omega (arith, l))
-
 pub ruled_first : (w : World) → IsWorld w → Ruled w (core_start w) (first_planter (length w.job.tasks))
 ruled_first w world = record {
   count = length-map w.job.tasks first_part;
@@ -344,7 +322,7 @@ ruled_first w world = record {
   held = gave (plan_in w) w (λ p. word_at (first_parts w).cells p) (λ s p. set_of w (first_parts w) s p) (length w.job.tasks)
       (begins (plan_in w) (λ p. word_at (first_parts w).cells p) (λ s p. set_of w (first_parts w) s p) world.is_plan
       (λ p l. get_or-map fresh_word w.places p no_place no_cell l)
-      (λ s p f l pos h. no_fact f (subst (λ (x : FactSet). has_fact x f ≡ true) (empty_by (length w.job.sessions * length w.places) (index_of (length w.places) s p) (cases_lt _ _)) h)));
+      (λ s p f l pos h. both_ways (has_fact no_facts f) (has_fact-none f) (subst (λ (x : FactSet). has_fact x f ≡ true) (no_set_at (length w.job.sessions * length w.places) (index_of (length w.places) s p)) h)));
   hands = λ t l.
       let lt : t < length w.job.tasks = subst (λ (n : ℕ). t < n) (length-map w.job.tasks first_part) l in
       subst (λ (u : TaskPart). InStage w t u [] u.stage) (sym (get_or-map first_part w.job.tasks t no_task (first_part no_task) lt)) tt;

@@ -1,7 +1,8 @@
 -- Runs of the core, event by event, and what a possible event was made of.
-use Rattle.std.proofs.Common.{◌≡◌, ◌≢◌, ◌⊎◌, ℕ, Bool, true, false, if◌then◌else◌, Option, Some, None, option_map, List, [], ◌∷◌, ◌++◌, refl, sym, ◌∙◌, ap, subst, arith}
+use Rattle.std.proofs.Common.{◌≡◌, ◌≢◌, ◌⊎◌, ℕ, zero, suc, Bool, true, false, if◌then◌else◌, Option, Some, None, option_map, List, [], ◌∷◌, ◌++◌, get_or, replicate, refl, sym, ◌∙◌, ap, subst, arith}
 use Rattle.std.proofs.lemmas.Option.{same_Some}
 use Rattle.std.specs.Option.{option_and_then}
+use Rattle.cov_base.specs.Meaning.{no_facts}
 use Rattle.module_area.specs.declared.cells.Cell.{Cell}
 use Rattle.interleave_core.specs.Meaning.{World, Parts, Stepped, parts_step, run_on, in_hand, same_due, with_cell}
 use Rattle.interleave_core.specs.CoreState.{CoreState, CoreStepped, core_step, core_from, go_on}
@@ -13,6 +14,12 @@ use Rattle.interleave_core.specs.declared.stage.Stage.TheVariants.{Ready, Awaiti
 
 pub same_or : (t n : ℕ) → (t ≡ n) ⊎ (t ≢ n)
 same_or t n = grind arith
+
+-- sets of which none has a fact
+pub no_set_at : (n i : ℕ) → get_or (replicate n no_facts) i no_facts ≡ no_facts
+no_set_at zero i = refl
+no_set_at (suc n) zero = refl
+no_set_at (suc n) (suc i) = no_set_at n i
 
 pub got : (A : Type 0) (f : A → Stepped) (o : Option A) (x : Stepped) → option_map f o ≡ Some x → (a : A) × (o ≡ Some a) × (x ≡ f a)
 got A f None x h = let n : None ≡ Some x = h in absurd cc

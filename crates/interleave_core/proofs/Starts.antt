@@ -1,10 +1,9 @@
 -- A core before its first event, and what each core fits.
-use Rattle.std.proofs.Common.{◌≡◌, ◌⊎◌, inl, inr, ℕ, zero, suc, All, ◌+◌, ◌-◌, ◌*◌, ◌<◌, ◌≤◌, true, Some, List, [], ◌∷◌, ◌++◌, length, get_or, map, replicate, take, drop, min, slice_range, nat_lt, refl, sym, ◌∙◌, ap, subst, arith}
+use Rattle.std.proofs.Common.{◌≡◌, ◌⊎◌, inl, inr, ℕ, All, ◌+◌, ◌-◌, ◌*◌, ◌<◌, ◌≤◌, true, Some, List, [], ◌∷◌, ◌++◌, length, get_or, map, replicate, take, drop, min, slice_range, nat_lt, refl, sym, ◌∙◌, ap, subst, arith}
 use Rattle.std.proofs.lemmas.List.{get_or-map, length-map, length-replicate, length-append, ext_get_or, get_or_push, get_or_append_left, length-drop, take_all}
 use Rattle.std.proofs.lemmas.Bool.{lt-ltb}
 use Rattle.cov_base.specs.Meaning.{FactSet, no_facts, is_within}
-use Rattle.cov_base.specs.declared.facts.Kind.{Kind}
-use Rattle.cov_base.specs.declared.facts.Kind.TheVariants.{Straight, Conditional}
+use Rattle.cov_base.proofs.Laws.{within_none}
 use Rattle.brk_table.specs.Places.{ArePlaces, IsIn}
 use Rattle.session_book.specs.JobView.{IsJob}
 use Rattle.module_area.specs.Meaning.{index_of, set_in, fresh_word, word_at, no_cell, PlanView, kind_at, no_place}
@@ -20,7 +19,7 @@ use Rattle.interleave_core.specs.Views.{RunningView, IsRunning, IsStage, IsHand,
 use Rattle.interleave_core.specs.declared.stage.Due.TheVariants.{Marking}
 use Rattle.interleave_core.specs.declared.stage.Hand.{Hand}
 use Rattle.interleave_core.specs.declared.stage.Stage.{Stage}
-use Rattle.interleave_core.proofs.Runs.{in_hand-stage}
+use Rattle.interleave_core.proofs.Runs.{in_hand-stage, no_set_at}
 use Rattle.interleave_core.proofs.Tied.{tied_first}
 
 pub part_read : (tasks : List RunningView) (t : ℕ) (r : RunningView) → t < length tasks → r ≡ get_or tasks t r → get_or (parts_of tasks) t (first_part no_task) ≡ r.part
@@ -149,20 +148,9 @@ IsCore-first w cells sets plan tasks job phase same is_plan places inside is_cel
   cell_count = ap (λ (cs : List Cell). length cs) is_cells ∙ length-map w.places fresh_word;
   set_count = ap (λ (xs : List FactSet). length xs) is_sets ∙ length-replicate (length w.job.sessions * length w.places) no_facts;
   words = λ p l. inl (ap (λ (cs : List Cell). word_at cs p) is_cells ∙ get_or-map fresh_word w.places p no_place no_cell l);
-  within = λ s p pos l. subst (λ (xs : List FactSet). is_within (kind_at (plan_in w) p) (set_in (length w.places) xs s p) ≡ true) (sym is_sets) (none_within (kind_at (plan_in w) p) (length w.job.sessions * length w.places) (index_of (length w.places) s p));
+  within = λ s p pos l. subst (λ (xs : List FactSet). is_within (kind_at (plan_in w) p) (set_in (length w.places) xs s p) ≡ true) (sym is_sets)
+      (ap (is_within (kind_at (plan_in w) p)) (no_set_at (length w.job.sessions * length w.places) (index_of (length w.places) s p)) ∙ within_none (kind_at (plan_in w) p));
   running = are.running;
   stages = λ t r l. subst (λ (u : TaskPart). IsStage w t u u.stage) (sym (are.parts t r l)) tt;
   tied = subst (AreTied w) (sym (parts_are w cells sets tasks is_cells is_sets are)) (tied_first w is_plan);
 }
-  where
-    none_within : (k : Kind) (n i : ℕ) → is_within k (get_or (replicate n no_facts) i no_facts) ≡ true
-    none_within k n i = ap (is_within k) (none_at n i) ∙ nothing k
-      where
-        none_at : (m j : ℕ) → get_or (replicate m no_facts) j no_facts ≡ no_facts
-        none_at zero j = refl
-        none_at (suc m) zero = refl
-        none_at (suc m) (suc j) = none_at m j
-
-        nothing : (x : Kind) → is_within x no_facts ≡ true
-        nothing Straight = refl
-        nothing Conditional = refl

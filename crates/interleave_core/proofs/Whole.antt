@@ -4,12 +4,12 @@ use Rattle.std.proofs.lemmas.Bool.Decides.{nat_tests}
 use Rattle.std.proofs.lemmas.Grind.{get_or-set_at}
 use Rattle.std.proofs.lemmas.List.{get_or-set_other, get_or-map, append-nil}
 use Rattle.std.proofs.lemmas.Option.{same_Some}
-use Rattle.std.proofs.lemmas.Bool.{and_from, and_parts, ltb-true}
-use Rattle.cov_base.specs.Meaning.{FactSet, no_facts, has_fact, with_fact, is_full, union, fact_of, same_fact, Visit}
+use Rattle.std.proofs.lemmas.Bool.{and_from, and_parts, ltb-true, both_ways}
+use Rattle.cov_base.specs.Meaning.{FactSet, no_facts, has_fact, with_fact, is_full, fact_of, Visit}
 use Rattle.cov_base.specs.declared.numbers.PlaceNo.{PlaceNo}
 use Rattle.cov_base.specs.declared.numbers.SessNo.{SessNo}
 use Rattle.cov_base.specs.declared.facts.Fact.{Fact}
-use Rattle.cov_base.specs.declared.facts.Fact.TheVariants.{Ran, Went, Stayed}
+use Rattle.cov_base.proofs.Laws.{has_fact-none, with_fact-here, with_fact-more, with_fact-cases, has_fact-union, same_sets}
 use Rattle.s370_state.specs.declared.endings.Ending.{Ending}
 use Rattle.s370_exec.specs.Meaning.{Run}
 use Rattle.module_area.specs.Meaning.{executes, facts_at, facts_of_all, tag_session, word_at, no_cell, kind_at, window_at, place_of, no_place}
@@ -17,8 +17,8 @@ use Rattle.module_area.specs.Rule.{Has, window_tag}
 use Rattle.module_area.specs.declared.cells.Cell.{Cell}
 use Rattle.module_area.specs.declared.parties.View.{View}
 use Rattle.module_area.specs.declared.places.Place.{Place}
-use Rattle.module_area.proofs.Laws.{has_fact-with_fact, same_fact-true, same_tests, has-append, left-append, right-append, or_cases}
-use Rattle.module_area.proofs.Laws.{or_left, or_right, same_fact-same}
+use Rattle.module_area.proofs.Laws.{same_tests, has-append, left-append, right-append, or_cases}
+use Rattle.module_area.proofs.Laws.{or_left, or_right}
 use Rattle.session_book.specs.Meaning.{SessionView, TaskView, session_of, no_session, no_task, is_whole, observes}
 use Rattle.phase_plan.specs.Meaning.{window_from, window_of, traces_from, session_set}
 use Rattle.brk_table.proofs.Laws.{one_begins}
@@ -250,26 +250,17 @@ begun_by : (b : Bool) (g f : Fact) → (if b then Some g else None) ≡ Some f �
 begun_by true g f h = (refl, cc)
 begun_by false g f h = let n : None ≡ Some f = h in absurd cc
 
-has_new : (x : FactSet) (f : Fact) → has_fact (with_fact x f) f ≡ true
-has_new x f = has_fact-with_fact x f f ∙ or_right (has_fact x f) (same_fact f f) (same_fact-same f)
-
-has_old : (x : FactSet) (g f : Fact) → has_fact x f ≡ true → has_fact (with_fact x g) f ≡ true
-has_old x g f h = has_fact-with_fact x g f ∙ or_left (has_fact x f) (same_fact f g) h
-
-has_by : (x : FactSet) (g f : Fact) → has_fact (with_fact x g) f ≡ true → (has_fact x f ≡ true) ⊎ (f ≡ g)
-has_by x g f h = elim (or_cases (has_fact x f) (same_fact f g) (sym (has_fact-with_fact x g f) ∙ h)) [ inl old ↦ inl old | inr new ↦ inr (same_fact-true f g new) ]
-
 -- one visit more
 more_facts : (b : Bool) (x : FactSet) (g f : Fact) → has_fact x f ≡ true → has_fact (if b then with_fact x g else x) f ≡ true
-more_facts true x g f h = has_old x g f h
+more_facts true x g f h = with_fact-more x g f h
 more_facts false x g f h = h
 
 this_fact : (b : Bool) (x : FactSet) (g f : Fact) → b ≡ true → g ≡ f → has_fact (if b then with_fact x g else x) f ≡ true
-this_fact true x g f h same = subst (λ (y : Fact). has_fact (with_fact x g) y ≡ true) same (has_new x g)
+this_fact true x g f h same = subst (λ (y : Fact). has_fact (with_fact x g) y ≡ true) same (with_fact-here x g)
 this_fact false x g f h same = absurd cc
 
 which_fact : (b : Bool) (x : FactSet) (g f : Fact) → has_fact (if b then with_fact x g else x) f ≡ true → (has_fact x f ≡ true) ⊎ ((b ≡ true) × (g ≡ f))
-which_fact true x g f h = elim (has_by x g f h) [ inl old ↦ inl old | inr new ↦ inr (refl, sym new) ]
+which_fact true x g f h = elim (with_fact-cases x g f h) [ inl old ↦ inl old | inr new ↦ inr (refl, sym new) ]
 which_fact false x g f h = inl h
 
 equal_test : (a b : ℕ) → a ≡ b → (a == b) ≡ true
@@ -304,13 +295,8 @@ noted_facts w p f (v ∷ vs) h = elim (has-append (noted_one p f) (note w v (pla
   | inr old ↦ more_facts (executes (place_of w.places p) v) (facts_at (place_of w.places p) vs) (fact_of (kind_at (plan_in w) p) v.went) f (noted_facts w p f vs old)
 ]
 
-none_of : (f : Fact) → has_fact no_facts f ≡ true → ⊥
-none_of Ran h = absurd cc
-none_of Went h = absurd cc
-none_of Stayed h = absurd cc
-
 facts_noted : (w : World) (p : ℕ) (f : Fact) (vs : List Visit) → IsWorld w → p < length w.places → has_fact (facts_at (place_of w.places p) vs) f ≡ true → Has (noted_one p f) (noted w vs)
-facts_noted w p f [] world lt h = absurd (none_of f h)
+facts_noted w p f [] world lt h = absurd (both_ways (has_fact no_facts f) (has_fact-none f) h)
 facts_noted w p f (v ∷ vs) world lt h = elim (which_fact (executes (place_of w.places p) v) (facts_at (place_of w.places p) vs) (fact_of (kind_at (plan_in w) p) v.went) f h) [
   | inl old ↦ right-append (noted_one p f) (note w v (place_at w v.at)) (noted w vs) (facts_noted w p f vs world lt old)
   | inr new ↦
@@ -323,11 +309,6 @@ facts_noted w p f (v ∷ vs) world lt h = elim (which_fact (executes (place_of w
 
 -- ---- the traces of all tasks
 
-union_has : (a b : FactSet) (f : Fact) → has_fact (union a b) f ≡ (has_fact a f || has_fact b f)
-union_has a b Ran = refl
-union_has a b Went = refl
-union_has a b Stayed = refl
-
 abbrev AllIn : ℕ → List TaskView → Type 0
 AllIn phase ts = (i : ℕ) → i < length ts → (get_or ts i no_task).phase ≡ phase
 
@@ -335,7 +316,7 @@ tail_in : (phase : ℕ) (t : TaskView) (ts : List TaskView) → AllIn phase (t �
 tail_in phase t ts h i l = h (suc i) (omega (arith, l))
 
 one_of : (b : Bool) (place : Place) (x : List Visit) (rest : List (List Visit)) (f : Fact) → b ≡ true → has_fact (facts_of_all place (if b then x ∷ rest else rest)) f ≡ (has_fact (facts_at place x) f || has_fact (facts_of_all place rest) f)
-one_of true place x rest f h = union_has (facts_at place x) (facts_of_all place rest) f
+one_of true place x rest f h = has_fact-union (facts_at place x) (facts_of_all place rest) f
 one_of false place x rest f h = absurd cc
 
 head_phase : (phase : ℕ) (t : TaskView) (ts : List TaskView) → AllIn phase (t ∷ ts) → nat_eq t.phase phase ≡ true
@@ -353,7 +334,7 @@ traces_into place f trace n (t ∷ ts) phase all (suc k) m e lt h =
     ∙ or_right (has_fact (facts_at place (trace n)) f) (has_fact (facts_of_all place (traces_from (n + 1) ts phase trace)) f) (traces_into place f trace (n + 1) ts phase (tail_in phase t ts all) k m (omega (arith, e)) (omega (arith, lt)) h)
 
 traces_from_has : (place : Place) (f : Fact) (trace : ℕ → List Visit) (n : ℕ) (ts : List TaskView) (phase : ℕ) → AllIn phase ts → has_fact (facts_of_all place (traces_from n ts phase trace)) f ≡ true → (m : ℕ) × (m < n + length ts) × (has_fact (facts_at place (trace m)) f ≡ true)
-traces_from_has place f trace n [] phase all h = absurd (none_of f h)
+traces_from_has place f trace n [] phase all h = absurd (both_ways (has_fact no_facts f) (has_fact-none f) h)
 traces_from_has place f trace n (t ∷ ts) phase all h =
     let either = or_cases (has_fact (facts_at place (trace n)) f) (has_fact (facts_of_all place (traces_from (n + 1) ts phase trace)) f) (sym (one_of (nat_eq t.phase phase) place (trace n) (traces_from (n + 1) ts phase trace) f (head_phase phase t ts all)) ∙ h) in
     elim either [
@@ -385,11 +366,6 @@ session_phase w p world lt pos =
     ap (λ (n : ℕ). (get_or w.job.sessions n no_session).phase) index ∙ below_one _ _ low world.phase
 
 -- ---- the sets
-
-same_sets : (a b : FactSet) → ((f : Fact) → has_fact a f ≡ has_fact b f) → a ≡ b
-same_sets a b h =
-    ap (λ (x : Bool). record { ran = x; went = a.went; stayed = a.stayed }) (h Ran)
-    ∙ (ap (λ (x : Bool). record { ran = b.ran; went = x; stayed = a.stayed }) (h Went) ∙ ap (λ (x : Bool). record { ran = b.ran; went = b.went; stayed = x }) (h Stayed))
 
 -- the log of a task that has ended
 ended_log : (w : World) (t : ℕ) (u : TaskPart) (log : List Item) (e : Ending) → u.stage ≡ Ended e → IsAlone w t u → HasLog w t u log → logged log ≡ noted w (trace_in w t)

@@ -10,6 +10,7 @@ use Rattle.cov_base.specs.declared.facts.Fact.{Fact}
 use Rattle.cov_base.specs.declared.numbers.PlaceNo.{PlaceNo}
 use Rattle.cov_base.specs.declared.numbers.SessNo.{SessNo}
 use Rattle.cov_base.specs.declared.numbers.TaskNo.{TaskNo}
+use Rattle.cov_base.proofs.Laws.{has_fact-union, has_fact-full_of}
 use Rattle.module_area.specs.declared.cells.Cell.{Cell}
 use Rattle.module_area.specs.declared.places.Place.{Place}
 use Rattle.module_area.specs.declared.tallies.Tally.{Tally}
@@ -22,7 +23,7 @@ use Rattle.module_area.proofs.Laws.{any_at, any_shown, one_controller, has_here}
 use Rattle.brk_table.proofs.Laws.{is_place-there}
 use Rattle.task_run.specs.Answered.{Answered, ArePairs, IsPair}
 use Rattle.task_run.specs.Meaning.{at_places, facts_under, is_under, control_by, places_in_all, Walk, is_opened, visits_under, last_control, opened_by, closed_by, least_set, most_set, traces_but, IsBetween}
-use Rattle.task_run.proofs.Laws.{has_fact-more, closes_closed, facts_at-kind, has_fact-full_of, has_fact-union}
+use Rattle.task_run.proofs.Laws.{has_fact-more, closes_closed, facts_at-kind}
 use Rattle.task_run.specs.Controlled.{last_by, Follows, HasWindows, HasPlanted}
 use Rattle.job_run.specs.Meaning.{IsBounded}
 use Rattle.job_run.proofs.ExactLemmas.{has_fetched, have_none, have_more, one_of, with_task}

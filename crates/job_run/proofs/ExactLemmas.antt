@@ -6,16 +6,17 @@ use Rattle.cov_base.specs.Meaning.{FactSet, has_fact, same_fact, fact_of, no_fac
 use Rattle.cov_base.specs.FactKind.{is_of_kind}
 use Rattle.cov_base.specs.declared.facts.Fact.{Fact}
 use Rattle.cov_base.specs.declared.numbers.TaskNo.{TaskNo}
+use Rattle.cov_base.proofs.Laws.{same_fact-true, has_fact-none, has_fact-union, same_sets, is_of_kind-fact_of, has_fact-full_of}
 use Rattle.module_area.specs.declared.cells.Cell.{Cell}
 use Rattle.module_area.specs.Meaning.{PlanView, ControlledView, ControlView, kind_at, has_place, first_control, FinalsView, set_at}
 use Rattle.module_area.specs.Rule.{IsPlan, has_task, is_controller}
 use Rattle.module_area.specs.Ended.{HasSets}
 use Rattle.module_area.specs.Notes.{Notes, bearer, keeps, split_notes, after_join}
 use Rattle.module_area.specs.Tied.{IsTied}
-use Rattle.module_area.proofs.Laws.{same_fact-true, same_tests, any_shown, one_controller}
+use Rattle.module_area.proofs.Laws.{same_tests, any_shown, one_controller}
 use Rattle.task_run.specs.Answered.{known_tag, ArePairs, IsPair}
 use Rattle.task_run.specs.Meaning.{at_places, facts_under, is_under, tag_by, Walk}
-use Rattle.task_run.proofs.Laws.{has_fact-more, has_fact-none, or_apart, rises_all, rises_between, has_fact-full_of, has_fact-union, is_of_kind-fact_of, same_sets, tag_last}
+use Rattle.task_run.proofs.Laws.{has_fact-more, or_apart, rises_all, rises_between, tag_last}
 use Rattle.task_run.specs.Controlled.{last_by, Follows}
 use Rattle.job_run.specs.Bounds.{HasFetched, HaveFetched}
 use Rattle.job_run.specs.Meaning.{IsFetch, AreFetches, facts_met, IsExact}

@@ -7,10 +7,9 @@ use Rattle.std.proofs.lemmas.List.{get_or-map, length-map}
 use Rattle.std.proofs.lemmas.List.Concat.{flat_map-cons}
 use Rattle.std.proofs.lemmas.List.Elements.{All-get_or}
 use Rattle.std.proofs.lemmas.Option.{same_Some}
-use Rattle.cov_base.specs.Meaning.{FactSet, no_facts, is_within, Visit}
-use Rattle.cov_base.specs.declared.facts.Kind.{Kind}
-use Rattle.cov_base.specs.declared.facts.Kind.TheVariants.{Straight, Conditional}
+use Rattle.cov_base.specs.Meaning.{FactSet, is_within, Visit}
 use Rattle.cov_base.specs.declared.numbers.PlaceNo.{PlaceNo}
+use Rattle.cov_base.proofs.Laws.{within_none}
 use Rattle.module_area.specs.Meaning.{facts_at, FinalsView, set_at, PlanView, ControlledView, place_of, no_place, window_at}
 use Rattle.module_area.specs.declared.places.Place.{Place}
 use Rattle.task_run.proofs.Laws.{facts_of_all-one}
@@ -139,10 +138,6 @@ phase_in j s job some most = (is_session j s job some most).phase
 -- the sets of an area hold those of each session
 pub sized : (run : Course) (j : JobView) (places : List Place) (phase : ℕ) (f : FinalsView) → AreaOf run j places phase f → IsSized j (length places) f
 sized run j places phase f a = record { count = a.ends.places; sets = a.ends.size }
-
-within_none : (k : Kind) → is_within k no_facts ≡ true
-within_none Straight = refl
-within_none Conditional = refl
 
 here_is : (v : SetsView) (s p : ℕ) → p < v.places → set_in v s p ≡ set_left v.job v.finals s p
 here_is v s p l = let here : nat_lt p v.places ≡ true = grind (arith, nat_tests) in rw here refl

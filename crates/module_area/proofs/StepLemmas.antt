@@ -9,15 +9,15 @@ use Rattle.cov_base.specs.declared.facts.Fact.{Fact}
 use Rattle.cov_base.specs.declared.facts.Fact.TheVariants.{Ran, Went, Stayed}
 use Rattle.cov_base.specs.declared.facts.Kind.{Kind}
 use Rattle.cov_base.specs.declared.facts.Kind.TheVariants.{Straight, Conditional}
-use Rattle.cov_base.specs.Meaning.{FactSet, has_fact, is_full, full_of, with_fact, same_fact, breakpoint}
+use Rattle.cov_base.specs.Meaning.{FactSet, has_fact, is_full, full_of, with_fact, breakpoint}
 use Rattle.cov_base.specs.FactKind.{is_of_kind}
+use Rattle.cov_base.proofs.Laws.{is_full-true, with_fact-here, with_fact-more, with_fact-cases}
 use Rattle.module_area.specs.declared.cells.Cell.{Cell}
 use Rattle.module_area.specs.declared.parties.View.{View}
 use Rattle.module_area.specs.declared.parties.Role.{Role}
 use Rattle.module_area.specs.declared.parties.Role.TheVariants.{Root, Task, Spent}
 use Rattle.module_area.specs.Meaning.{PlanView, original_at, kind_at, is_over, tag_session}
 use Rattle.module_area.specs.Rule.{is_controller, Has, times, total, last_tag, window_tag, is_breakpoint, is_lifted, blank, fetching, marking, planted, lifted, IsForm, Once, KeepsAs, Keeps, IsRole, Owes, Kept, IsSite, Held}
-use Rattle.module_area.proofs.FactLemmas.{has_fact-with_fact, same_fact-true, is_full-true}
 use Rattle.module_area.proofs.PlanLemmas.{one_controller, no_controller}
 use Rattle.module_area.proofs.PartyLemmas.{has-add_if, more-add_if, here-add_if, at_put, at_set, all_set, some_set, total-set}
 
@@ -45,24 +45,9 @@ pub or_left : (a b : Bool) → a ≡ true → (a || b) ≡ true
 or_left true b h = refl
 or_left false b h = absurd cc
 
-pub same_fact-same : (f : Fact) → same_fact f f ≡ true
-same_fact-same Ran = refl
-same_fact-same Went = refl
-same_fact-same Stayed = refl
-
 pub or_right : (a b : Bool) → b ≡ true → (a || b) ≡ true
 or_right true b h = refl
 or_right false b h = h
-
--- the facts of a set with one fact more
-with_cases : (s : FactSet) (f g : Fact) → has_fact (with_fact s f) g ≡ true → (has_fact s g ≡ true) ⊎ (g ≡ f)
-with_cases s f g h = ⊎_elim (λ a. inl a) (λ b. inr (same_fact-true g f b)) (or_cases (has_fact s g) (same_fact g f) (sym (has_fact-with_fact s f g) ∙ h))
-
-with_more : (s : FactSet) (f g : Fact) → has_fact s g ≡ true → has_fact (with_fact s f) g ≡ true
-with_more s f g h = has_fact-with_fact s f g ∙ or_left (has_fact s g) (same_fact g f) h
-
-with_here : (s : FactSet) (f : Fact) → has_fact (with_fact s f) f ≡ true
-with_here s f = has_fact-with_fact s f f ∙ or_right (has_fact s f) (same_fact f f) (same_fact-same f)
 
 full_again : (k : Kind) (f : Fact) → is_of_kind k f ≡ true → is_full k (with_fact (full_of k) f) ≡ true
 full_again Straight Ran h = refl
@@ -349,7 +334,7 @@ module _ (plan : PlanView) where
       mark_grows : Grows cell sets cell' sets'
       mark_grows = record {
         tags = λ q lq. subst (λ (z : Cell). (cell q).tag ≤ z.tag) (sym (cells q lq)) (omega arith);
-        more = λ t q g lq pos. by_set (λ a b x. has_fact (sets a b) g ≡ true → has_fact x g ≡ true) t q lq pos (with_more (sets s p) f g) (λ _ h. h);
+        more = λ t q g lq pos. by_set (λ a b x. has_fact (sets a b) g ≡ true → has_fact x g ≡ true) t q lq pos (with_fact-more (sets s p) f g) (λ _ h. h);
         full = λ t q lq pos. by_set (λ a b x. is_full (kind_at plan b) (sets a b) ≡ true → is_full (kind_at plan b) x ≡ true) t q lq pos (λ h. full_with (kind_at plan p) (sets s p) f h fits) (λ _ h. h);
         stay = λ t q lq _ _ n e. n (sym (cells q lq) ∙ e);
       }
@@ -371,7 +356,7 @@ module _ (plan : PlanView) where
               pending = k.pending;
               marked = λ t q g h. ⊎_elim
                   (λ (e : (s, p, f) ≡ (t, q, g)). subst (λ (z : ℕ × ℕ × Fact). (z.1 < length plan.places) × (0 < z.0) × (is_over plan z.0 z.1 ≡ true) × (is_of_kind (kind_at plan z.1) z.2 ≡ true) × (has_fact (sets' z.0 z.1) z.2 ≡ true)) e
-                  (l, pos_s, mark_known.0, fits, subst (λ x. has_fact x f ≡ true) (sym here) (with_here (sets s p) f)))
+                  (l, pos_s, mark_known.0, fits, subst (λ x. has_fact x f ≡ true) (sym here) (with_fact-here (sets s p) f)))
                   (λ (o : Has (t, q, g) v.marked). k.marked t q g o)
                   h;
               full = λ t q h. ⊎_elim
@@ -386,7 +371,7 @@ module _ (plan : PlanView) where
             };
             more = λ t q g h. inr h;
             news = λ t q g lq pos. by_set (λ a d x. has_fact x g ≡ true → (has_fact (sets a d) g ≡ true) ⊎ Has (a, d, g) y.marked) t q lq pos
-                (λ h. ⊎_elim (λ o. inl o) (λ (e : g ≡ f). inr (inl (ap (λ (z : Fact). (s, p, z)) (sym e)))) (with_cases (sets s p) f g h))
+                (λ h. ⊎_elim (λ o. inl o) (λ (e : g ≡ f). inr (inl (ap (λ (z : Fact). (s, p, z)) (sym e)))) (with_fact-cases (sets s p) f g h))
                 (λ _ h. inl h);
             tie = ties_same cell' (λ q lq. ap (λ (z : Cell). z.tag) (cells q lq)) id v at;
             ties = λ j u _ there. ties_same cell' (λ q lq. ap (λ (z : Cell). z.tag) (cells q lq)) j u there;

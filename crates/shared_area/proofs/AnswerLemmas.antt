@@ -3,6 +3,7 @@ use Rattle.std.proofs.Common.{◌≡◌, ◌≢◌, ◌⊎◌, ℕ, ◌+◌, ◌
 use mathlib.Core.Option.{some}
 use lib.ListN.{get_elem?}
 use Rattle.cov_base.specs.Meaning.{FactSet, is_within, breakpoint}
+use Rattle.cov_base.proofs.Laws.{within_kind, is_full-true}
 use Rattle.module_area.specs.declared.cells.Cell.{Cell}
 use Rattle.module_area.specs.declared.parties.View.{View}
 use Rattle.module_area.specs.declared.parties.Role.{Role}
@@ -11,7 +12,7 @@ use Rattle.module_area.specs.Meaning.{PlanView, original_at, kind_at, window_at,
 use Rattle.module_area.specs.Rule.{IsPlan, Has, last_tag, window_tag, planted, IsForm, KeepsAs, Keeps, Held, has_number}
 use Rattle.module_area.specs.declared.tallies.Tally.{Tally}
 use Rattle.module_area.specs.Notes.{IsAnswer, IsFound, no_tally, keeps_as, keeps}
-use Rattle.module_area.proofs.Laws.{is_full-true, within_kind, no_controlled, over_window, over_small, tested_controller, breakpoint_form}
+use Rattle.module_area.proofs.Laws.{no_controlled, over_window, over_small, tested_controller, breakpoint_form}
 use Rattle.module_area.proofs.Laws.{or_cases}
 use Rattle.shared_area.specs.Told.{bears_as, seen_at, notes_in}
 use Rattle.shared_area.proofs.NoteLemmas.{pair_there, mark_there, number_there, not_there, seen_most}

@@ -4,6 +4,7 @@ use mathlib.Core.Path.{fun_ext}
 use Rattle.std.proofs.lemmas.List.{map-append}
 use Rattle.cov_base.specs.declared.facts.Fact.{Fact}
 use Rattle.cov_base.specs.Meaning.{FactSet, same_fact, is_full, with_fact}
+use Rattle.cov_base.proofs.Laws.{same_fact-self, same_fact-true}
 use Rattle.module_area.specs.declared.cells.Cell.{Cell}
 use Rattle.module_area.specs.declared.parties.View.{View}
 use Rattle.module_area.specs.declared.parties.Role.TheVariants.{Task}
@@ -12,8 +13,8 @@ use Rattle.module_area.specs.Meaning.{PlanView, original_at, kind_at, tag_sessio
 use Rattle.module_area.specs.Rule.{is_controller, Has, add_if, is_lifted, window_tag, last_tag, fetching, marking, planting, has_number}
 use Rattle.module_area.specs.Parties.{chosen, closing, giving, newcomer, joining, bounding, reading, role_task}
 use Rattle.module_area.specs.Notes.{no_tally, is_free_under, after_fetch, after_mark, after_plant, after_close, after_split, split_notes, after_boundary, after_read, after_join, bearer, is_final, same_bit, same_set}
-use Rattle.module_area.proofs.Laws.{and_left, and_right, and_both, same_tests, same_fact-true, kept_tag, dropped_tag, no_tag, first_tag}
-use Rattle.module_area.proofs.Laws.{or_cases, or_left, or_right, same_fact-same}
+use Rattle.module_area.proofs.Laws.{and_left, and_right, and_both, same_tests, kept_tag, dropped_tag, no_tag, first_tag}
+use Rattle.module_area.proofs.Laws.{or_cases, or_left, or_right}
 use Rattle.shared_area.specs.Told.{has_mark, has_pair, has_settled, seen_at, told_note, bears_as, notes_in, is_given}
 
 same_bit-true : (a b : Bool) → same_bit a b ≡ true → a ≡ b
@@ -55,7 +56,7 @@ mark_shown s p f (x ∷ xs) (inr h) = or_left (has_mark s p f xs) _ (mark_shown 
 mark_shown s p f (x ∷ xs) (inl e) = or_right (has_mark s p f xs) (nat_eq s x.0 && nat_eq p x.1 && same_fact f x.2)
     (and_both (nat_eq s x.0 && nat_eq p x.1) (same_fact f x.2)
     (and_both (nat_eq s x.0) (nat_eq p x.1) (eq-eqb s x.0 (sym (ap (λ (z : ℕ × ℕ × Fact). z.0) e))) (eq-eqb p x.1 (sym (ap (λ (z : ℕ × ℕ × Fact). z.1) e))))
-    (subst (λ z. same_fact f z ≡ true) (sym (ap (λ (z : ℕ × ℕ × Fact). z.2) e)) (same_fact-same f)))
+    (subst (λ z. same_fact f z ≡ true) (sym (ap (λ (z : ℕ × ℕ × Fact). z.2) e)) (same_fact-self f)))
 
 pub settled_there : (s p : ℕ) (x : FactSet) (ys : List (ℕ × ℕ × FactSet)) → has_settled s p x ys ≡ true → Has (s, p, x) ys
 settled_there s p x [] h = absurd cc

@@ -4,12 +4,12 @@ use Rattle.std.proofs.lemmas.Bool.{or_cases, or_left, or_right, and_parts, and_f
 use Rattle.std.proofs.lemmas.List.{append_assoc, append-nil}
 use Rattle.cov_base.specs.Meaning.{breakpoint, no_facts, has_fact, same_fact, fact_of, Visit}
 use Rattle.cov_base.specs.declared.facts.Fact.{Fact}
+use Rattle.cov_base.proofs.Laws.{same_fact-self, same_fact-true, has_fact-none}
 use Rattle.module_area.specs.declared.cells.Cell.{Cell}
 use Rattle.module_area.specs.declared.places.Place.{Place}
 use Rattle.module_area.specs.Meaning.{PlanView, kind_at, original_at, is_place}
 use Rattle.module_area.specs.Notes.{Notes, after_fetch, is_free_under, keeps_as, IsAnswer}
 use Rattle.module_area.specs.Rule.{Has}
-use Rattle.module_area.proofs.Laws.{same_fact-true}
 use Rattle.brk_table.proofs.Laws.{is_place-there}
 use Rattle.task_run.specs.Sights.{BeginsAt}
 use Rattle.task_run.specs.Traps.{Settles}
@@ -18,7 +18,7 @@ use Rattle.task_run.specs.Answered.{known_tag, ArePairs, LeavesSessions, Answere
 use Rattle.task_run.specs.Meaning.{at_places, is_under, facts_under}
 use Rattle.task_run.proofs.RiseLemmas.{rises_append, rises_fetched}
 use Rattle.task_run.proofs.NotesLemmas.{Adds, Adds-settled, seen_fetched, all_three, three_from}
-use Rattle.task_run.proofs.ObservedLemmas.{has_fact-more, has_fact-none, or_apart, same_fact-self, shown_later, Observes-none, Observes-plain, Observes-kept, Observes-settled, Observes-append}
+use Rattle.task_run.proofs.ObservedLemmas.{has_fact-more, or_apart, shown_later, Observes-none, Observes-plain, Observes-kept, Observes-settled, Observes-append}
 
 -- what is planted and closed stays
 

@@ -5,11 +5,11 @@ pub use Rattle.task_run.proofs.CloseLemmas.{closes_closed}
 pub use Rattle.task_run.proofs.FollowsLemmas.{control_more}
 pub use Rattle.task_run.proofs.GoesLemmas.{goes_made}
 pub use Rattle.task_run.proofs.GoneLemmas.{made_all}
-pub use Rattle.task_run.proofs.ObservedLemmas.{has_fact-none, or_apart, has_fact-more, visits_at_places-append, Observes-none}
+pub use Rattle.task_run.proofs.ObservedLemmas.{or_apart, has_fact-more, facts_at-more, visits_at_places-append, Observes-none}
 pub use Rattle.task_run.proofs.ObservedLemmas.{shows_before, shows_behind, shows_either}
 pub use Rattle.task_run.proofs.RanLemmas.{ran_tour}
 pub use Rattle.task_run.proofs.RiseLemmas.{rises_between, rises_all}
-pub use Rattle.task_run.proofs.SetLemmas.{same_sets, has_fact-full_of, is_of_kind-fact_of, facts_at-kind, has_fact-union}
+pub use Rattle.task_run.proofs.SetLemmas.{facts_at-kind}
 pub use Rattle.task_run.proofs.SetLemmas.{facts_of_all-one, IsReady, exact_set, exact_lifts}
 pub use Rattle.task_run.proofs.SoloLemmas.{course_solo}
 pub use Rattle.task_run.proofs.SvcLemmas.{bad_svc-behind}

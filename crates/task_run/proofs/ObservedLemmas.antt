@@ -3,12 +3,11 @@ use Rattle.std.proofs.Common.{◌≡◌, ◌≢◌, ◌⊎◌, ℕ, ◌+◌, ◌
 use Rattle.std.proofs.lemmas.Bool.{or_cases, or_left, or_right, and_parts, and_from, eqb-true, eq-eqb, cond_both, both_ways}
 use Rattle.cov_base.specs.Meaning.{breakpoint, FactSet, no_facts, has_fact, with_fact, same_fact, fact_of, Visit}
 use Rattle.cov_base.specs.declared.facts.Fact.{Fact}
-use Rattle.cov_base.specs.declared.facts.Fact.TheVariants.{Ran, Went, Stayed}
+use Rattle.cov_base.proofs.Laws.{same_fact-self, same_fact-true, has_fact-none, has_fact-with_fact}
 use Rattle.module_area.specs.declared.cells.Cell.{Cell}
 use Rattle.module_area.specs.declared.places.Place.{Place}
 use Rattle.module_area.specs.Meaning.{PlanView, place_of, kind_at, original_at, executes, facts_at, is_place, visits_at_places}
 use Rattle.module_area.specs.Notes.{Notes, after_fetch, is_free_under, IsAnswer}
-use Rattle.module_area.proofs.Laws.{has_fact-with_fact, same_fact-true}
 use Rattle.brk_table.proofs.Laws.{is_place-there}
 use Rattle.task_run.specs.Sights.{BeginsAt}
 use Rattle.task_run.specs.Traps.{Settles}
@@ -17,16 +16,6 @@ use Rattle.task_run.proofs.NotesLemmas.{Adds, Adds-settled, Grows-fetched, all_t
 use Rattle.task_run.proofs.PlaceLemmas.{none_begins}
 
 -- facts in sets
-
-pub same_fact-self : (f : Fact) → same_fact f f ≡ true
-same_fact-self Ran = refl
-same_fact-self Went = refl
-same_fact-self Stayed = refl
-
-pub has_fact-none : (f : Fact) → has_fact no_facts f ≡ false
-has_fact-none Ran = refl
-has_fact-none Went = refl
-has_fact-none Stayed = refl
 
 or_turned : (a b : Bool) → (a || b) ≡ (b || a)
 or_turned true true = refl

@@ -1,43 +1,19 @@
 -- The sets that an area ends with are the facts of the visits that its passes observed.
-use Rattle.std.proofs.Common.{◌≡◌, ℕ, ◌<◌, ◌≤◌, Bool, true, false, ◌&&◌, ◌||◌, List, [], ◌∷◌, ◌++◌, length, inl, inr, refl, sym, ◌∙◌, ap, subst, arith}
+use Rattle.std.proofs.Common.{◌≡◌, ℕ, ◌<◌, ◌≤◌, true, false, ◌&&◌, List, [], ◌∷◌, ◌++◌, length, inl, inr, refl, sym, ◌∙◌, ap, subst, arith}
 use Rattle.std.specs.List.{flat_map}
 use Rattle.std.proofs.lemmas.Bool.{or_cases, and_parts, both_ways}
-use Rattle.cov_base.specs.Meaning.{FactSet, no_facts, has_fact, union, same_fact, fact_of, full_of, Visit}
+use Rattle.cov_base.specs.Meaning.{FactSet, no_facts, has_fact, union, same_fact, fact_of, Visit}
 use Rattle.cov_base.specs.FactKind.{is_of_kind}
 use Rattle.cov_base.specs.declared.facts.Fact.{Fact}
-use Rattle.cov_base.specs.declared.facts.Fact.TheVariants.{Ran, Went, Stayed}
-use Rattle.cov_base.specs.declared.facts.Kind.{Kind}
-use Rattle.cov_base.specs.declared.facts.Kind.TheVariants.{Straight, Conditional}
+use Rattle.cov_base.proofs.Laws.{same_fact-true, has_fact-none, has_fact-union, same_sets, is_of_kind-fact_of, has_fact-full_of}
 use Rattle.module_area.specs.declared.places.Place.{Place}
 use Rattle.module_area.specs.Meaning.{PlanView, place_of, kind_at, window_at, executes, facts_at, facts_of_all, FinalsView, set_at, full_places}
 use Rattle.module_area.specs.Rule.{IsPlan}
 use Rattle.module_area.specs.Notes.{Notes}
 use Rattle.module_area.specs.Ended.{HasSets, HasTally}
-use Rattle.module_area.proofs.Laws.{same_fact-true, pairs_are_places, same_tests}
+use Rattle.module_area.proofs.Laws.{pairs_are_places, same_tests}
 use Rattle.task_run.specs.Observed.{Observes, Stays, IsRecorded}
-use Rattle.task_run.proofs.ObservedLemmas.{has_fact-none, facts_at-more, facts_at-append}
-
--- sets with the same facts
-
-pub same_sets : (a b : FactSet) → ((f : Fact) → has_fact a f ≡ has_fact b f) → a ≡ b
-same_sets a b h =
-    let ran : a.ran ≡ b.ran = h Ran in
-    let went : a.went ≡ b.went = h Went in
-    let stayed : a.stayed ≡ b.stayed = h Stayed in
-    λ i. record { ran = ran i; went = went i; stayed = stayed i }
-
-pub has_fact-full_of : (k : Kind) (f : Fact) → is_of_kind k f ≡ true → has_fact (full_of k) f ≡ true
-has_fact-full_of Straight Ran h = refl
-has_fact-full_of Straight Went h = h
-has_fact-full_of Straight Stayed h = h
-has_fact-full_of Conditional Ran h = h
-has_fact-full_of Conditional Went h = refl
-has_fact-full_of Conditional Stayed h = refl
-
-pub is_of_kind-fact_of : (k : Kind) (went : Bool) → is_of_kind k (fact_of k went) ≡ true
-is_of_kind-fact_of Straight went = refl
-is_of_kind-fact_of Conditional true = refl
-is_of_kind-fact_of Conditional false = refl
+use Rattle.task_run.proofs.ObservedLemmas.{facts_at-more, facts_at-append}
 
 -- a trace shows facts of the place's kind
 pub facts_at-kind : (place : Place) (trace : List Visit) (f : Fact) → has_fact (facts_at place trace) f ≡ true → is_of_kind place.kind f ≡ true
@@ -51,11 +27,6 @@ facts_at-kind place (v ∷ vs) f h =
     ]
 
 -- several traces are as one
-
-pub has_fact-union : (a b : FactSet) (f : Fact) → has_fact (union a b) f ≡ (has_fact a f || has_fact b f)
-has_fact-union a b Ran = refl
-has_fact-union a b Went = refl
-has_fact-union a b Stayed = refl
 
 pub facts_of_all-one : (place : Place) (traces : List (List Visit)) → facts_of_all place traces ≡ facts_at place (flat_map (λ t. t) traces)
 facts_of_all-one place [] = refl
