@@ -1,20 +1,19 @@
 -- What any call of the area leaves of a session that is closed and of its drain.
-use Rattle.std.proofs.Common.{◌≡◌, ℕ, ◌+◌, ◌-◌, ◌*◌, ◌/◌, ◌<◌, ◌≤◌, Bool, true, false, not, if◌then◌else◌, ◌&&◌, ◌||◌, nat_eq, nat_le, Some, None, List, [], ◌∷◌, ◌++◌, length, get_or, All, refl, sym, ◌∙◌, ap, subst, arith, eqb-true, leb-true, ⊎_elim}
-use Rattle.std.specs.List.{list_all}
+use Rattle.std.proofs.Common.{◌≡◌, ℕ, ◌+◌, ◌-◌, ◌*◌, ◌/◌, ◌<◌, ◌≤◌, Bool, true, false, if◌then◌else◌, ◌&&◌, nat_eq, Some, None, List, [], ◌∷◌, ◌++◌, length, All, refl, sym, ◌∙◌, ap, subst, arith, eqb-true, ⊎_elim}
 use Rattle.cov_base.specs.Meaning.{FactSet, breakpoint}
 use Rattle.cov_base.specs.declared.numbers.PlaceNo.{PlaceNo}
 use Rattle.module_area.specs.declared.cells.Cell.{Cell}
-use Rattle.module_area.specs.Meaning.{PlanView, ControlledView, has_place, is_controlled, is_over, window_at, places_under}
+use Rattle.module_area.specs.Meaning.{PlanView, is_controlled, is_over, window_at, places_under}
 use Rattle.module_area.specs.Rule.{IsPlan}
 use Rattle.module_area.specs.Notes.{Notes, NotedView, IsAnswer, after_fetch, after_plant, after_close, after_note, is_at, is_closed}
-use Rattle.module_area.proofs.Laws.{and_left, and_right, any_at, over_cases}
+use Rattle.module_area.proofs.Laws.{over_cases, no_session, closed_place}
 use Rattle.early_report.specs.Acts.{Acts}
 use Rattle.early_report.specs.Acts.Acts.{Fetches, Marks, Lifts, Plants, Closes, Bounds, NotesTask, ReadsSet}
 use Rattle.early_report.specs.DrainView.{DrainView}
 use Rattle.early_report.specs.Drains.{HasClosed, IsDrainOf, AreKnown}
 use Rattle.early_report.proofs.FollowLemmas.{known_later}
 use Rattle.early_report.proofs.LookLemmas.{looking_noted}
-use Rattle.early_report.proofs.ReadLemmas.{no_session, all_at, session_of, closed_at, from_one, read_keeps}
+use Rattle.early_report.proofs.ReadLemmas.{session_of, closed_at, from_one, read_keeps}
 use Rattle.early_report.proofs.StepLemmas.{closed_by}
 use Rattle.early_report.proofs.TieLemmas.{closed_looks, tied_later}
 
@@ -27,19 +26,6 @@ one_tag : (b : Bool) (x y k : ℕ) → (b ≡ true → k ≤ x) → k ≤ y → 
 one_tag true x y k h l = h refl
 one_tag false x y k h l = l
 
--- a closed session's tag at a place that it is over
-over_there : (plan : PlanView) (seen : ℕ → ℕ) (s p : ℕ) → is_closed plan seen s ≡ true → is_controlled plan s p ≡ true → 2 * s ≤ seen p
-over_there plan seen s p closed over =
-    let a = any_at (λ (c : ControlledView). nat_eq c.session s && has_place c.places p) plan.controlled no_session over in
-    let c : ControlledView = get_or plan.controlled a.0 no_session in
-    let its : nat_eq c.session s ≡ true = and_left (nat_eq c.session s) (has_place c.places p) a.2 in
-    let all : (not (nat_eq c.session s) || list_all (λ (q : PlaceNo). nat_le (2 * s) (seen q.0)) c.places) ≡ true =
-    all_at (λ (c : ControlledView). not (nat_eq c.session s) || list_all (λ (q : PlaceNo). nat_le (2 * s) (seen q.0)) c.places) plan.controlled a.0 no_session a.1 closed in
-    let places : list_all (λ (q : PlaceNo). nat_le (2 * s) (seen q.0)) c.places ≡ true = subst (λ b. (not b || list_all (λ (q : PlaceNo). nat_le (2 * s) (seen q.0)) c.places) ≡ true) its all in
-    let none : PlaceNo = record { 0 = p } in
-    let b = any_at (λ (q : PlaceNo). nat_eq q.0 p) c.places none (and_right (nat_eq c.session s) (has_place c.places p) a.2) in
-    subst (λ q. 2 * s ≤ seen q) (eqb-true _ p b.2) (leb-true (2 * s) _ (all_at (λ (q : PlaceNo). nat_le (2 * s) (seen q.0)) c.places b.0 none b.1 places))
-
 -- no fetch answers the odd tag of a closed session
 not_its : (plan : PlanView) (n : Notes) (s p : ℕ) (cell : Cell) → IsPlan plan → HasClosed plan n s → p < length plan.places → IsAnswer plan n p cell → cell.tag ≡ 2 * s - 1 → ⊥
 not_its plan n s p cell ok h l answer tag =
@@ -48,7 +34,7 @@ not_its plan n s p cell ok h l answer tag =
     let over : is_over plan s p ≡ true = subst (λ k. is_over plan k p ≡ true) session (answer.over (λ z. absurd (omega (arith, z, tag, pos)))) in
     ⊎_elim
     (λ (w : window_at plan p ≡ s). let r = session_of plan s h.controlled in ok.no_windows r.index no_session r.within p l (w ∙ sym r.is_it))
-    (λ (c : is_controlled plan s p ≡ true). let high = over_there plan n.seen s p h.seen c in let later = answer.later in absurd (omega (arith, high, later, tag, pos)))
+    (λ (c : is_controlled plan s p ≡ true). let high = closed_place plan n.seen s p h.seen c in let later = answer.later in absurd (omega (arith, high, later, tag, pos)))
     (over_cases plan s p over)
 
 idle_at : (b : Bool) (p tag q s : ℕ) → (tag ≡ 2 * s - 1 → ⊥) → is_at (if b then Some (p, tag) else None) q (2 * s - 1) ≡ false

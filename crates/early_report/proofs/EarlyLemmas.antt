@@ -9,7 +9,7 @@ use Rattle.cov_base.specs.declared.numbers.SessNo.{SessNo}
 use Rattle.module_area.specs.Meaning.{PlanView, ControlledView, ControlView, number_of, sessions_of, control_after}
 use Rattle.module_area.specs.Rule.{IsPlan, AreApart}
 use Rattle.module_area.specs.Notes.{Notes, after_boundary, bearer, is_working, own_number}
-use Rattle.module_area.proofs.Laws.{and_left, any_shown}
+use Rattle.module_area.proofs.Laws.{and_left, any_shown, no_session}
 use Rattle.task_run.specs.Answered.{Turns}
 use Rattle.task_run.specs.Aside.{IsAside}
 use Rattle.task_run.specs.Meaning.{control_by, is_opened}
@@ -19,7 +19,6 @@ use Rattle.early_report.specs.Drains.{unused, has_controlled, controller_in, con
 use Rattle.early_report.specs.Followed.{HaveGone, Stands, closed_since, first_drains, is_begun}
 use Rattle.early_report.specs.Meaning.{closes, closing_count}
 use Rattle.early_report.specs.declared.drains.Stage.TheVariants.{Unused}
-use Rattle.early_report.proofs.ReadLemmas.{no_session}
 use Rattle.early_report.proofs.StandLemmas.{stands_on, closing_count-more, count_after}
 use Rattle.early_report.proofs.StepLemmas.{closed_is}
 

@@ -1,24 +1,16 @@
 -- Why the sets that a drained session's pass reads are its final ones.
-use Rattle.std.proofs.Common.{◌≡◌, ℕ, zero, suc, ◌+◌, ◌*◌, ◌<◌, ◌≤◌, Bool, true, false, not, ◌&&◌, ◌||◌, nat_eq, nat_le, List, [], ◌∷◌, length, get_or, drop, All, refl, sym, ◌∙◌, ap, subst, arith, eqb-true, eq-eqb, le-leb}
-use Rattle.std.specs.List.{list_all, list_any}
+use Rattle.std.proofs.Common.{◌≡◌, ℕ, suc, ◌+◌, ◌*◌, ◌<◌, ◌≤◌, Bool, true, false, ◌&&◌, ◌||◌, nat_eq, List, [], ◌∷◌, length, get_or, drop, All, refl, sym, ◌∙◌, ap, subst, arith, eqb-true, eq-eqb, le-leb}
+use Rattle.std.specs.List.{list_any}
 use Rattle.std.proofs.lemmas.List.{drop_more}
-use Rattle.std.proofs.lemmas.Bool.{leb-true, not_from_false}
+use Rattle.std.proofs.lemmas.Bool.{not_from_false}
 use Rattle.cov_base.specs.Meaning.{FactSet}
 use Rattle.cov_base.specs.declared.numbers.PlaceNo.{PlaceNo}
 use Rattle.module_area.specs.Meaning.{PlanView, ControlledView, has_place, is_controlled, places_in, places_under}
 use Rattle.module_area.specs.Rule.{IsPlan}
 use Rattle.module_area.specs.Notes.{Notes, IsFound, after_read, is_closed, is_final, same_bit, same_set}
-use Rattle.module_area.proofs.Laws.{and_left, and_right, and_both, any_shown, or_left, or_right}
+use Rattle.module_area.proofs.Laws.{and_both, any_shown, or_left, or_right, no_session, closed_place}
 use Rattle.early_report.specs.DrainView.{DrainView}
 use Rattle.early_report.specs.Drains.{has_controlled, IsDrainOf, is_over, Reads, IsLooking}
-
-pub no_session : ControlledView
-no_session = record { session = 0; by = 0; places = [] }
-
-pub all_at : {X : Type 0} (f : X → Bool) (xs : List X) (i : ℕ) (d : X) → i < length xs → list_all f xs ≡ true → f (get_or xs i d) ≡ true
-all_at f [] i d l h = absurd (omega arith)
-all_at f (x ∷ xs) zero d l h = and_left (f x) (list_all f xs) h
-all_at f (x ∷ xs) (suc i) d l h = all_at f xs i d (omega arith) (and_right (f x) (list_all f xs) h)
 
 -- the first controlled session of that number, whose places are the session's
 pub record IsSession (cs : List ControlledView) (s : ℕ) : Type 0 where
@@ -38,16 +30,6 @@ session_in (c ∷ cs) s h = by_test (nat_eq c.session s) refl h (session_in cs s
 pub session_of : (plan : PlanView) (s : ℕ) → has_controlled plan s ≡ true → IsSession plan.controlled s
 session_of plan s h = session_in plan.controlled s h
 
--- a session that is closed by these tags has an even tag or a later one at each of its places
-pub closed_at : (plan : PlanView) (seen : ℕ → ℕ) (s : ℕ) → has_controlled plan s ≡ true → is_closed plan seen s ≡ true → All (λ (p : PlaceNo). 2 * s ≤ seen p.0) (places_under plan s)
-closed_at plan seen s there closed i p l =
-    let r = session_of plan s there in
-    let c : ControlledView = get_or plan.controlled r.index no_session in
-    let here : (not (nat_eq c.session s) || list_all (λ (q : PlaceNo). nat_le (2 * s) (seen q.0)) c.places) ≡ true = all_at (λ (c : ControlledView). not (nat_eq c.session s) || list_all (λ (q : PlaceNo). nat_le (2 * s) (seen q.0)) c.places) plan.controlled r.index no_session r.within closed in
-    let its : list_all (λ (q : PlaceNo). nat_le (2 * s) (seen q.0)) c.places ≡ true = subst (λ b. (not b || list_all (λ (q : PlaceNo). nat_le (2 * s) (seen q.0)) c.places) ≡ true) (eq-eqb c.session s r.is_it) here in
-    let size = ap (λ (ps : List PlaceNo). length ps) r.places in
-    subst (λ (ps : List PlaceNo). 2 * s ≤ seen (get_or ps i p).0) (sym r.places) (leb-true (2 * s) _ (all_at (λ (q : PlaceNo). nat_le (2 * s) (seen q.0)) c.places i p (omega (arith, size, l)) its))
-
 pub controlled_at : (plan : PlanView) (s : ℕ) → has_controlled plan s ≡ true → All (λ (p : PlaceNo). is_controlled plan s p.0 ≡ true) (places_under plan s)
 controlled_at plan s there i p l =
     let r = session_of plan s there in
@@ -56,6 +38,10 @@ controlled_at plan s there i p l =
     let has : has_place c.places (get_or c.places i p).0 ≡ true = any_shown (λ (q : PlaceNo). nat_eq q.0 (get_or c.places i p).0) c.places p i (omega (arith, size, l)) (eq-eqb _ _ refl) in
     subst (λ (ps : List PlaceNo). is_controlled plan s (get_or ps i p).0 ≡ true) (sym r.places)
     (any_shown (λ (c : ControlledView). nat_eq c.session s && has_place c.places (get_or (get_or plan.controlled r.index no_session).places i p).0) plan.controlled no_session r.index r.within (and_both _ _ (eq-eqb c.session s r.is_it) has))
+
+-- a session that is closed by these tags has an even tag or a later one at each of its places
+pub closed_at : (plan : PlanView) (seen : ℕ → ℕ) (s : ℕ) → has_controlled plan s ≡ true → is_closed plan seen s ≡ true → All (λ (p : PlaceNo). 2 * s ≤ seen p.0) (places_under plan s)
+closed_at plan seen s there closed i p l = closed_place plan seen s (get_or (places_under plan s) i p).0 closed (controlled_at plan s there i p l)
 
 -- a controlled session is one of the plan, over places of the plan
 module _ (plan : PlanView) (s : ℕ) (ok : IsPlan plan) (there : has_controlled plan s ≡ true) where

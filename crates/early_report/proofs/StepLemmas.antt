@@ -1,15 +1,14 @@
 -- How drains stand behind an instruction and a boundary.
-use Rattle.std.proofs.Common.{◌≡◌, ℕ, suc, ◌*◌, ◌<◌, ◌≤◌, Bool, true, false, not, if◌then◌else◌, ◌&&◌, ◌||◌, ◌==◌, nat_eq, nat_le, Option, Some, None, option_map, unwrap_or, List, [], ◌∷◌, All, AllPairs, refl, sym, ◌∙◌, ap, subst, arith, eqb-true, ne_eqb, le-leb}
-use Rattle.std.specs.List.{list_all}
+use Rattle.std.proofs.Common.{◌≡◌, ℕ, ◌*◌, ◌≤◌, Bool, true, false, if◌then◌else◌, ◌&&◌, ◌==◌, Option, Some, None, option_map, unwrap_or, List, [], All, refl, sym, ◌∙◌, ap, subst, arith, eqb-true}
 use Rattle.cov_base.specs.Meaning.{Visit}
 use Rattle.cov_base.specs.declared.numbers.PlaceNo.{PlaceNo}
 use Rattle.cov_base.specs.declared.numbers.SessNo.{SessNo}
-use Rattle.module_area.specs.Meaning.{PlanView, ControlledView, has_place, ControlView, places_in, places_under, unless_open, to_open, opening, closing, control_after}
-use Rattle.module_area.specs.Rule.{IsPlan, AreApart}
+use Rattle.module_area.specs.Meaning.{PlanView, has_place, ControlView, places_under, unless_open, to_open, opening, closing, control_after}
+use Rattle.module_area.specs.Rule.{IsPlan}
 use Rattle.module_area.specs.Control.{after_closes, after_call}
 use Rattle.module_area.specs.Notes.{Notes, after_boundary, is_closed}
 use Rattle.module_area.specs.Tied.{IsTied}
-use Rattle.module_area.proofs.Laws.{and_left, and_right, and_both, or_left, or_right, has_here}
+use Rattle.module_area.proofs.Laws.{and_left, and_right, has_here, at_place, under_place, closed_of_places}
 use Rattle.task_run.specs.Answered.{Turns}
 use Rattle.task_run.specs.Meaning.{is_opened}
 use Rattle.task_run.proofs.Laws.{step_known, step_over}
@@ -23,39 +22,14 @@ use Rattle.early_report.proofs.FollowLemmas.{own_later}
 use Rattle.early_report.proofs.ReadLemmas.{closed_at}
 use Rattle.early_report.proofs.TieLemmas.{tied_later}
 
--- by these tags the session is over at each of its places, so it is closed
-
 and_false : (b : Bool) → (b && false) ≡ false
 and_false true = refl
 and_false false = refl
 
-abbrev over_there : (ℕ → ℕ) → ℕ → ControlledView → Bool
-over_there seen s c = not (nat_eq c.session s) || list_all (λ (q : PlaceNo). nat_le (2 * s) (seen q.0)) c.places
-
-all_over : (seen : ℕ → ℕ) (s : ℕ) (places : List PlaceNo) → All (λ (p : PlaceNo). 2 * s ≤ seen p.0) places → list_all (λ (q : PlaceNo). nat_le (2 * s) (seen q.0)) places ≡ true
-all_over seen s [] all = refl
-all_over seen s (p ∷ ps) all = and_both _ _ (le-leb (2 * s) (seen p.0) (all 0 p (omega arith))) (all_over seen s ps (λ i d l. all (suc i) d (omega arith)))
-
-none_else : (seen : ℕ → ℕ) (s : ℕ) (cs : List ControlledView) → All (λ (c : ControlledView). s < c.session) cs → list_all (over_there seen s) cs ≡ true
-none_else seen s [] later = refl
-none_else seen s (c ∷ cs) later = and_both _ _
-    (or_left (not (nat_eq c.session s)) _ (ap not (ne_eqb c.session s (λ e. let up : s < c.session = later 0 c (omega arith) in absurd (omega (arith, e, up))))))
-    (none_else seen s cs (λ i d l. later (suc i) d (omega arith)))
-
-apart_tail : (c : ControlledView) (cs : List ControlledView) → AllPairs AreApart (c ∷ cs) → AllPairs AreApart cs
-apart_tail c cs apart i j d lt l = apart (suc i) (suc j) d (omega arith) (omega arith)
-
-closed_in : (seen : ℕ → ℕ) (s : ℕ) (cs : List ControlledView) → AllPairs AreApart cs → All (λ (p : PlaceNo). 2 * s ≤ seen p.0) (places_in cs s) → list_all (over_there seen s) cs ≡ true
-closed_in seen s [] apart over = refl
-closed_in seen s (c ∷ cs) apart over = by_test (nat_eq c.session s) refl over (closed_in seen s cs (apart_tail c cs apart))
-  where
-    by_test : (b : Bool) → nat_eq c.session s ≡ b → All (λ (p : PlaceNo). 2 * s ≤ seen p.0) (if b then c.places else places_in cs s) → (All (λ (p : PlaceNo). 2 * s ≤ seen p.0) (places_in cs s) → list_all (over_there seen s) cs ≡ true) → list_all (over_there seen s) (c ∷ cs) ≡ true
-    by_test true e all rest = and_both (over_there seen s c) _ (or_right (not (nat_eq c.session s)) _ (all_over seen s c.places all))
-        (none_else seen s cs (λ i d l. let up = (apart 0 (suc i) d (omega arith) (omega arith)).rising in let same = eqb-true c.session s e in omega (arith, up, same)))
-    by_test false e all rest = and_both (over_there seen s c) _ (or_left (not (nat_eq c.session s)) _ (ap not e)) (rest all)
-
+-- by these tags the session is over at each of its places, so it is closed
 pub closed_by : (plan : PlanView) (seen : ℕ → ℕ) (s : ℕ) → IsPlan plan → All (λ (p : PlaceNo). 2 * s ≤ seen p.0) (places_under plan s) → is_closed plan seen s ≡ true
-closed_by plan seen s ok over = closed_in seen s plan.controlled ok.apart over
+closed_by plan seen s ok over =
+    closed_of_places plan seen s (λ p there. at_place (λ q. 2 * s ≤ seen q) (places_under plan s) p over (under_place plan s p ok there))
 
 -- which session an instruction has closed
 

@@ -1,27 +1,25 @@
 -- What is quiet stays so, and its sets with it; what is drained is quiet.
-use Rattle.std.proofs.Common.{◌≡◌, inl, inr, ℕ, zero, suc, ◌+◌, ◌*◌, ◌<◌, ◌≤◌, Bool, true, false, not, ◌&&◌, ◌||◌, nat_eq, nat_lt, nat_le, if◌then◌else◌, Option, Some, None, is_some, List, [], ◌∷◌, length, get_or, set, refl, sym, ◌∙◌, ap, subst, arith, eqb-true, eq-eqb, is_none, option_map}
-use Rattle.std.specs.List.{find, list_any, list_all}
+use Rattle.std.proofs.Common.{◌≡◌, inl, inr, ℕ, zero, suc, ◌+◌, ◌*◌, ◌<◌, ◌≤◌, Bool, true, false, not, ◌&&◌, ◌||◌, nat_eq, nat_lt, if◌then◌else◌, Option, Some, None, is_some, List, [], ◌∷◌, length, get_or, set, refl, sym, ◌∙◌, ap, subst, arith, eqb-true, eq-eqb, is_none, option_map}
+use Rattle.std.specs.List.{find, list_any}
 use Rattle.std.proofs.lemmas.Grind.{get_or-set_at}
 use Rattle.std.proofs.lemmas.List.{get_or-set_other, length-set, get_or_default}
 use Rattle.std.proofs.lemmas.List.Folds.{list_any_none}
-use Rattle.std.proofs.lemmas.List.Sums.{AllPass-from_list_all, list_all-from_AllPass}
 use Rattle.std.proofs.lemmas.Option.{same_Some}
-use Rattle.std.proofs.lemmas.Bool.{le-leb, leb-true, ltb-true, not-true}
+use Rattle.std.proofs.lemmas.Bool.{ltb-true, not-true}
 use Rattle.cov_base.specs.Meaning.{breakpoint, FactSet, no_facts, with_fact, is_full}
-use Rattle.cov_base.specs.declared.numbers.PlaceNo.{PlaceNo}
 use Rattle.s370_state.specs.declared.endings.Ending.TheVariants.{Returned, Spent}
 use Rattle.s370_state.specs.declared.endings.Next.{Next}
 use Rattle.s370_state.specs.declared.endings.Next.TheVariants.{On, Ended as NextEnded}
 use Rattle.s370_exec.specs.Meaning.{is_execute, has_returned}
-use Rattle.module_area.specs.Meaning.{word_at, no_cell, index_of, tag_session, PlanView, ControlledView, has_place, is_controlled, is_over, original_at, kind_at, window_at}
+use Rattle.module_area.specs.Meaning.{word_at, no_cell, index_of, tag_session, ControlledView, has_place, is_controlled, is_over, original_at, kind_at, window_at}
 use Rattle.module_area.specs.Notes.{is_closed}
 use Rattle.module_area.specs.Rule.{window_tag, IsPlan}
 use Rattle.module_area.specs.declared.cells.Cell.{Cell}
-use Rattle.module_area.proofs.Laws.{same_index, and_left, and_right, and_both, any_at, any_shown, over_cases}
+use Rattle.module_area.proofs.Laws.{same_index, and_left, and_right, and_both, any_at, any_shown, over_cases, at_place, closed_place, closed_of_places}
 use Rattle.session_book.specs.Meaning.{no_task}
 use Rattle.interleave_core.specs.Meaning.{World, TaskPart, Parts, part_of, plan_in, place_at, first_part, PlaceChange, controller_of, Stepped, parts_step, cell_fetched, fact_marked, lifted, done_by, task_done, task_goes_on, breakpoint_of, changed_cell, changed, change_due, with_cell, with_due, with_stage, original_under, same_cell, same_due, in_hand, hand_at, step_of, subject_place, place_due, is_awaiting, is_spent, stage_after, executed, awaits_or, instruction_executed, set_of, fact_in}
 use Rattle.interleave_core.specs.Quiet.{has_unmarked, any_unmarked, is_quiet, SetsStay}
-use Rattle.interleave_core.specs.Views.{RunningView, AreSteady, IsHand, no_controlled, number_at, parts_of}
+use Rattle.interleave_core.specs.Views.{RunningView, AreSteady, IsHand, no_controlled, parts_of}
 use Rattle.interleave_core.specs.declared.events.Event.{Event}
 use Rattle.interleave_core.specs.declared.events.Event.TheVariants.{Fetch, Mark, Lift, Do, Plant, Close}
 use Rattle.interleave_core.specs.declared.stage.Due.TheVariants.{Marking, Lifting, Nothing}
@@ -35,7 +33,7 @@ use Rattle.interleave_core.proofs.Rule.{due_same, of_window}
 use Rattle.interleave_core.proofs.Ruled.{place_inside, subject_inside}
 use Rattle.interleave_core.proofs.Runs.{same_or, got, exists_by, lifted_tasks, in_hand-stage}
 use Rattle.interleave_core.proofs.Tied.{lift_tag, changed_tag}
-use Rattle.interleave_core.proofs.Turns.{IsChange, controller_in, has_at, due_is}
+use Rattle.interleave_core.proofs.Turns.{IsChange, controller_in, due_is}
 
 -- ---- the tags rise
 
@@ -102,40 +100,6 @@ rises w c (Close s p) x is h =
 abbrev pub AreOver : World → ℕ → Parts → Type 0
 AreOver w s c = (p : ℕ) → is_controlled (plan_in w) s p ≡ true → 2 * s ≤ (word_at c.cells p).tag
 
-abbrev is_past : (ℕ → ℕ) → ℕ → PlaceNo → Bool
-is_past seen s q = nat_le (2 * s) (seen q.0)
-
-abbrev is_shut : (ℕ → ℕ) → ℕ → ControlledView → Bool
-is_shut seen s c = not (nat_eq c.session s) || list_all (is_past seen s) c.places
-
-all_places : (a b : Bool) → a ≡ true → (not a || b) ≡ true → b ≡ true
-all_places true b e h = h
-all_places false b e h = absurd cc
-
-closed_place : (plan : PlanView) (seen : ℕ → ℕ) (s p : ℕ) → is_closed plan seen s ≡ true → is_controlled plan s p ≡ true → 2 * s ≤ seen p
-closed_place plan seen s p h there =
-    let k = any_at (λ (c : ControlledView). nat_eq c.session s && has_place c.places p) plan.controlled no_controlled there in
-    let c : ControlledView = get_or plan.controlled k.0 no_controlled in
-    let shut : is_shut seen s c ≡ true = AllPass-from_list_all (is_shut seen s) plan.controlled h k.0 no_controlled k.1 in
-    let places : list_all (is_past seen s) c.places ≡ true = all_places (nat_eq c.session s) _ (and_left (nat_eq c.session s) (has_place c.places p) k.2) shut in
-    let j = any_at (λ (q : PlaceNo). nat_eq q.0 p) c.places (record { 0 = 0 }) (and_right (nat_eq c.session s) (has_place c.places p) k.2) in
-    let past : nat_le (2 * s) (seen (number_at c.places j.0)) ≡ true = AllPass-from_list_all (is_past seen s) c.places places j.0 (record { 0 = 0 }) j.1 in
-    subst (λ (n : ℕ). 2 * s ≤ seen n) (eqb-true (number_at c.places j.0) p j.2) (leb-true (2 * s) (seen (number_at c.places j.0)) past)
-
-closed_of_places : (plan : PlanView) (seen : ℕ → ℕ) (s : ℕ) → ((p : ℕ) → is_controlled plan s p ≡ true → 2 * s ≤ seen p) → is_closed plan seen s ≡ true
-closed_of_places plan seen s h = list_all-from_AllPass (is_shut seen s) plan.controlled (λ k d lt.
-    subst (λ (c : ControlledView). is_shut seen s c ≡ true) (get_or_default plan.controlled k no_controlled d lt) (shut k lt (nat_eq (get_or plan.controlled k no_controlled).session s) refl))
-  where
-    shut : (k : ℕ) → k < length plan.controlled → (b : Bool) → nat_eq (get_or plan.controlled k no_controlled).session s ≡ b → is_shut seen s (get_or plan.controlled k no_controlled) ≡ true
-    shut k lt false e = ap (λ (b : Bool). not b || list_all (is_past seen s) (get_or plan.controlled k no_controlled).places) e
-    shut k lt true e =
-        let c : ControlledView = get_or plan.controlled k no_controlled in
-        ap (λ (b : Bool). not b || list_all (is_past seen s) c.places) e
-        ∙ list_all-from_AllPass (is_past seen s) c.places (λ j d l.
-        subst (λ (q : PlaceNo). is_past seen s q ≡ true) (get_or_default c.places j (record { 0 = 0 }) d l)
-        (le-leb (2 * s) (seen (number_at c.places j))
-        (h (number_at c.places j) (any_shown (λ (d : ControlledView). nat_eq d.session s && has_place d.places (number_at c.places j)) plan.controlled no_controlled k lt (and_both (nat_eq c.session s) _ e (has_at c.places j l))))))
-
 session_there : (s : ℕ) (cs : List ControlledView) → is_some (controller_in s cs) ≡ true → (k : ℕ) × (k < length cs) × ((get_or cs k no_controlled).session ≡ s)
 session_there s [] h = let f : false ≡ true = h in absurd cc
 session_there s (c ∷ cs) h = by (nat_eq c.session s) refl h (session_there s cs)
@@ -163,8 +127,7 @@ is_local w s plan h =
       inside = λ p there.
           let j = any_at (λ (c : ControlledView). nat_eq c.session s && has_place c.places p) (plan_in w).controlled no_controlled there in
           let c : ControlledView = get_or (plan_in w).controlled j.0 no_controlled in
-          let i = any_at (λ (q : PlaceNo). nat_eq q.0 p) c.places (record { 0 = 0 }) (and_right (nat_eq c.session s) (has_place c.places p) j.2) in
-          subst (λ (n : ℕ). n < length w.places) (eqb-true (number_at c.places i.0) p i.2) ((plan.controlled j.0 no_controlled j.1).of_plan i.0 (record { 0 = 0 }) i.1);
+          at_place (λ (n : ℕ). n < length w.places) c.places p (plan.controlled j.0 no_controlled j.1).of_plan (and_right (nat_eq c.session s) (has_place c.places p) j.2);
     }
 
 pub over_rises : (w : World) (s : ℕ) (c d : Parts) → IsLocal w s → length c.cells ≡ length w.places → Rises c d → AreOver w s c → AreOver w s d

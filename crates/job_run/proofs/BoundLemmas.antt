@@ -1,5 +1,5 @@
 -- What a task's pass leaves of the task's sessions, passes joined one after the other, and the bounds of the sets.
-use Rattle.std.proofs.Common.{◌≡◌, ◌↔◌, ℕ, zero, suc, ◌+◌, ◌*◌, ◌<◌, ◌≤◌, ◌^◌, Bool, true, false, ◌&&◌, ◌||◌, ◌==◌, if◌then◌else◌, nat_eq, Option, Some, None, List, [], ◌∷◌, ◌++◌, length, get_or, take, drop, All, AllPairs, inl, inr, refl, sym, ◌∙◌, ap, subst, arith, eqb-true, eq-eqb, ne_eqb, zero-add}
+use Rattle.std.proofs.Common.{◌≡◌, ◌↔◌, ℕ, ◌+◌, ◌*◌, ◌<◌, ◌≤◌, ◌^◌, Bool, true, false, ◌&&◌, ◌||◌, ◌==◌, if◌then◌else◌, nat_eq, Option, Some, None, List, [], ◌∷◌, ◌++◌, length, get_or, take, drop, All, inl, inr, refl, sym, ◌∙◌, ap, subst, arith, eqb-true, eq-eqb, zero-add}
 use Rattle.std.specs.List.{filter}
 use Rattle.std.proofs.lemmas.Bool.{or_cases, or_left, or_right, and_from, both_ways, cases_Bool}
 use Rattle.std.proofs.lemmas.List.{get_or_default, take-append-drop}
@@ -14,12 +14,12 @@ use Rattle.cov_base.proofs.Laws.{has_fact-union, has_fact-full_of}
 use Rattle.module_area.specs.declared.cells.Cell.{Cell}
 use Rattle.module_area.specs.declared.places.Place.{Place}
 use Rattle.module_area.specs.declared.tallies.Tally.{Tally}
-use Rattle.module_area.specs.Meaning.{PlanView, ControlledView, place_of, kind_at, has_place, ControlView, first_control, places_in, places_under, executes, facts_at, facts_of_all, is_place, FinalsView, set_at, has_session}
-use Rattle.module_area.specs.Rule.{IsPlan, IsControlled, AreApart, has_task, is_controller}
+use Rattle.module_area.specs.Meaning.{PlanView, ControlledView, place_of, kind_at, has_place, ControlView, first_control, places_under, executes, facts_at, facts_of_all, is_place, FinalsView, set_at, has_session}
+use Rattle.module_area.specs.Rule.{IsPlan, IsControlled, has_task, is_controller}
 use Rattle.module_area.specs.Ended.{HasSets}
 use Rattle.module_area.specs.Notes.{Notes, bearer, calls, keeps, split_notes, after_join}
 use Rattle.module_area.specs.Tied.{keeps_session_as, IsTied}
-use Rattle.module_area.proofs.Laws.{any_at, any_shown, one_controller, has_here}
+use Rattle.module_area.proofs.Laws.{any_at, any_shown, one_controller, has_here, places_at, at_place}
 use Rattle.brk_table.proofs.Laws.{is_place-there}
 use Rattle.task_run.specs.Answered.{Answered, ArePairs, IsPair}
 use Rattle.task_run.specs.Meaning.{at_places, facts_under, is_under, control_by, places_in_all, Walk, is_opened, visits_under, last_control, opened_by, closed_by, least_set, most_set, traces_but, IsBetween}
@@ -144,24 +144,13 @@ own_session plan n d t s p tied bears own =
     ∙ any_shown (λ (c : ControlledView). nat_eq c.session s && nat_eq c.by t) plan.controlled no_controlled own.at own.exists
     (and_from (nat_eq (get_or plan.controlled own.at no_controlled).session s) (nat_eq (get_or plan.controlled own.at no_controlled).by t) (eq-eqb _ _ own.session) (eq-eqb _ _ own.by)))
 
--- the places of the session at an index, whose sessions rise
-places_at : (cs : List ControlledView) (s i : ℕ) → AllPairs AreApart cs → i < length cs → (get_or cs i no_controlled).session ≡ s → places_in cs s ≡ (get_or cs i no_controlled).places
-places_at [] s i apart l e = absurd (omega arith)
-places_at (c ∷ cs) s zero apart l e = ap (λ b. if b then c.places else places_in cs s) (eq-eqb c.session s e)
-places_at (c ∷ cs) s (suc i) apart l e =
-    let low : c.session < (get_or cs i no_controlled).session = (apart 0 (suc i) no_controlled (omega arith) l).rising in
-    let there : (get_or cs i no_controlled).session ≡ s = e in
-    ap (λ b. if b then c.places else places_in cs s) (ne_eqb c.session s (λ z. absurd (omega (arith, low, there, z))))
-    ∙ places_at cs s i (λ a b d lt lb. apart (suc a) (suc b) d (omega arith) (omega arith)) (omega arith) e
-
 own_place : (plan : PlanView) (t s p : ℕ) → IsPlan plan → IsOwn plan t s p → has_place (places_under plan s) p ≡ true
 own_place plan t s p is own = ap (λ (ps : List PlaceNo). has_place ps p) (places_at plan.controlled s own.at is.apart own.exists own.session) ∙ own.place
 
 own_exists : (plan : PlanView) (t s p : ℕ) → IsPlan plan → IsOwn plan t s p → p < length plan.places
 own_exists plan t s p is own =
     let c : ControlledView = get_or plan.controlled own.at no_controlled in
-    let a = any_at (λ (q : PlaceNo). nat_eq q.0 p) c.places (record { 0 = p }) own.place in
-    subst (λ (q : ℕ). q < length plan.places) (eqb-true _ _ a.2) ((is.controlled own.at no_controlled own.exists).of_plan a.0 (record { 0 = p }) a.1)
+    at_place (λ (q : ℕ). q < length plan.places) c.places p (is.controlled own.at no_controlled own.exists).of_plan own.place
 
 -- the facts of a task's own visits while its session is open are those of its pairs under the session's odd tag
 own_facts : (plan : PlanView) (walks : ℕ → Walk) (t : ℕ) (root n : Notes) (s p : ℕ) (f : Fact) → IsPlan plan → IsTied plan (split_notes plan root t) (first_control plan t) →
@@ -190,8 +179,7 @@ own_last plan n d t s p is tied bears own never =
     let all = tied.later there.0 none there.1 in
     let later : All (λ (q : PlaceNo). n.last q.0 + 1 < 2 * s) (places_under plan s) =
     subst (λ (k : ℕ). All (λ (q : PlaceNo). n.last q.0 + 1 < 2 * k) (places_under plan k)) (eqb-true _ _ there.2) all in
-    let at = any_at (λ (q : PlaceNo). nat_eq q.0 p) (places_under plan s) (record { 0 = p }) (own_place plan t s p is own) in
-    subst (λ (k : ℕ). n.last k + 1 < 2 * s) (eqb-true _ _ at.2) (later at.0 (record { 0 = p }) at.1)
+    at_place (λ (k : ℕ). n.last k + 1 < 2 * s) (places_under plan s) p later (own_place plan t s p is own)
 
 -- what the pass of a task leaves
 pub leaves : (plan : PlanView) (walks : ℕ → Walk) (t : ℕ) (root n : Notes) (d : ControlView) → IsPlan plan → ((p : ℕ) → is_controller plan t p ≡ true → root.last p ≡ 0) → IsTied plan (split_notes plan root t) (first_control plan t) →

@@ -1,6 +1,7 @@
 -- What crates above may cite of this crate's lemmas: the others are its own.
 pub use Rattle.module_area.proofs.BeginLemmas.{begins, begins_drained}
 pub use Rattle.module_area.proofs.CellLemmas.{lifts, plants, closes}
+pub use Rattle.module_area.proofs.ClosedLemmas.{at_place, under_place, closed_place, closed_of_places}
 pub use Rattle.module_area.proofs.CountLemmas.{count_same}
 pub use Rattle.module_area.proofs.DrainLemmas.{mark_drained, cell_drained, fetch_drained, bound_drained, note_drained, all_past}
 pub use Rattle.module_area.proofs.DrainLemmas.{read_drained, split_drained, join_drained}
@@ -14,7 +15,7 @@ pub use Rattle.module_area.proofs.PlanLemmas.{any_at, any_shown, number, no_sess
 pub use Rattle.module_area.proofs.PlanLemmas.{no_controlled, over_cases, tested_controller, controller_of, over_window, over_small}
 pub use Rattle.module_area.proofs.StepLemmas.{spent_not_root, spent_not_task, or_cases, or_left, or_right, full_some}
 pub use Rattle.module_area.proofs.StepLemmas.{breakpoint_form, first_only, quiet, fetches, marks}
-pub use Rattle.module_area.proofs.TieLemmas.{has_here, may_plant, may_close, from_one, tied_close, next_at, next_kept, next_later, tied_open}
+pub use Rattle.module_area.proofs.TieLemmas.{places_at, has_here, may_plant, may_close, from_one, tied_close, next_at, next_kept, next_later, tied_open}
 pub use Rattle.module_area.proofs.TieLemmas.{open_kept}
 pub use Rattle.module_area.proofs.TiedLemmas.{first_tied, tied_same}
 pub use Rattle.module_area.proofs.WordLemmas.{first_cell, zero_behind, starting_count}

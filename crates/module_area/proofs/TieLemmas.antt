@@ -18,7 +18,7 @@ use Rattle.module_area.proofs.PlanLemmas.{any_at, any_shown, no_session}
 use Rattle.module_area.proofs.StepLemmas.{or_right}
 
 -- the places of the session at an index, whose sessions rise
-places_at : (cs : List ControlledView) (s i : ℕ) → AllPairs AreApart cs → i < length cs → (get_or cs i no_session).session ≡ s → places_in cs s ≡ (get_or cs i no_session).places
+pub places_at : (cs : List ControlledView) (s i : ℕ) → AllPairs AreApart cs → i < length cs → (get_or cs i no_session).session ≡ s → places_in cs s ≡ (get_or cs i no_session).places
 places_at [] s i apart l e = absurd (omega arith)
 places_at (c ∷ cs) s zero apart l e = ap (λ b. if b then c.places else places_in cs s) (eq-eqb c.session s e)
 places_at (c ∷ cs) s (suc i) apart l e = let low = (apart 0 (suc i) no_session (omega arith) l).rising in let r : (get_or cs i no_session).session ≡ s = e in

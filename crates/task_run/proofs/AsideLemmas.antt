@@ -1,14 +1,13 @@
 -- What steps leave of a pass's boundaries and looks, and what these leave of a run.
-use Rattle.std.proofs.Common.{◌≡◌, ℕ, ◌+◌, ◌-◌, ◌*◌, ◌<◌, ◌≤◌, Bool, true, false, if◌then◌else◌, ◌==◌, nat_eq, unwrap_or, Option, Some, None, List, All, refl, sym, ◌∙◌, ap, subst, arith}
-use Rattle.std.proofs.lemmas.Bool.{cond_both, eq-eqb, eqb-true}
+use Rattle.std.proofs.Common.{◌≡◌, ℕ, ◌+◌, ◌-◌, ◌*◌, ◌<◌, ◌≤◌, Bool, true, false, if◌then◌else◌, ◌==◌, unwrap_or, Option, Some, None, List, refl, sym, ◌∙◌, ap, subst, arith}
+use Rattle.std.proofs.lemmas.Bool.{cond_both, eq-eqb}
 use Rattle.cov_base.specs.Meaning.{Visit}
-use Rattle.cov_base.specs.declared.numbers.PlaceNo.{PlaceNo}
 use Rattle.cov_base.specs.declared.numbers.SessNo.{SessNo}
 use Rattle.module_area.specs.Meaning.{PlanView, has_place, ControlView, places_under, to_open}
 use Rattle.module_area.specs.Notes.{Notes, calls, bearer, own_number, after_boundary}
 use Rattle.module_area.specs.Control.{after_plants, after_closes, after_open, after_end, after_call}
 use Rattle.module_area.specs.Tied.{IsTied}
-use Rattle.module_area.proofs.Laws.{any_at, tied_same, next_later}
+use Rattle.module_area.proofs.Laws.{tied_same, next_later, at_place}
 use Rattle.task_run.specs.Answered.{RisesAt, known_tag, Turns}
 use Rattle.task_run.specs.Aside.{IsAside}
 use Rattle.task_run.specs.Controlled.{Follows}
@@ -57,10 +56,6 @@ pub same_number : (old new : Notes) → KnowsSame old new → own_number new ≡
 same_number old new k = λ i. k.numbers i (unwrap_or (k.bears i) 0)
 
 -- no tag that the pass has seen at a place and gave it last falls by a call of its task
-
-at_place : (P : ℕ → Type 0) (places : List PlaceNo) (p : ℕ) → All (λ (q : PlaceNo). P q.0) places → has_place places p ≡ true → P p
-at_place P places p all has = let d : PlaceNo = record { 0 = p } in let a = any_at (λ (q : PlaceNo). nat_eq q.0 p) places d has in
-    subst P (eqb-true _ _ a.2) (all a.0 d a.1)
 
 abbrev AtLeast : Notes → ℕ → ℕ → Type 0
 AtLeast n p x = (x ≤ n.last p) × (x ≤ n.seen p)

@@ -1,5 +1,5 @@
 -- A task's calls lower no tag that its pass knows.
-use Rattle.std.proofs.Common.{◌≡◌, ℕ, ◌+◌, ◌-◌, ◌*◌, ◌<◌, ◌≤◌, Bool, true, false, if◌then◌else◌, ◌==◌, min, nat_eq, Option, Some, None, List, All, refl, subst, arith, eqb-true}
+use Rattle.std.proofs.Common.{◌≡◌, ℕ, ◌+◌, ◌-◌, ◌*◌, ◌<◌, ◌≤◌, Bool, true, false, if◌then◌else◌, ◌==◌, min, Option, Some, None, All, refl, arith}
 use Rattle.std.proofs.lemmas.Bool.{cond_both}
 use Rattle.cov_base.specs.declared.numbers.PlaceNo.{PlaceNo}
 use Rattle.cov_base.specs.declared.numbers.SessNo.{SessNo}
@@ -8,14 +8,8 @@ use Rattle.module_area.specs.Rule.{IsPlan}
 use Rattle.module_area.specs.Notes.{Notes, keeps}
 use Rattle.module_area.specs.Control.{after_open, after_end, after_call}
 use Rattle.module_area.specs.Tied.{IsTied}
-use Rattle.module_area.proofs.Laws.{any_at, may_plant, may_close, next_kept, next_later, open_kept}
+use Rattle.module_area.proofs.Laws.{may_plant, may_close, next_kept, next_later, open_kept, at_place}
 use Rattle.task_run.specs.Answered.{known_tag}
-
-at_place : (P : ℕ → Type 0) (places : List PlaceNo) (p : ℕ) → All (λ (q : PlaceNo). P q.0) places → has_place places p ≡ true → P p
-at_place P places p all has =
-    let d : PlaceNo = record { 0 = p } in
-    let a = any_at (λ (q : PlaceNo). nat_eq q.0 p) places d has in
-    subst P (eqb-true _ _ a.2) (all a.0 d a.1)
 
 -- by whether it keeps the place, and whether the session is over it
 changed_known : (k b : Bool) (last seen tag : ℕ) → (b ≡ true → (k ≡ true) × (last ≤ tag)) → (if k then min last seen else seen) ≤ (if k then min (if b then tag else last) (if b then tag else seen) else (if b then tag else seen))

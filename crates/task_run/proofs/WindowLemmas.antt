@@ -10,7 +10,7 @@ use Rattle.module_area.specs.Rule.{IsPlan}
 use Rattle.module_area.specs.Notes.{Notes}
 use Rattle.module_area.specs.Control.{after_plants, after_closes, after_open, after_end, after_call}
 use Rattle.module_area.specs.Tied.{IsTied}
-use Rattle.module_area.proofs.Laws.{any_at, next_at, next_kept, from_one, has_here, tied_open, tied_close}
+use Rattle.module_area.proofs.Laws.{any_at, next_at, next_kept, from_one, has_here, tied_open, tied_close, at_place}
 use Rattle.task_run.specs.Meaning.{control_by}
 use Rattle.task_run.specs.Controlled.{notes_by, HasWindows}
 
@@ -25,10 +25,6 @@ pub record IsBound (plan : PlanView) (n : Notes) (c : ControlView) : Type 0 wher
 
 abbrev session : ℕ → SessNo
 session k = record { 0 = k }
-
-at_place : (places : List PlaceNo) (P : ℕ → Type 0) (p : ℕ) → All (λ (q : PlaceNo). P q.0) places → has_place places p ≡ true → P p
-at_place places P p all has = let d : PlaceNo = record { 0 = p } in let a = any_at (λ (q : PlaceNo). nat_eq q.0 p) places d has in
-    subst P (eqb-true _ _ a.2) (all a.0 d a.1)
 
 low_or : (i n : ℕ) → i < n + 1 → (i < n) ⊎ (i ≡ n)
 low_or i n l = grind arith
@@ -79,7 +75,7 @@ bound_close plan n c s b is_open = record {
       | inl e ↦ closed_here (has_place (places_under plan s.0) q) s.0 t.0 (n.last q)
           (subst (λ z. has_place (places_under plan z) q ≡ true) (eqb-true t.0 s.0 e) (has_here (places_under plan t.0) k p l)) (eqb-true t.0 s.0 e)
       | inr e ↦ close_over (has_place (places_under plan s.0) q) s.0 t.0 (n.last q)
-          (λ has. at_place (places_under plan s.0) (λ r. n.last r + 1 ≡ 2 * s.0) q (b.tied.planted s is_open) has)
+          (λ has. at_place (λ r. n.last r + 1 ≡ 2 * s.0) (places_under plan s.0) q (b.tied.planted s is_open) has)
           (b.past.over i t lt at (λ z. both_ways (nat_eq t.0 s.0) e (eq-eqb t.0 s.0 (sym (ap (λ (x : SessNo). x.0) (same_Some _ _ (sym is_open ∙ z)))))) k p l)
     ];
   };
@@ -132,7 +128,7 @@ window_there plan n c s p b own there =
       λ tag. elim (cases_lt a.0 c.next) [
         | inl low ↦ elim (is_one c.opened s) [
           | inl there_is ↦ there_is
-          | inr other ↦ let over : 2 * s.0 ≤ n.last p = at_place (places_under plan s.0) (λ r. 2 * s.0 ≤ n.last r) p (b.past.over a.0 s low at other) there in absurd (omega (arith, over, tag))
+          | inr other ↦ let over : 2 * s.0 ≤ n.last p = at_place (λ r. 2 * s.0 ≤ n.last r) (places_under plan s.0) p (b.past.over a.0 s low at other) there in absurd (omega (arith, over, tag))
         ]
         | inr high ↦
             let l = a.1 in
@@ -141,9 +137,9 @@ window_there plan n c s p b own there =
             let here : get_or (drop c.next c.sessions) (a.0 - c.next) s ≡ s = get_or-drop c.next c.sessions (a.0 - c.next) s ∙ (ap (λ j. get_or c.sessions j s) index ∙ at) in
             let later : All (λ (q : PlaceNo). n.last q.0 + 1 < 2 * s.0) (places_under plan s.0) =
             subst (λ (z : SessNo). All (λ (q : PlaceNo). n.last q.0 + 1 < 2 * z.0) (places_under plan z.0)) here (b.tied.later (a.0 - c.next) s (omega (arith, l, high, size))) in
-            let below : n.last p + 1 < 2 * s.0 = at_place (places_under plan s.0) (λ r. n.last r + 1 < 2 * s.0) p later there in absurd (omega (arith, below, tag))
+            let below : n.last p + 1 < 2 * s.0 = at_place (λ r. n.last r + 1 < 2 * s.0) (places_under plan s.0) p later there in absurd (omega (arith, below, tag))
       ],
-      λ now. at_place (places_under plan s.0) (λ r. n.last r + 1 ≡ 2 * s.0) p (b.tied.planted s now) there,
+      λ now. at_place (λ r. n.last r + 1 ≡ 2 * s.0) (places_under plan s.0) p (b.tied.planted s now) there,
     )
 
 -- while the task runs
