@@ -7,6 +7,7 @@ use Rattle.std.proofs.lemmas.Bool.Decides.{nat_tests}
 use Rattle.std.proofs.lemmas.List.{get_or_append_left, get_or_push, get_or_default, length_push}
 use Rattle.std.proofs.lemmas.List.Folds.{list_any_none, list_any_at}
 use Rattle.cov_base.specs.Meaning.{breakpoint, length_of}
+use Rattle.cov_base.proofs.Laws.{length_of-least}
 use Rattle.s370_decode.specs.Meaning.{first_half}
 use Rattle.s370_decode.specs.declared.code.Code.{Code}
 use Rattle.listing_reader.specs.Listing.{is_sound}
@@ -66,19 +67,10 @@ shares_there k loc code (says.Code other d) h l e =
     let q = ltb-true k (other + d.len) t.1 in
     and_from (nat_lt loc (other + d.len)) (nat_lt other (loc + code.len)) (lt-ltb loc (other + d.len) (omega arith)) (lt-ltb other (loc + code.len) (omega arith))
 
-length_two : (h : ℕ) → 2 ≤ length_of h
-unfolding length_of
-length_two h = by_tests (nat_lt h 16384) (nat_lt h 49152)
-  where
-    by_tests : (a b : Bool) → 2 ≤ cond a 2 (cond b 4 6)
-    by_tests true b = omega arith
-    by_tests false true = omega arith
-    by_tests false false = omega arith
-
 pub sound_length : (loc : ℕ) (code : Code) → is_sound (says.Code loc code) ≡ true → 2 ≤ code.len
 sound_length loc code h =
     let e : code.len ≡ length_of (first_half code) = grind (arith, nat_tests) in
-    rw e (length_two (first_half code))
+    rw e (length_of-least (first_half code))
 
 -- the byte that two share
 pub record Common (loc : ℕ) (code : Code) (line : Line) : Type 0 where

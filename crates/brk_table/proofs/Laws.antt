@@ -1,5 +1,5 @@
 -- What crates above may cite of this crate's lemmas: the others are its own.
-pub use Rattle.brk_table.proofs.PlaceLemmas.{is_place-there, length_of-least, one_begins}
+pub use Rattle.brk_table.proofs.PlaceLemmas.{is_place-there, one_begins}
 pub use Rattle.brk_table.proofs.TouchLemmas.{not_touched}
 pub use Rattle.brk_table.proofs.RangeLemmas.{first-here, count-here, first-past, count-past}
 pub use Rattle.brk_table.proofs.Together.{AllMet, all_met}

@@ -2,7 +2,7 @@
 use Rattle.std.proofs.Common.{◌≡◌, ◌≢◌, ◌⊎◌, inl, inr, ℕ, ◌+◌, ◌-◌, ◌*◌, ◌/◌, ◌%◌, ◌<◌, ◌≤◌, true, false, List, ◌++◌, length, get_or, replicate, sym, ap, ◌∙◌, arith, length-append}
 use Rattle.std.proofs.Math.ListN.{set}
 use Rattle.std.proofs.lemmas.List.{get_or_append_left, get_or-append-add, get_or-replicate, get_or-set_same, get_or-set_other, length-set, length-replicate}
-use Rattle.cov_base.specs.Meaning.{length_of}
+use Rattle.cov_base.proofs.Laws.{length_of-least}
 use Rattle.module_area.specs.Meaning.{no_place, place_of, is_place}
 use Rattle.module_area.specs.declared.places.Place.{Place}
 use Rattle.brk_table.specs.Places.{IsPlace, AreApart, ArePlaces}
@@ -113,10 +113,6 @@ fresh_map places = record {
         let none : get_or (zeros 2048) (slot_of (zeros 4096) a) 0 ≡ 0 = get_or-replicate 2048 (slot_of (zeros 4096) a) 0 0 (omega (arith, p)) in
         omega (arith, none, v)
 
-long : (h : ℕ) → 2 ≤ length_of h
-unfolding length_of
-long h = grind arith
-
 -- two places have different halfwords
 pub halves_differ : (places : List Place) → ArePlaces places → (j k : ℕ) → j < k → k < length places → (place_of places j).at / 2 ≢ (place_of places k).at / 2
 halves_differ places are j k l m e =
@@ -125,8 +121,8 @@ halves_differ places are j k l m e =
     by_case p q (are.apart j k no_place l m)
   where
     by_case : IsPlace (place_of places j) → IsPlace (place_of places k) → AreApart (place_of places j) (place_of places k) → ⊥
-    by_case p q (inl h) = omega (arith, h, e, p.size, long (place_of places j).original)
-    by_case p q (inr h) = omega (arith, h, e, q.size, long (place_of places k).original)
+    by_case p q (inl h) = omega (arith, h, e, p.size, length_of-least (place_of places j).original)
+    by_case p q (inr h) = omega (arith, h, e, q.size, length_of-least (place_of places k).original)
 
 pub map_more : (old_pages old pages entries : List ℕ) (places : List Place) (n : ℕ) → ArePlaces places → n < length places → IsMap old_pages old places n → ArePages pages entries → length entries ≤ length old + 2048
     → entry_at pages entries (place_of places n).at ≡ n + 1 → AreKept old_pages old pages entries (place_of places n).at → IsMap pages entries places (n + 1)
@@ -148,7 +144,7 @@ map_more old_pages old pages entries places n are l was new size set_one kept = 
 }
   where
     low : (k : ℕ) → k < length places → (place_of places k).at < 16777216
-    low k b = let p = are.each k no_place b in omega (arith, p.below, p.size, long (place_of places k).original)
+    low k b = let p = are.each k no_place b in omega (arith, p.below, p.size, length_of-least (place_of places k).original)
 
     at_same : (a : ℕ) → a % 2 ≡ 0 → a / 2 ≡ (place_of places n).at / 2 → a ≡ (place_of places n).at
     at_same a e q = let p = are.each n no_place l in omega (arith, e, q, p.even)

@@ -2,7 +2,7 @@
 use Rattle.std.proofs.Common.{◌≡◌, ◌≢◌, ℕ, ◌<◌, ◌≤◌, zero, suc, Bool, true, false, ◌||◌, ◌==◌, List, [], ◌∷◌, length, inl, inr, refl, sym, arith}
 use Rattle.std.proofs.lemmas.Bool.{cases_order}
 use Rattle.std.proofs.lemmas.Bool.Decides.{nat_tests}
-use Rattle.cov_base.specs.Meaning.{length_of}
+use Rattle.cov_base.proofs.Laws.{length_of-least}
 use Rattle.module_area.specs.Meaning.{place_of, no_place, is_place}
 use Rattle.module_area.specs.declared.places.Place.{Place}
 use Rattle.brk_table.specs.Places.{ArePlaces, AreApart, IsPlace}
@@ -27,10 +27,6 @@ is_place-nowhere [] a h = refl
 is_place-nowhere (p ∷ ps) a h = rw (differ a p.at (λ e. h 0 (omega arith) (sym e)), is_place-nowhere ps a (λ k l. h (suc k) (omega arith))) refl
 
 -- no two places begin at one address
-
-pub length_of-least : (h : ℕ) → 2 ≤ length_of h
-unfolding length_of
-length_of-least h = grind (arith, nat_tests)
 
 some_bytes : (places : List Place) (p : ℕ) → ArePlaces places → p < length places → 2 ≤ (place_of places p).len
 some_bytes places p are lt =

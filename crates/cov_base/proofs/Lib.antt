@@ -1,4 +1,5 @@
 mod FactLemmas
 mod FactNumbers
+mod LengthLemmas
 mod NameLemmas
 pub mod Laws

@@ -12,6 +12,7 @@ use Rattle.std.proofs.lemmas.Map.Steps.{length-le_from_distinct_below}
 use Rattle.std.proofs.lemmas.Slice.Eq.{bytes_eq-Decides}
 use Rattle.cov_base.specs.Lists.{Differ}
 use Rattle.cov_base.specs.Meaning.{FactSet, ImageView, is_filled}
+use Rattle.cov_base.proofs.Laws.{length_of-least}
 use Rattle.module_area.specs.Images.{IsImage, AreClear}
 use Rattle.module_area.specs.Meaning.{place_of, no_place}
 use Rattle.module_area.specs.declared.places.Place.{Place}
@@ -27,7 +28,7 @@ use Rattle.phase_plan.specs.Sets.{AreWithin}
 use Rattle.session_marks.specs.Fields.{HasGoodFields, AreHalfwords}
 use Rattle.session_marks.specs.Meaning.{marked_places, marked_module}
 use Rattle.session_marks.proofs.TableLemmas.{OwnTable, own_table, count_of, counts_fit, count_more, first_differs, rest_differs}
-use Rattle.session_marks.proofs.RuleLemmas.{AreMarkable, places_kept, some_bytes, length-marked_places}
+use Rattle.session_marks.proofs.RuleLemmas.{AreMarkable, places_kept, length-marked_places}
 
 -- a job and the tables of its modules
 pub record AreTabled (j : JobView) (tables : TablesView) : Type 0 where
@@ -76,7 +77,7 @@ own_markable j tables sets m are within o =
         → (place_of places k).at + (place_of places k).len ≤ (place_of places (k + 1)).at
     one_behind places k p q rise apart =
         let size = q.size in
-        let long = some_bytes (place_of places (k + 1)).original in
+        let long = length_of-least (place_of places (k + 1)).original in
         elim apart [ inl before ↦ before | inr after ↦ absurd (omega arith) ]
 
 markable : (j : JobView) (tables : TablesView) (sets : ℕ → FactSet) (m : ℕ) → AreTabled j tables → AreWithin tables sets m → AreMarkable (module_of j m) tables.places sets (first_place tables.tables m) (count_in tables.tables m)

@@ -1,10 +1,11 @@
 -- The places of a module keep the rules of a marks file.
-use Rattle.std.proofs.Common.{◌≡◌, ◌≢◌, ◌⊎◌, inl, inr, ℕ, ◌+◌, ◌-◌, ◌%◌, ◌<◌, ◌≤◌, zero, suc, true, ◌||◌, not, nat_eq, nat_lt, List, length, refl, sym, ap, ◌∙◌, arith}
+use Rattle.std.proofs.Common.{◌≡◌, ◌≢◌, ℕ, ◌+◌, ◌-◌, ◌%◌, ◌<◌, ◌≤◌, zero, suc, true, ◌||◌, not, nat_eq, nat_lt, List, length, refl, sym, ap, ◌∙◌, arith}
 use Rattle.std.proofs.lemmas.Bool.Decides.{nat_tests}
 use Rattle.std.proofs.lemmas.List.Elements.{All-tail}
 use Rattle.std.proofs.lemmas.Bool.{lt-ltb, le-leb, eq-eqb}
 use Rattle.cov_base.specs.Meaning.{length_of, FactSet, number_of_facts, is_within, ImageView}
 use Rattle.cov_base.specs.declared.facts.Kind.{Kind}
+use Rattle.cov_base.proofs.Laws.{length_of-cases, length_of-least}
 use Rattle.module_area.specs.Images.{IsImage}
 use Rattle.module_area.specs.Meaning.{place_of}
 use Rattle.module_area.specs.declared.places.Place.{Place}
@@ -29,25 +30,18 @@ pub record IsMarkable (image : ImageView) (p : Place) (set : FactSet) : Type 0 w
 differ : (a b : ℕ) → a ≢ b → not (nat_eq a b) ≡ true
 differ a b h = grind (arith, nat_tests)
 
-pub length_cases : (h : ℕ) → (length_of h ≡ 2) ⊎ ((length_of h ≡ 4) ⊎ (length_of h ≡ 6))
-unfolding length_of
-length_cases h = grind (arith, nat_tests)
-
-pub some_bytes : (h : ℕ) → 2 ≤ length_of h
-some_bytes h = elim (length_cases h) [ inl a ↦ omega arith | inr b ↦ elim b [ inl c ↦ omega arith | inr d ↦ omega arith ] ]
-
 even_location : (at base : ℕ) → at % 2 ≡ 0 → base % 8 ≡ 0 → base ≤ at → (at - base) % 2 ≡ 0
 even_location at base a b l = omega arith
 
 location_kept : (image : ImageView) (p : Place) (set : FactSet) (end : ℕ) → IsImage image → IsMarkable image p set → end + image.base ≤ p.at → is_location (length image.bytes) end (p.at - image.base) ≡ true
 unfolding is_location
 location_kept image p set end i m h =
-    let long = some_bytes p.original in
+    let long = length_of-least p.original in
     let size = m.is.size in
     both _ _ (eq-eqb _ 0 (even_location p.at image.base m.is.even i.doubleword m.from)) (both _ _ (lt-ltb (p.at - image.base) (length image.bytes) (omega (arith, m.to, m.from, long, size))) (le-leb end (p.at - image.base) (omega (arith, m.from))))
 
 one_length : (n h : ℕ) → n ≡ length_of h → (nat_eq n 2 || (nat_eq n 4 || nat_eq n 6)) ≡ true
-one_length n h e = let c = length_cases h in grind (arith, nat_tests)
+one_length n h e = let c = length_of-cases h in grind (arith, nat_tests)
 
 length_kept : (image : ImageView) (p : Place) (set : FactSet) → IsMarkable image p set → is_length (length image.bytes) (p.at - image.base) p.len ≡ true
 unfolding is_length

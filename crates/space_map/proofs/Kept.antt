@@ -3,6 +3,7 @@ use Rattle.std.proofs.Common.{◌≡◌, ℕ, ◌+◌, ◌-◌, ◌*◌, ◌/◌
 use Rattle.std.specs.List.{All}
 use Rattle.std.proofs.lemmas.Bool.{cases_lt, lt-ltb, le-ltb}
 use Rattle.cov_base.specs.Meaning.{length_of, Memory, ImageView, wrap, byte_at}
+use Rattle.cov_base.proofs.Laws.{length_of-least}
 use Rattle.s370_decode.specs.declared.code.Code.{Code}
 use Rattle.module_area.specs.declared.places.Place.{Place}
 use Rattle.module_area.specs.Meaning.{no_place, place_of}
@@ -10,7 +11,7 @@ use Rattle.module_area.specs.Images.{AreImages}
 use Rattle.brk_table.specs.Meaning.{TablesView, touches, memory_of, module_byte, module_code}
 use Rattle.brk_table.specs.Places.{IsPlace, ArePlaces, IsIn}
 use Rattle.brk_table.specs.Kept.{code_in, code_by, later_half, IsCodeOf, AreCodes, IsKept, AreKept}
-use Rattle.brk_table.proofs.Laws.{length_of-least, not_touched}
+use Rattle.brk_table.proofs.Laws.{not_touched}
 use Rattle.space_map.proofs.Ranges.{reach_image}
 use Rattle.space_map.proofs.Seen.{byte_at-image, image_byte-of, is_image-of}
 use Rattle.space_map.proofs.Touches.{base_from}

@@ -1,10 +1,11 @@
 -- Each place is reached, and shows its original.
-use Rattle.std.proofs.Common.{◌≡◌, ℕ, ◌+◌, ◌-◌, ◌*◌, ◌<◌, ◌≤◌, zero, suc, Bool, true, false, ◌||◌, nat_lt, if◌then◌else◌, List, [], ◌∷◌, length, take, drop, get_or, slice_index, refl, sym, ◌∙◌, arith, inl, inr}
+use Rattle.std.proofs.Common.{◌≡◌, ℕ, ◌+◌, ◌-◌, ◌*◌, ◌<◌, ◌≤◌, zero, suc, Bool, true, false, ◌||◌, nat_lt, List, [], ◌∷◌, length, take, drop, get_or, slice_index, refl, sym, ◌∙◌, arith, inl, inr}
 use Rattle.std.specs.List.{All, AllPairs, Contains, list_any}
 use Rattle.std.proofs.lemmas.Bool.Decides.{nat_tests}
 use Rattle.std.proofs.lemmas.List.Elements.{All-get_or}
 use Rattle.std.proofs.lemmas.List.{get_or_read, get_or-take, get_or-drop}
-use Rattle.cov_base.specs.Meaning.{length_of, ImageView, wrap, byte_at}
+use Rattle.cov_base.specs.Meaning.{ImageView, wrap, byte_at}
+use Rattle.cov_base.proofs.Laws.{length_of-least}
 use Rattle.module_area.specs.declared.places.Place.{Place}
 use Rattle.module_area.specs.Meaning.{no_place}
 use Rattle.module_area.specs.Images.{AreImages, AreClear}
@@ -48,15 +49,6 @@ image_byte-there (i ∷ is) d zero a l f h = rw h refl
 image_byte-there (i ∷ is) d (suc n) a l f h =
     rw (clear i (get_or is n d) a (f 0 (suc n) d (omega arith) (omega arith)) h) (image_byte-there is d n a (omega arith) (λ x y e p q. f (suc x) (suc y) e (omega arith) (omega arith)) h)
 
-pick : (b c : Bool) → 2 ≤ (if b then 2 else (if c then 4 else 6))
-pick true c = omega arith
-pick false true = omega arith
-pick false false = omega arith
-
-two_or_more : (h : ℕ) → 2 ≤ length_of h
-unfolding length_of
-two_or_more h = pick (nat_lt h 16384) (nat_lt h 49152)
-
 pub byte_at-image : (size : ℕ) (images : List ImageView) (places : List Place) (bytes : List ℕ) (a : ℕ) → size ≤ a → byte_at (memory_of size images places) bytes a ≡ image_byte images a
 unfolding byte_at memory_of
 byte_at-image size images places bytes a h = rw (let e : nat_lt a size ≡ false = grind (arith, nat_tests) in e) refl
@@ -71,7 +63,7 @@ is_image-of size images places p q a from to = list_any-there images q.image p.m
 
 is_seen : (size : ℕ) (images : List ImageView) (places : List Place) (p : Place) → size ≤ 1048576 → AreImages images → IsPlace p → IsIn images p → IsSeen (memory_of size images places) p
 is_seen size images places p h f g q =
-    let two : 2 ≤ p.len = omega (arith, two_or_more p.original) in
+    let two : 2 ≤ p.len = omega (arith, length_of-least p.original) in
     let start : 1048576 ≤ p.at = base_from images p f q in
     record {
       reached = reach_image (memory_of size images places) p.at 2 (λ b from to. is_image-of size images places p q b (omega arith) (omega arith)) (omega arith);
