@@ -1,127 +1,32 @@
 -- A visit whose breakpoint is to be marked is begun.
-use Rattle.std.proofs.Common.{◌≡◌, ◌≢◌, ◌⊎◌, inl, inr, ℕ, ◌+◌, ◌<◌, ◌≤◌, Bool, true, false, not, ◌==◌, ◌||◌, nat_lt, if◌then◌else◌, Option, Some, None, List, [], ◌∷◌, length, get_or, refl, sym, ◌∙◌, ap, subst, arith}
+use Rattle.std.proofs.Common.{◌≡◌, inl, inr, ℕ, ◌<◌, Bool, true, false, not, if◌then◌else◌, Option, Some, None, List, [], ◌∷◌, length, get_or, refl, sym, ◌∙◌, ap, subst, arith}
 use Rattle.std.specs.Option.{option_or}
-use Rattle.std.proofs.lemmas.Bool.Decides.{nat_tests}
-use Rattle.std.proofs.lemmas.List.{get_or_default}
-use Rattle.std.proofs.lemmas.List.Folds.{list_any_none}
-use Rattle.cov_base.specs.Meaning.{length_of, Memory, ImageView, can_reach, half_at, wrap, State, Visit}
+use Rattle.cov_base.specs.Meaning.{length_of, Memory, half_at, State, Visit}
 use Rattle.s370_state.specs.declared.endings.Ending.{Ending}
 use Rattle.s370_state.specs.declared.endings.Ending.TheVariants.{Abend}
 use Rattle.s370_decode.specs.Meaning.{first_half, ex, op_of}
 use Rattle.s370_decode.specs.declared.code.Code.{Code}
 use Rattle.s370_branch.specs.Meaning.{goes}
-use Rattle.s370_exec.specs.Meaning.{Effect, effect, updated, link_code, later, first_tests, rest_tests, subject_tests, is_execute, code_at, merged, Step, solo_step, ended, visit, subject_step, no_visit}
+use Rattle.s370_exec.specs.Meaning.{Effect, effect, updated, link_code, first_tests, rest_tests, subject_tests, is_execute, code_at, merged, Step, solo_step, ended, visit, subject_step, no_visit}
 use Rattle.s370_exec.specs.Fetch.{whole_tests}
 use Rattle.module_area.specs.Meaning.{place_of, no_place, original_at}
 use Rattle.module_area.specs.declared.places.Place.{Place}
-use Rattle.brk_table.specs.Meaning.{touches, memory_of}
-use Rattle.brk_table.specs.Places.{IsPlace, ArePlaces, AreApart, IsIn}
-use Rattle.space_map.proofs.Laws.{reach_image, is_image-of}
+use Rattle.brk_table.specs.Places.{IsPlace}
+use Rattle.space_map.proofs.Laws.{later_reached, later_untouched}
 use Rattle.s370_exec.proofs.Laws.{solo_step-unread, solo_step-read, solo_step-ex, subject_step-refused, subject_step-unread}
-use Rattle.s370_exec.proofs.Laws.{subject_step-begun}
+use Rattle.s370_exec.proofs.Laws.{subject_step-begun, rest_none}
 use Rattle.interleave_core.specs.Meaning.{World, TaskPart, memory_in, plan_in, place_at, step_of, subject_place}
 use Rattle.interleave_core.specs.World.{IsWorld}
 use Rattle.interleave_core.proofs.Logs.{found_at, at_place}
+use Rattle.session_book.specs.Meaning.{task_of}
 
-abbrev IsSize : ℕ → Type 0
-IsSize n = (n ≡ 2) ⊎ ((n ≡ 4) ⊎ (n ≡ 6))
-
-sizes : (h : ℕ) → IsSize (length_of h)
-unfolding length_of
-sizes h = pick (nat_lt h 16384) (nat_lt h 49152)
-  where
-    pick : (a b : Bool) → IsSize (if a then 2 else (if b then 4 else 6))
-    pick true b = inl refl
-    pick false true = inr (inl refl)
-    pick false false = inr (inr refl)
-
-some_size : (h : ℕ) → 2 ≤ length_of h
-some_size h = elim (sizes h) [
-  | inl two ↦ omega (arith, two)
-  | inr more ↦ elim more [ inl four ↦ omega (arith, four) | inr six ↦ omega (arith, six) ]
-]
-
-differ : (a b : ℕ) → a ≢ b → (a == b) ≡ false
-differ a b h = grind (arith, nat_tests)
-
--- behind the first halfword of one place no other begins
-unlike : (p q : Place) (x : ℕ) → AreApart p q → 2 ≤ q.len → p.at + 2 ≤ x → x < p.at + p.len → (x == q.at || x == q.at + 1) ≡ false
-unlike p q x (inl h) some from to = rw (differ x q.at (λ e. omega arith), differ x (q.at + 1) (λ e. omega arith)) refl
-unlike p q x (inr h) some from to = rw (differ x q.at (λ e. omega arith), differ x (q.at + 1) (λ e. omega arith)) refl
-
-itself : (p : Place) (x : ℕ) → p.at + 2 ≤ x → (x == p.at || x == p.at + 1) ≡ false
-itself p x from = rw (differ x p.at (λ e. omega arith), differ x (p.at + 1) (λ e. omega arith)) refl
-
-turned : (p q : Place) → AreApart p q → AreApart q p
-turned p q (inl h) = inr h
-turned p q (inr h) = inl h
-
-order : (j k : ℕ) → (j < k) ⊎ ((j ≡ k) ⊎ (k < j))
-order j k = grind arith
-
-not_touched : (places : List Place) (k x : ℕ) → ArePlaces places → k < length places → (place_of places k).at + 2 ≤ x → x < (place_of places k).at + (place_of places k).len → touches places x ≡ false
-not_touched places k x are lt from to = list_any_none (λ (q : Place). x == q.at || x == q.at + 1) places (λ j d l. one j d l (order j k))
-  where
-    one : (j : ℕ) (d : Place) → j < length places → (j < k) ⊎ ((j ≡ k) ⊎ (k < j)) → (x == (get_or places j d).at || x == (get_or places j d).at + 1) ≡ false
-    one j d l o =
-        let p : Place = get_or places k d in
-        let q : Place = get_or places j d in
-        let same : place_of places k ≡ p = get_or_default places k no_place d lt in
-        let start : p.at + 2 ≤ x = subst (λ (y : Place). y.at + 2 ≤ x) same from in
-        let end : x < p.at + p.len = subst (λ (y : Place). x < y.at + y.len) same to in
-        let size : 2 ≤ q.len = omega (arith, some_size q.original, (are.each j d l).size) in
-        elim o [
-          | inl below ↦ unlike p q x (turned q p (are.apart j k d below lt)) size start end
-          | inr rest ↦ elim rest [
-            | inl same_number ↦ subst (λ (n : ℕ). (x == (get_or places n d).at || x == (get_or places n d).at + 1) ≡ false) (sym same_number) (itself p x start)
-            | inr above ↦ unlike p q x (are.apart k j d above l) size start end
-          ]
-        ]
-
-untouched : (size : ℕ) (images : List ImageView) (places : List Place) (x : ℕ) → touches places x ≡ false → (memory_of size images places).is_touch x ≡ false
-unfolding memory_of
-untouched size images places x h = h
-
-later_by : (reached touch : Bool) (x y : Option Ending) → reached ≡ true → touch ≡ false → (if reached then (if touch then x else None) else y) ≡ None
-later_by reached touch x y r t = rw (r, t) refl
-
--- a later halfword of a place
-later_none : (w : World) (t k x : ℕ) → IsWorld w → k < length w.places → (place_of w.places k).at + 2 ≤ x → x + 2 ≤ (place_of w.places k).at + (place_of w.places k).len → later (memory_in w t) (wrap x) ≡ None
-later_none w t k x world lt from to =
-    let p : Place = place_of w.places k in
-    let m : Memory = memory_in w t in
-    let is : IsPlace p = world.places.each k no_place lt in
-    let q : IsIn w.job.images p = world.inside k no_place lt in
-    let bound : x + 2 ≤ 16777216 = omega (arith, is.below) in
-    let here : wrap x ≡ x = omega arith in
-    let reached : can_reach m x 2 ≡ true = reach_image m x 2 (λ b low high. is_image-of _ w.job.images w.places p q b (omega (arith, q.from)) (omega (arith, q.to))) bound in
-    let touch : m.is_touch x ≡ false = untouched _ w.job.images w.places x (not_touched w.places k x world.places lt from (omega arith)) in
-    ap (later m) here ∙ later_by (can_reach m x 2) (m.is_touch x) _ _ reached touch
-
-rest_two : (m : Memory) (a : ℕ) → rest_tests m a 2 ≡ None
-unfolding rest_tests
-rest_two m a = refl
-
-rest_four : (m : Memory) (a : ℕ) → later m (wrap (a + 2)) ≡ None → rest_tests m a 4 ≡ None
-unfolding rest_tests
-rest_four m a h = rw h refl
-
-rest_six : (m : Memory) (a : ℕ) → later m (wrap (a + 2)) ≡ None → later m (wrap (a + 4)) ≡ None → rest_tests m a 6 ≡ None
-unfolding rest_tests
-rest_six m a h k = rw (h, k) refl
-
-rest_pass : (w : World) (t k : ℕ) → IsWorld w → k < length w.places → rest_tests (memory_in w t) (place_of w.places k).at (place_of w.places k).len ≡ None
+rest_pass : (w : World) (t k : ℕ) → IsWorld w → k < length w.places → rest_tests (memory_in w t) (place_of w.places k).at (length_of (place_of w.places k).original) ≡ None
 rest_pass w t k world lt =
     let p : Place = place_of w.places k in
-    let size : p.len ≡ length_of p.original = (world.places.each k no_place lt).size in
-    elim (sizes p.original) [
-      | inl two ↦ ap (rest_tests (memory_in w t) p.at) (size ∙ two) ∙ rest_two (memory_in w t) p.at
-      | inr more ↦ elim more [
-        | inl four ↦ ap (rest_tests (memory_in w t) p.at) (size ∙ four) ∙ rest_four (memory_in w t) p.at (later_none w t k (p.at + 2) world lt (omega arith) (omega (arith, size, four)))
-        | inr six ↦ ap (rest_tests (memory_in w t) p.at) (size ∙ six)
-            ∙ rest_six (memory_in w t) p.at (later_none w t k (p.at + 2) world lt (omega arith) (omega (arith, size, six))) (later_none w t k (p.at + 4) world lt (omega arith) (omega (arith, size, six)))
-      ]
-    ]
+    let is : IsPlace p = world.places.each k no_place lt in
+    rest_none (memory_in w t) p.at p.original p.len is.size
+    (λ i from to. later_reached (task_of w.job t).private w.job.images w.places p i is (world.inside k no_place lt) to)
+    (λ i from to. later_untouched (task_of w.job t).private w.job.images w.places k i world.places lt from to)
 
 half_here : (w : World) (t k : ℕ) (bytes : List ℕ) → IsWorld w → t < length w.job.tasks → k < length w.places → half_at (memory_in w t) bytes (place_of w.places k).at ≡ (place_of w.places k).original
 half_here w t k bytes world there lt = (world.seen t there k lt).original bytes
@@ -131,9 +36,8 @@ pub rest_read : (w : World) (t a p : ℕ) (bytes : List ℕ) → IsWorld w → t
 unfolding place_at
 rest_read w t a p bytes world there h =
     let k = found_at 0 a p w.places h in
-    let size : (place_of w.places k.0).len ≡ length_of (place_of w.places k.0).original = (world.places.each k.0 no_place k.1).size in
     subst (λ (b : ℕ). rest_tests (memory_in w t) b (length_of (half_at (memory_in w t) bytes b)) ≡ None) k.2
-    (ap (rest_tests (memory_in w t) (place_of w.places k.0).at) (ap length_of (half_here w t k.0 bytes world there k.1) ∙ sym size) ∙ rest_pass w t k.0 world k.1)
+    (ap (rest_tests (memory_in w t) (place_of w.places k.0).at) (ap length_of (half_here w t k.0 bytes world there k.1)) ∙ rest_pass w t k.0 world k.1)
 
 pub half_of_place : (w : World) (t a p : ℕ) (bytes : List ℕ) → IsWorld w → t < length w.job.tasks → place_at w a ≡ Some p → half_at (memory_in w t) bytes a ≡ original_at (plan_in w) p
 unfolding place_at

@@ -1,14 +1,15 @@
 -- The instructions that are kept are those that a task sees at their places.
-use Rattle.std.proofs.Common.{◌≡◌, ℕ, ◌+◌, ◌-◌, ◌*◌, ◌/◌, ◌%◌, ◌<◌, ◌≤◌, true, false, nat_lt, if◌then◌else◌, List, length, get_or, slice_index, refl, ap, ◌∙◌, arith, inl, inr, Bool}
+use Rattle.std.proofs.Common.{◌≡◌, ℕ, ◌+◌, ◌-◌, ◌*◌, ◌/◌, ◌%◌, ◌<◌, ◌≤◌, true, false, List, length, get_or, slice_index, refl, ap, ◌∙◌, arith, inl, inr}
 use Rattle.std.specs.List.{All}
 use Rattle.std.proofs.lemmas.Bool.{cases_lt, lt-ltb, le-ltb}
-use Rattle.cov_base.specs.Meaning.{length_of, Memory, ImageView, wrap, byte_at}
+use Rattle.std.proofs.lemmas.Bool.Decides.{nat_tests}
+use Rattle.cov_base.specs.Meaning.{length_of, ImageView, wrap, byte_at, can_reach}
 use Rattle.cov_base.proofs.Laws.{length_of-least}
 use Rattle.s370_decode.specs.declared.code.Code.{Code}
 use Rattle.module_area.specs.declared.places.Place.{Place}
 use Rattle.module_area.specs.Meaning.{no_place, place_of}
 use Rattle.module_area.specs.Images.{AreImages}
-use Rattle.brk_table.specs.Meaning.{TablesView, touches, memory_of, module_byte, module_code}
+use Rattle.brk_table.specs.Meaning.{TablesView, memory_of, module_byte, module_code}
 use Rattle.brk_table.specs.Places.{IsPlace, ArePlaces, IsIn}
 use Rattle.brk_table.specs.Kept.{code_in, code_by, later_half, IsCodeOf, AreCodes, IsKept, AreKept}
 use Rattle.brk_table.proofs.Laws.{not_touched}
@@ -22,12 +23,7 @@ module_half bytes loc len i = module_byte bytes loc len i * 256 + module_byte by
 
 even_length : (h : ℕ) → length_of h % 2 ≡ 0
 unfolding length_of
-even_length h = even (nat_lt h 16384) (nat_lt h 49152)
-  where
-    even : (b c : Bool) → (if b then 2 else (if c then 4 else 6)) % 2 ≡ 0
-    even true c = refl
-    even false true = refl
-    even false false = refl
+even_length h = grind (arith, nat_tests)
 
 -- a byte of a place is that of its module
 byte_there : (size : ℕ) (images : List ImageView) (places : List Place) (p : Place) (q : IsIn images p) (bytes : List ℕ) (i : ℕ) → size ≤ 1048576 → AreImages images → i < p.len
@@ -48,9 +44,20 @@ later_there size images places p q bytes i h f g even = elim (cases_lt i p.len) 
   | inr m ↦ rw (le-ltb i p.len m, le-ltb (i + 1) p.len (omega arith)) refl
 ]
 
-untouched : (size : ℕ) (images : List ImageView) (places : List Place) (x : ℕ) → touches places x ≡ false → (memory_of size images places).is_touch x ≡ false
+-- a later halfword of a place is reached, and is no place's first
+
+pub later_reached : (size : ℕ) (images : List ImageView) (places : List Place) (p : Place) (i : ℕ) → IsPlace p → IsIn images p → i + 2 ≤ p.len
+    → can_reach (memory_of size images places) (wrap (p.at + i)) 2 ≡ true
+later_reached size images places p i g q to =
+    let here : wrap (p.at + i) ≡ p.at + i = omega (arith, g.below) in
+    rw here (reach_image (memory_of size images places) (p.at + i) 2 (λ b low high. is_image-of size images places p q b (omega (arith, q.from)) (omega (arith, q.to))) (omega (arith, g.below)))
+
+pub later_untouched : (size : ℕ) (images : List ImageView) (places : List Place) (n i : ℕ) → ArePlaces places → n < length places → 2 ≤ i → i + 2 ≤ (place_of places n).len
+    → (memory_of size images places).is_touch (wrap ((place_of places n).at + i)) ≡ false
 unfolding memory_of
-untouched size images places x h = h
+later_untouched size images places n i are l from to =
+    let here : wrap ((place_of places n).at + i) ≡ (place_of places n).at + i = omega (arith, (are.each n no_place l).below) in
+    rw here (not_touched places n ((place_of places n).at + i) are l (omega arith) (omega arith))
 
 high : (x y : ℕ) → y < 256 → (x * 256 + y) / 256 ≡ x
 high x y l = omega arith
@@ -76,15 +83,10 @@ is_kept size images places n c h f are l is =
     let p : Place = place_of places n in
     let g : IsPlace p = are.each n no_place l in
     let q : IsIn images p = is.inside in
-    let m : Memory = memory_of size images places in
     let two : 2 ≤ p.len = omega (arith, g.size, length_of-least p.original) in
     record {
-      later_reached = λ i from to.
-          (let here : wrap (p.at + i) ≡ p.at + i = omega (arith, g.below) in
-          rw here (reach_image m (p.at + i) 2 (λ b low high. is_image-of size images places p q b (omega (arith, q.from)) (omega (arith, q.to))) (omega (arith, g.below))));
-      later_untouched = λ i from to.
-          (let here : wrap (p.at + i) ≡ p.at + i = omega (arith, g.below) in
-          rw here (untouched size images places (p.at + i) (not_touched places n (p.at + i) are l (omega arith) (omega arith))));
+      later_reached = λ i from to. later_reached size images places p i g q to;
+      later_untouched = λ i from to. later_untouched size images places n i are l from to;
       code = λ bytes. is.is
           ∙ (code_in-halves q.image p two q.original (rw is.is at is.bytes)
           ∙ rw (later_there size images places p q bytes 2 h f g refl, later_there size images places p q bytes 4 h f g refl) refl);
