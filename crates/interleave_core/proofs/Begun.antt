@@ -15,10 +15,10 @@ use Rattle.brk_table.specs.Places.{IsPlace}
 use Rattle.space_map.proofs.Laws.{later_reached, later_untouched}
 use Rattle.s370_exec.proofs.Laws.{solo_step-unread, solo_step-read, solo_step-ex, subject_step-refused, subject_step-unread}
 use Rattle.s370_exec.proofs.Laws.{subject_step-begun, rest_none}
+use Rattle.session_book.specs.Meaning.{task_of}
 use Rattle.interleave_core.specs.Meaning.{World, TaskPart, memory_in, plan_in, place_at, step_of, subject_place}
 use Rattle.interleave_core.specs.World.{IsWorld}
 use Rattle.interleave_core.proofs.Logs.{found_at, at_place}
-use Rattle.session_book.specs.Meaning.{task_of}
 
 rest_pass : (w : World) (t k : ℕ) → IsWorld w → k < length w.places → rest_tests (memory_in w t) (place_of w.places k).at (length_of (place_of w.places k).original) ≡ None
 rest_pass w t k world lt =

@@ -1,6 +1,6 @@
 -- A core before its first event, and what each core fits.
-use Rattle.std.proofs.Common.{◌≡◌, ◌⊎◌, inl, inr, ℕ, All, ◌+◌, ◌-◌, ◌*◌, ◌<◌, ◌≤◌, true, Some, List, [], ◌∷◌, ◌++◌, length, get_or, map, replicate, take, drop, min, slice_range, nat_lt, refl, sym, ◌∙◌, ap, subst, arith}
-use Rattle.std.proofs.lemmas.List.{get_or-map, length-map, length-replicate, length-append, ext_get_or, get_or_push, get_or_append_left, length-drop, take_all}
+use Rattle.std.proofs.Common.{◌≡◌, ◌⊎◌, inl, inr, ℕ, All, ◌+◌, ◌-◌, ◌*◌, ◌<◌, true, Some, List, [], ◌∷◌, ◌++◌, length, get_or, map, replicate, nat_lt, refl, sym, ◌∙◌, ap, subst, arith}
+use Rattle.std.proofs.lemmas.List.{get_or-map, length-map, length-replicate, length-append, ext_get_or, get_or_push, get_or_append_left}
 use Rattle.std.proofs.lemmas.Bool.{lt-ltb}
 use Rattle.cov_base.specs.Meaning.{FactSet, no_facts, is_within}
 use Rattle.cov_base.proofs.Laws.{within_none}
@@ -10,7 +10,6 @@ use Rattle.module_area.specs.Meaning.{index_of, set_in, fresh_word, word_at, no_
 use Rattle.module_area.specs.Rule.{IsPlan}
 use Rattle.module_area.specs.declared.cells.Cell.{Cell}
 use Rattle.session_book.specs.Meaning.{task_of, no_task}
-use Rattle.space_map.specs.Space.{row_of}
 use Rattle.space_map.proofs.Laws.{private_filled-as}
 use Rattle.interleave_core.specs.Meaning.{World, TaskPart, Parts, first_part, first_parts, plan_in, results_of, in_hand}
 use Rattle.interleave_core.specs.World.{IsWorld}
@@ -119,20 +118,6 @@ ready_parts w tasks are = ext_get_or (first_part no_task) (parts_of tasks) (map 
 pub parts_are : (w : World) (cells : List Cell) (sets : List FactSet) (tasks : List RunningView) → cells ≡ map fresh_word w.places → sets ≡ replicate (length w.job.sessions * length w.places) no_facts →
     AreReady w (length w.job.tasks) tasks → ◌≡◌ {A = Parts} (record { cells = cells; sets = sets; tasks = parts_of tasks }) (first_parts w)
 parts_are w cells sets tasks is_cells is_sets are = rw (is_cells, is_sets, ready_parts w tasks are) refl
-
--- a row of private storage, by its bounds
-row_at : (bytes : List ℕ) (from n : ℕ) → from ≤ length bytes → (from + 16 ≤ length bytes) ⊎ (length bytes ≤ from + 16) → n ≡ min (from + 16) (length bytes) - from →
-    take 16 (drop from bytes) ≡ take n (drop from bytes)
-row_at bytes from n l (inl whole) e = let same : n ≡ 16 = omega arith in rw same refl
-row_at bytes from n l (inr short) e =
-    let size : length (drop from bytes) ≡ length bytes - from = length-drop from bytes in
-    take_all 16 (drop from bytes) (omega (arith, size)) ∙ sym (take_all n (drop from bytes) (omega (arith, size)))
-
-whole_or : (a b : ℕ) → (a ≤ b) ⊎ (b ≤ a)
-whole_or a b = grind arith
-
-pub row_range : (bytes : List ℕ) (n : ℕ) → 16 * n ≤ length bytes → row_of bytes n ≡ slice_range bytes (16 * n) (min (16 * n + 16) (length bytes))
-row_range bytes n l = row_at bytes (16 * n) _ l (whole_or (16 * n + 16) (length bytes)) refl
 
 -- a core before its first event is one
 pub IsCore-first : (w : World) (cells : List Cell) (sets : List FactSet) (plan : PlanView) (tasks : List RunningView) → IsJob w.job → length w.job.phases ≡ 1 → plan ≡ plan_in w → IsPlan (plan_in w) → ArePlaces w.places → All (IsIn w.job.images) w.places →

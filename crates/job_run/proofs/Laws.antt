@@ -6,4 +6,5 @@ pub use Rattle.job_run.proofs.EquipLemmas.{begun_in}
 pub use Rattle.job_run.proofs.PhaseLemmas.{written}
 pub use Rattle.job_run.proofs.SessionLemmas.{window_at-session, phase_in, set_is_left}
 pub use Rattle.job_run.proofs.SlotLemmas.{is_over_begun, plan_here, traces-map}
-pub use Rattle.job_run.proofs.TaskLemmas.{begun_run, begun_walk, private_of, still_filled, AreRun-start, all_ended, row_range}
+pub use Rattle.job_run.proofs.TaskLemmas.{begun_run, begun_walk, private_of, still_filled, AreRun-start, all_ended}
+pub use Rattle.space_map.proofs.Laws.{row_range}

@@ -1,8 +1,8 @@
 -- Tasks before and after their runs.
-use Rattle.std.proofs.Common.{◌≡◌, ◌≢◌, ◌⊎◌, inl, inr, ℕ, ◌+◌, ◌*◌, ◌<◌, ◌≤◌, ◌^◌, Bool, true, false, nat_eq, nat_lt, Option, Some, None, List, [], ◌∷◌, ◌++◌, length, get_or, take, drop, min, slice_range, ◌-◌, refl, sym, ◌∙◌, ap, subst, arith}
+use Rattle.std.proofs.Common.{◌≡◌, ◌≢◌, ◌⊎◌, inl, inr, ℕ, ◌+◌, ◌*◌, ◌<◌, ◌≤◌, ◌^◌, Bool, true, false, nat_eq, nat_lt, Option, Some, None, List, [], ◌∷◌, ◌++◌, length, get_or, ◌-◌, refl, sym, ◌∙◌, ap, subst, arith}
 use Rattle.std.proofs.lemmas.Bool.Decides.{nat_tests}
 use Rattle.std.proofs.lemmas.Bool.{eq-eqb, ltb-true, lt-ltb}
-use Rattle.std.proofs.lemmas.List.{get_or-map, get_or_append_left, length-map, length-drop, take_all}
+use Rattle.std.proofs.lemmas.List.{get_or-map, get_or_append_left, length-map}
 use Rattle.std.proofs.Math.Seq.{get_or-append_seam}
 use Rattle.std.proofs.lemmas.List.Elements.{All-get_or}
 use Rattle.cov_base.specs.Meaning.{FactSet, Memory, ImageView, State}
@@ -18,7 +18,7 @@ use Rattle.task_run.specs.Steps.{stands}
 use Rattle.session_book.specs.Meaning.{JobView, ResultView, task_of, no_task}
 use Rattle.phase_plan.specs.Meaning.{plan_view}
 use Rattle.session_book.specs.JobView.{IsJob, IsTask}
-use Rattle.space_map.specs.Space.{SpaceView, memory_of_space, row_of}
+use Rattle.space_map.specs.Space.{SpaceView, memory_of_space}
 use Rattle.job_run.specs.Meaning.{run_by, walk_by, result_by, result_of_run, no_finals}
 use Rattle.job_run.specs.Passes.{Runs}
 use Rattle.job_run.specs.Slots.{dones, in_phase, HaveExtras, HaveAllExtras, KeepsOthers}
@@ -198,17 +198,3 @@ HaveAllExtras-next ends j places next finals f old new count a keeps last = reco
           subst (λ (g : FinalsView). HasExtra ends j places (set_at g) t (get_or new t d)) (sym (get_or_append_left finals (f ∷ []) no_finals phase (omega (arith, l, count))))
           (extra_same ends j places (set_at (get_or finals phase no_finals)) t (get_or old t d) (get_or new t d) (keeps.done t d there out) (keeps.extra t d there out) ((a.each phase l).each t d there h));
     }
-
--- a row of private storage, by its bounds
-row_at : (bytes : List ℕ) (from n : ℕ) → from ≤ length bytes → (from + 16 ≤ length bytes) ⊎ (length bytes ≤ from + 16) → n ≡ min (from + 16) (length bytes) - from →
-    take 16 (drop from bytes) ≡ take n (drop from bytes)
-row_at bytes from n l (inl whole) e = let same : n ≡ 16 = omega arith in rw same refl
-row_at bytes from n l (inr short) e =
-    let size : length (drop from bytes) ≡ length bytes - from = length-drop from bytes in
-    take_all 16 (drop from bytes) (omega (arith, size)) ∙ sym (take_all n (drop from bytes) (omega (arith, size)))
-
-whole_or : (a b : ℕ) → (a ≤ b) ⊎ (b ≤ a)
-whole_or a b = grind arith
-
-pub row_range : (bytes : List ℕ) (n : ℕ) → 16 * n ≤ length bytes → row_of bytes n ≡ slice_range bytes (16 * n) (min (16 * n + 16) (length bytes))
-row_range bytes n l = row_at bytes (16 * n) _ l (whole_or (16 * n + 16) (length bytes)) refl

@@ -1,5 +1,6 @@
 mod ImageLemmas
 mod Ranges
+mod RowLemmas
 mod Touches
 mod Seen
 mod Kept

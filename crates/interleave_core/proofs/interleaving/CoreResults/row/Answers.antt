@@ -1,7 +1,8 @@
 use Rattle.std.proofs.Common.{◌≡◌, ◌<◌, ℕ, List, length, sym, ◌∙◌, ap, subst, arith}
+use Rattle.space_map.proofs.Laws.{row_range}
 use Rattle.interleave_core.specs.Meaning.{results_of, Parts}
 use Rattle.interleave_core.specs.Views.{CoreView, RunningView, parts_of}
-use Rattle.interleave_core.proofs.Starts.{bytes_read, row_range}
+use Rattle.interleave_core.proofs.Starts.{bytes_read}
 use Rattle.interleave_core.proofs.interleaving.CoreResults.row.Goals as goal
 
 pub returns : goal.returns

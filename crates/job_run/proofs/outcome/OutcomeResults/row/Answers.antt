@@ -3,7 +3,7 @@ use Rattle.std.proofs.lemmas.List.{get_or-map}
 use Rattle.session_book.specs.Meaning.{ResultView}
 use Rattle.job_run.specs.Tasks.{done_result, no_result, results_of}
 use Rattle.job_run.specs.declared.outcome.Done.{Done}
-use Rattle.job_run.proofs.TaskLemmas.{row_range}
+use Rattle.space_map.proofs.Laws.{row_range}
 use Rattle.job_run.proofs.outcome.OutcomeResults.row.Goals as goal
 
 pub returns : goal.returns
