@@ -1,5 +1,5 @@
 -- The supervisor call that a step executes, by the tests of its halfwords.
-use Rattle.std.proofs.Common.{◌≡◌, ℕ, Bool, if◌then◌else◌, Option, Some, None, List, refl, sym, ◌∙◌, ap}
+use Rattle.std.proofs.Common.{◌≡◌, ℕ, Bool, if◌then◌else◌, Option, Some, None, refl, ◌∙◌}
 use Rattle.std.specs.Option.{option_or}
 use Rattle.cov_base.specs.Meaning.{length_of, Memory, half_at, State}
 use Rattle.s370_state.specs.declared.endings.Ending.{Ending}
@@ -7,7 +7,7 @@ use Rattle.s370_decode.specs.Meaning.{first_half, ex}
 use Rattle.s370_decode.specs.declared.code.Code.{Code}
 use Rattle.s370_exec.specs.Meaning.{call_in, unless_ended, subject_call, call_of, first_tests, rest_tests, subject_tests, code_at, is_execute, merged}
 use Rattle.s370_exec.specs.Fetch.{whole_tests}
-use Rattle.s370_exec.proofs.Subjects.{first_half-code_at}
+use Rattle.s370_exec.proofs.Subjects.{execute-code_at}
 
 subject_call-at : (m : Memory) (s : State) (c : Code) (a h : ℕ) (first rest : Option Ending) (x : Code) → a ≡ ex s.machine.cpu c → h ≡ half_at m s.machine.bytes a →
     first_tests m a ≡ first → subject_tests m a h ≡ rest → x ≡ merged s.machine.cpu c (code_at m s.machine.bytes a h) →
@@ -43,9 +43,6 @@ by_none (Some f) rest call h = let k : Some f ≡ None = h in absurd cc
 by_none None (Some f) call h = let k : Some f ≡ None = h in absurd cc
 by_none None None call h = refl
 
-half_of_code : (m : Memory) (bytes : List ℕ) (a : ℕ) (c : Code) (b : Bool) → c ≡ code_at m bytes a (half_at m bytes a) → is_execute (first_half c) ≡ b → is_execute (half_at m bytes a) ≡ b
-half_of_code m bytes a c b code h = sym (ap is_execute (ap first_half code ∙ first_half-code_at m bytes a (half_at m bytes a))) ∙ h
-
 -- the instruction isn't fetched whole
 pub call_of-unread : (m : Memory) (s : State) (a : ℕ) (e : Ending) → a ≡ s.machine.cpu.ia → whole_tests m s.machine.bytes a ≡ Some e → call_of m s ≡ None
 call_of-unread m s a e at h = call_of-at m s a (half_at m s.machine.bytes a) _ _ _ _ at refl refl refl refl refl ∙ by_tests (first_tests m a) _ e _ h
@@ -54,4 +51,4 @@ call_of-unread m s a e at h = call_of-at m s a (half_at m s.machine.bytes a) _ _
 pub call_of-read : (m : Memory) (s : State) (a : ℕ) (c : Code) (b : Bool) → a ≡ s.machine.cpu.ia → whole_tests m s.machine.bytes a ≡ None →
     c ≡ code_at m s.machine.bytes a (half_at m s.machine.bytes a) → is_execute (first_half c) ≡ b → call_of m s ≡ (if b then subject_call m s c else call_in c)
 call_of-read m s a c b at h code execute =
-    call_of-at m s a (half_at m s.machine.bytes a) _ _ c b at refl refl refl code (half_of_code m s.machine.bytes a c b code execute) ∙ by_none (first_tests m a) _ _ h
+    call_of-at m s a (half_at m s.machine.bytes a) _ _ c b at refl refl refl code (execute-code_at m s.machine.bytes a c b code execute) ∙ by_none (first_tests m a) _ _ h

@@ -1,5 +1,5 @@
 -- The solo step by the tests of its halfwords.
-use Rattle.std.proofs.Common.{◌≡◌, ◌⊎◌, inl, inr, ℕ, Bool, true, false, Option, Some, None, List, [], ◌∷◌, refl, sym, ◌∙◌, ap}
+use Rattle.std.proofs.Common.{◌≡◌, ◌⊎◌, inl, inr, ℕ, Bool, true, false, Option, Some, None, [], ◌∷◌, refl, sym, ◌∙◌, ap}
 use Rattle.std.specs.Option.{option_or}
 use Rattle.cov_base.specs.Meaning.{length_of, Memory, half_at, State}
 use Rattle.s370_state.specs.declared.endings.Ending.{Ending}
@@ -9,7 +9,7 @@ use Rattle.s370_branch.specs.Meaning.{goes}
 use Rattle.s370_exec.specs.Meaning.{Effect, effect, updated, link_code, first_tests, rest_tests, subject_tests, code_at, is_execute, merged, solo_step, from_first, fetched, ended, stepped, begun_step, visit, subject_step, subject_fetched, subject_begun, behind, visit_of}
 use Rattle.s370_exec.specs.Fetch.{whole_tests}
 use Rattle.s370_exec.specs.Solo.{subject_seen}
-use Rattle.s370_exec.proofs.Subjects.{first_half-code_at, at-code_at, at-merged, execute_stays}
+use Rattle.s370_exec.proofs.Subjects.{first_half-code_at, at-code_at, at-merged, execute_stays, execute-code_at}
 
 -- the first halfword is refused
 pub solo_step-refused : (m : Memory) (s : State) (a : ℕ) (e : Ending) → a ≡ s.machine.cpu.ia → first_tests m a ≡ Some e → solo_step m s ≡ ended s e []
@@ -134,23 +134,20 @@ pub unread-went : (m : Memory) (s : State) (a : ℕ) (e : Ending) → a ≡ s.ma
     (visit_of (solo_step m s) false).went ≡ false
 unread-went m s a e at h = elim (solo_step-unread m s a e at h) [ inl k ↦ ap (λ r. (visit_of r false).went) k | inr k ↦ ap (λ r. (visit_of r false).went) k ]
 
-half_of_code : (m : Memory) (bytes : List ℕ) (a : ℕ) (c : Code) (b : Bool) → c ≡ code_at m bytes a (half_at m bytes a) → is_execute (first_half c) ≡ b → is_execute (half_at m bytes a) ≡ b
-half_of_code m bytes a c b code h = sym (ap is_execute (ap first_half code ∙ first_half-code_at m bytes a (half_at m bytes a))) ∙ h
-
 -- it is, and is no EX
 pub solo_step-read : (m : Memory) (s : State) (a : ℕ) (c : Code) (e : Effect) → a ≡ s.machine.cpu.ia → whole_tests m s.machine.bytes a ≡ None →
     c ≡ code_at m s.machine.bytes a (half_at m s.machine.bytes a) → is_execute (first_half c) ≡ false →
     e ≡ effect m s.machine s.io c (op_of (first_half c)) (updated c None) (link_code c None) →
     solo_step m s ≡ stepped s e (visit s a true (goes (op_of (first_half c)) s.machine.cpu c) false ∷ [])
 solo_step-read m s a c e at h code other made =
-    solo_step-begun m s a (half_at m s.machine.bytes a) c e at (or_none-first _ _ h) refl (or_none-rest (first_tests m a) _ h) code (half_of_code m s.machine.bytes a c false code other) made
+    solo_step-begun m s a (half_at m s.machine.bytes a) c e at (or_none-first _ _ h) refl (or_none-rest (first_tests m a) _ h) code (execute-code_at m s.machine.bytes a c false code other) made
 
 -- it is, and is an EX
 pub solo_step-ex : (m : Memory) (s : State) (a : ℕ) (c : Code) → a ≡ s.machine.cpu.ia → whole_tests m s.machine.bytes a ≡ None →
     c ≡ code_at m s.machine.bytes a (half_at m s.machine.bytes a) → is_execute (first_half c) ≡ true →
     solo_step m s ≡ behind (visit s a true (goes (op_of (first_half c)) s.machine.cpu c) false) (subject_step m s c)
 solo_step-ex m s a c at h code execute =
-    solo_step-execute m s a (half_at m s.machine.bytes a) c at (or_none-first _ _ h) refl (or_none-rest (first_tests m a) _ h) code (half_of_code m s.machine.bytes a c true code execute)
+    solo_step-execute m s a (half_at m s.machine.bytes a) c at (or_none-first _ _ h) refl (or_none-rest (first_tests m a) _ h) code (execute-code_at m s.machine.bytes a c true code execute)
 
 went_by : (m : Memory) (s : State) (a : ℕ) (c : Code) (b : Bool) → a ≡ s.machine.cpu.ia → whole_tests m s.machine.bytes a ≡ None →
     c ≡ code_at m s.machine.bytes a (half_at m s.machine.bytes a) → is_execute (first_half c) ≡ b →

@@ -1,15 +1,15 @@
 -- The subject of EX as it is executed: the operation stays.
-use Rattle.std.proofs.Common.{◌≡◌, ℕ, ◌+◌, ◌*◌, ◌/◌, ◌%◌, ◌<◌, ◌==◌, Bool, true, false, if◌then◌else◌, List, refl, ap, arith}
+use Rattle.std.proofs.Common.{◌≡◌, ℕ, ◌+◌, ◌*◌, ◌/◌, ◌%◌, ◌<◌, ◌==◌, Bool, true, false, if◌then◌else◌, List, refl, sym, ◌∙◌, ap, arith}
 use Rattle.std.specs.Prelude.{slice_index, bit_or}
 use Rattle.std.proofs.lemmas.Bool.{eqb-true}
 use Rattle.std.proofs.lemmas.Nat.{or_of_8}
-use Rattle.cov_base.specs.Meaning.{Memory, CpuView}
+use Rattle.cov_base.specs.Meaning.{Memory, CpuView, half_at}
 use Rattle.s370_decode.specs.Meaning.{first_half, r1, op_of, op_in, operations}
 use Rattle.s370_decode.specs.declared.code.Code.{Code}
 use Rattle.s370_branch.specs.Meaning.{goes}
 use Rattle.s370_exec.specs.Meaning.{code_at, is_execute, modifier, merged}
 
-modifier-below : (s : CpuView) (c : Code) → modifier s c < 256
+pub modifier-below : (s : CpuView) (c : Code) → modifier s c < 256
 modifier-below s c = by_zero (r1 c == 0) (slice_index s.regs (r1 c))
   where
     by_zero : (z : Bool) (v : ℕ) → (if z then 0 else v % 256) < 256
@@ -19,6 +19,10 @@ modifier-below s c = by_zero (r1 c == 0) (slice_index s.regs (r1 c))
 pub first_half-code_at : (m : Memory) (bytes : List ℕ) (a h : ℕ) → first_half (code_at m bytes a h) ≡ h
 unfolding code_at
 first_half-code_at m bytes a h = omega arith
+
+-- whether the code that was read is an EX, its first halfword tells
+pub execute-code_at : (m : Memory) (bytes : List ℕ) (a : ℕ) (c : Code) (b : Bool) → c ≡ code_at m bytes a (half_at m bytes a) → is_execute (first_half c) ≡ b → is_execute (half_at m bytes a) ≡ b
+execute-code_at m bytes a c b code h = sym (ap is_execute (ap first_half code ∙ first_half-code_at m bytes a (half_at m bytes a))) ∙ h
 
 pub at-code_at : (m : Memory) (bytes : List ℕ) (a h : ℕ) → (code_at m bytes a h).at ≡ a
 unfolding code_at

@@ -1,14 +1,13 @@
 -- The supervisor call of a step, by its instruction's first halfword.
-use Rattle.std.proofs.Common.{◌≡◌, ℕ, ◌+◌, ◌*◌, ◌/◌, ◌%◌, ◌<◌, ◌==◌, Bool, true, false, if◌then◌else◌, Some, None, List, sym, ◌∙◌, ap, arith}
-use Rattle.std.specs.Prelude.{slice_index}
+use Rattle.std.proofs.Common.{◌≡◌, ℕ, ◌+◌, ◌*◌, ◌/◌, ◌%◌, ◌<◌, ◌==◌, true, false, if◌then◌else◌, Some, None, List, sym, ◌∙◌, ap, arith}
 use Rattle.std.specs.Option.{option_or}
 use Rattle.std.proofs.lemmas.Nat.{or_of_8}
 use Rattle.cov_base.specs.Meaning.{length_of, Memory, half_at, CpuView, State}
 use Rattle.s370_state.specs.declared.endings.Ending.{Ending}
-use Rattle.s370_decode.specs.Meaning.{part, first_half, ex, r1}
+use Rattle.s370_decode.specs.Meaning.{part, first_half, ex}
 use Rattle.s370_decode.specs.declared.code.Code.{Code}
 use Rattle.s370_exec.specs.Meaning.{call_in, call_of, subject_call, first_tests, rest_tests, subject_tests, code_at, is_execute, modifier, merged}
-use Rattle.s370_exec.proofs.Laws.{call_of-unread, call_of-read, subject_call-read, first_half-code_at}
+use Rattle.s370_exec.proofs.Laws.{call_of-unread, call_of-read, subject_call-read, first_half-code_at, modifier-below}
 use Rattle.task_run.specs.Called.{call_at}
 
 -- an instruction whose second byte is one
@@ -56,11 +55,7 @@ call_of-begun m s a h c at none half tests code other =
 -- the subject of an EX: ORing leaves a byte a byte
 merged_small : (m : Memory) (bytes : List ℕ) (a h : ℕ) (s : CpuView) (c : Code) → part (merged s c (code_at m bytes a h)) 1 < 256
 unfolding merged code_at
-merged_small m bytes a h s c = or_of_8 (h % 256) (modifier s c) (omega arith) (by_zero (r1 c == 0) (slice_index s.regs (r1 c)))
-  where
-    by_zero : (z : Bool) (v : ℕ) → (if z then 0 else v % 256) < 256
-    by_zero true v = omega arith
-    by_zero false v = omega arith
+merged_small m bytes a h s c = or_of_8 (h % 256) (modifier s c) (omega arith) (modifier-below s c)
 
 pub subject_call-begun : (m : Memory) (s : State) (c : Code) (a h k : ℕ) (x : Code) → a ≡ ex s.machine.cpu c → first_tests m a ≡ None → h ≡ half_at m s.machine.bytes a → subject_tests m a h ≡ None →
     x ≡ merged s.machine.cpu c (code_at m s.machine.bytes a h) → k ≡ first_half x → subject_call m s c ≡ call_at k
