@@ -78,7 +78,7 @@ pub record Changed (w : World) (c : Parts) (closes : Bool) (s p : ℕ) (x : Step
   pub place : change.place.0 ≡ p
   pub made : x ≡ changed w c task (part_of c task) change
 
-same_way : (a b : Bool) → (if a then b else not b) ≡ true → b ≡ a
+pub same_way : (a b : Bool) → (if a then b else not b) ≡ true → b ≡ a
 same_way true true h = refl
 same_way false false h = refl
 same_way true false h = absurd cc

@@ -29,7 +29,7 @@ use Rattle.interleave_core.specs.declared.stage.Stage.{Stage}
 use Rattle.interleave_core.specs.declared.stage.Stage.TheVariants.{Holding, Ended}
 use Rattle.interleave_core.specs.Views.{AreTied}
 use Rattle.interleave_core.proofs.Changes.{Changed, plant_cases, close_by, logs_whole, logs_plant, logs_close}
-use Rattle.interleave_core.proofs.Runs.{got, lifted_tasks, exists_by, through}
+use Rattle.interleave_core.proofs.Runs.{got, lifted_tasks, exists_by, through, session_of_window}
 use Rattle.interleave_core.proofs.Logs.{one_log, changed_log, got_step}
 use Rattle.interleave_core.proofs.Tied.{tied_step, tied_first}
 use Rattle.interleave_core.proofs.Rule.{Ruled, HasBreakpoint, IsMarked, AreMarked, entry_in, InStage, held_hand, view_at}
@@ -238,9 +238,6 @@ met_before plan p c v x h = more-add_if (is_lifted plan p c) x (tag_session c.ta
 abbrev Tells : PlanView → View → ℕ → ℕ → Fact → Type 0
 Tells plan v s p f = Has (s, p, f) v.marked ⊎ (Has (s, p) v.full × (is_of_kind (kind_at plan p) f ≡ true))
 
-of_tag : (t s : ℕ) → 0 < s → t ≡ window_tag s → tag_session t ≡ s
-of_tag t s pos h = omega arith
-
 odd_tag : (t s : ℕ) → 0 < s → t ≡ window_tag s → t % 2 ≡ 1
 odd_tag t s pos h = omega arith
 
@@ -257,7 +254,7 @@ entry_tells w e v s f is marks pos tag fact = by is.form
     plan = plan_in w
 
     same : tag_session e.cell.tag ≡ s
-    same = of_tag e.cell.tag s pos tag
+    same = ap tag_session tag ∙ session_of_window s pos
 
     met : is_lifted (plan_in w) e.place e.cell ≡ true → Tells (plan_in w) (with_notes (plan_in w) e v) s e.place f
     met there =

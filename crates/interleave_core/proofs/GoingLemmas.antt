@@ -26,7 +26,7 @@ use Rattle.interleave_core.specs.declared.stage.Stage.{Stage}
 use Rattle.interleave_core.specs.declared.stage.Stage.TheVariants.{Ready, Awaiting, Holding, Ended}
 use Rattle.interleave_core.proofs.Changes.{goes_on, Changed, plant_cases, close_by}
 use Rattle.interleave_core.proofs.Nexts.{next_by}
-use Rattle.interleave_core.proofs.Runs.{in_hand-stage}
+use Rattle.interleave_core.proofs.Runs.{in_hand-stage, same_due-true}
 use Rattle.interleave_core.proofs.Turns.{due_below}
 
 abbrev due_left : Due → ℕ
@@ -177,17 +177,6 @@ mapped : {A B : Type 0} (f : A → B) (o : Option A) (x : B) → option_map f o 
 mapped f None x e = absurd cc
 mapped f (Some a) x e = let same : f a ≡ x = cc in (a, refl, same)
 
-same_due_is : (a b : Due) → same_due a b ≡ true → a ≡ b
-same_due_is Marking Marking e = refl
-same_due_is Lifting Lifting e = refl
-same_due_is Nothing Nothing e = refl
-same_due_is Marking Lifting e = absurd cc
-same_due_is Marking Nothing e = absurd cc
-same_due_is Lifting Marking e = absurd cc
-same_due_is Lifting Nothing e = absurd cc
-same_due_is Nothing Marking e = absurd cc
-same_due_is Nothing Lifting e = absurd cc
-
 mark_due_less : (b : Bool) → due_left (if b then Lifting else Nothing) < due_left Marking
 mark_due_less true = omega arith
 mark_due_less false = omega arith
@@ -218,7 +207,7 @@ marked_less w c t x e =
     let m = mapped (fact_marked w c t u) (in_hand Marking u.stage) x here.1 in
     let h = m.0 in
     let held = in_hand-stage Marking u.stage h m.1 in
-    let due : h.due ≡ Marking = same_due_is h.due Marking held.1 in
+    let due : h.due ≡ Marking = same_due-true h.due Marking held.1 in
     let full = is_full (kind_at (plan_in w) h.place.0) (with_fact (set_of w c (tag_session h.cell.tag) h.place.0) (fact_in w t u h)) in
     let d = if full then Lifting else Nothing in
     let v = with_due u h d in
@@ -234,7 +223,7 @@ lifted_less w c t x e =
     let m = mapped (lifted w c t u) (in_hand Lifting u.stage) x here.1 in
     let h = m.0 in
     let held = in_hand-stage Lifting u.stage h m.1 in
-    let due : h.due ≡ Lifting = same_due_is h.due Lifting held.1 in
+    let due : h.due ≡ Lifting = same_due-true h.due Lifting held.1 in
     let less : due_left Nothing < due_left h.due = rw due (omega arith) in
     rw (← m.2) (by_cell u h held.0 less (exists c t _ refl here.0) (same_cell (word_at c.cells h.place.0) h.cell))
   where

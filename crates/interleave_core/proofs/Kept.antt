@@ -21,7 +21,7 @@ use Rattle.session_book.specs.Meaning.{no_task}
 use Rattle.interleave_core.specs.Meaning.{World, TaskPart, Parts, plan_in, place_at, first_part, Stepped, of_existing, task_replaced, with_stage, with_due, with_cell, place_due, is_spent, is_awaiting, subject_place, step_of, due_after_fetch, in_hand, same_due, cell_fetched, fact_marked, lifted, done_by, task_done, task_goes_on, parts_step, set_of, fact_in, original_under, same_cell, hand_at, executed, stage_after, awaits_or, instruction_executed}
 use Rattle.interleave_core.specs.Views.{CoreView, RunningView, IsRunning, IsStage, IsHand, AreTied, IsCore, parts_of}
 use Rattle.interleave_core.proofs.Changes.{goes_on}
-use Rattle.interleave_core.proofs.Runs.{same_or, in_hand-stage}
+use Rattle.interleave_core.proofs.Runs.{same_or, in_hand-stage, session_of_window}
 use Rattle.interleave_core.proofs.Tied.{tied_step}
 use Rattle.interleave_core.specs.declared.events.Event.{Event}
 use Rattle.interleave_core.specs.declared.events.Shown.{Shown}
@@ -273,11 +273,8 @@ hand_due w cells sets plan tasks t r due h is lt read e some =
 pub due_hand : (w : World) (t : ℕ) (u : TaskPart) (h g : Hand) (d : Due) → HandDue w t u h → g ≡ record h { due = d } → IsHand w g
 due_hand w t u h g d is e = subst (λ (x : Hand). IsHand w x) (sym e) (record { place = is.hand.place; planted = λ n. (is.session, is.some, is.over, is.planted) })
 
-session_of : (s : ℕ) → 0 < s → tag_session (window_tag s) ≡ s
-session_of s some = omega (arith, some)
-
 session_is : (w : World) (t : ℕ) (u : TaskPart) (h : Hand) (due : HandDue w t u h) → tag_session h.cell.tag ≡ due.session
-session_is w t u h due = ap (λ (c : Cell). tag_session c.tag) due.planted ∙ session_of due.session due.some
+session_is w t u h due = ap (λ (c : Cell). tag_session c.tag) due.planted ∙ session_of_window due.session due.some
 
 half_of : (s : ℕ) → 0 < s → s - 1 ≡ window_tag s / 2
 half_of s some = omega (arith, some)

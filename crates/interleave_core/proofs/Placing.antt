@@ -2,7 +2,7 @@
 use Rattle.std.proofs.Common.{◌≡◌, inl, inr, ℕ, ◌+◌, ◌*◌, ◌<◌, ◌≤◌, Bool, true, false, not, ◌||◌, nat_eq, nat_lt, if◌then◌else◌, Option, Some, None, is_some, List, length, get_or, set, refl, sym, ◌∙◌, ap, subst, arith, eqb-true}
 use Rattle.std.specs.Option.{option_and_then}
 use Rattle.std.proofs.lemmas.Bool.Decides.{nat_tests}
-use Rattle.std.proofs.lemmas.List.{get_or-map, length-set, length-map}
+use Rattle.std.proofs.lemmas.List.{length-set, length-map}
 use Rattle.std.proofs.lemmas.Bool.{ltb-true, or_right}
 use Rattle.cov_base.specs.Meaning.{FactSet}
 use Rattle.cov_base.specs.declared.limits.TheConstants.{SESSION_LIMIT, PLACE_LIMIT}
@@ -20,11 +20,12 @@ use Rattle.interleave_core.specs.declared.events.Event.TheVariants.{Plant, Close
 use Rattle.interleave_core.specs.declared.events.Shown.TheVariants.{Planted, Closed}
 use Rattle.interleave_core.specs.declared.stage.Stage.{Stage}
 use Rattle.interleave_core.specs.declared.stage.Stage.TheVariants.{Ready, Awaiting, Holding, Ended}
-use Rattle.interleave_core.proofs.Changes.{may_by}
+use Rattle.interleave_core.proofs.Changes.{may_by, same_way}
 use Rattle.interleave_core.proofs.ControlLemmas.{few_places}
 use Rattle.interleave_core.proofs.Kept.{moved_core, running_with, stages_with, words_with, read_running, read_stage, parts_with, tied_by}
 use Rattle.interleave_core.proofs.Tied.{tied_window}
 use Rattle.interleave_core.proofs.Turns.{IsListed, by_at, listed, IsChange, due_is}
+use Rattle.interleave_core.proofs.Starts.{part_read}
 
 -- ---- a whole session
 
@@ -53,12 +54,6 @@ record IsDue (w : World) (c : Parts) (closes : Bool) (s : ℕ) (p : PlaceNo) (t 
   there : t < length c.tasks
   due : change_due w t (part_of c t) (part_of c t).stage ≡ Some (record { closes = closes; session = s; place = p })
   step : of_existing c t (change_step w c closes s p.0 t) ≡ Some (changed w c t (part_of c t) (record { closes = closes; session = s; place = p }))
-
-same_way : (a b : Bool) → (if a then b else not b) ≡ true → b ≡ a
-same_way true true h = refl
-same_way false false h = refl
-same_way true false h = absurd cc
-same_way false true h = absurd cc
 
 same_place : (p q : PlaceNo) → p.0 ≡ q.0 → p ≡ q
 same_place p q h = ap (λ (n : ℕ). record { 0 = n }) h
@@ -89,9 +84,6 @@ is_due w c closes s p t h = by (nat_lt t (length c.tasks)) refl h
     by false e k = let f : false ≡ true = k in absurd cc
     by true e k = due_of w c closes s p t (change_due w t (part_of c t) (part_of c t).stage) e refl k
 
-read_part : (tasks : List RunningView) (t : ℕ) (m : RunningView) → t < length tasks → m ≡ get_or tasks t m → get_or (parts_of tasks) t (first_part no_task) ≡ m.part
-read_part tasks t m lt read = get_or-map (λ (r : RunningView). r.part) tasks t m (first_part no_task) lt ∙ ap (λ (r : RunningView). r.part) (sym read)
-
 in_tasks : (tasks : List RunningView) (t : ℕ) → t < length tasks → t < length (parts_of tasks)
 in_tasks tasks t lt = subst (λ n. t < n) (sym (length-map tasks (λ (r : RunningView). r.part))) lt
 
@@ -103,7 +95,7 @@ of_turn w t n i plan lt =
 due_change : (w : World) (cells : List Cell) (sets : List FactSet) (plan : PlanView) (tasks : List RunningView) (t : ℕ) (m : RunningView) (x : PlaceChange) →
     IsCore w cells sets plan tasks → t < length tasks → m ≡ get_or tasks t m → change_due w t m.part m.part.stage ≡ Some x → IsChange w cells t m.part x
 due_change w cells sets plan tasks t m x is lt read due =
-    due_is w cells t m.part m.part.stage x is.is_plan (subst (λ (u : TaskPart). IsTied w cells t u) (read_part tasks t m lt read) (is.tied t (in_tasks tasks t lt))) due
+    due_is w cells t m.part m.part.stage x is.is_plan (subst (λ (u : TaskPart). IsTied w cells t u) (part_read tasks t m lt read) (is.tied t (in_tasks tasks t lt))) due
 
 -- the place that is due of a task is in range
 pub placed : (w : World) (cells : List Cell) (sets : List FactSet) (plan : PlanView) (tasks : List RunningView) (t s p : ℕ) (m : RunningView) (x : PlaceChange) →
@@ -121,7 +113,7 @@ placed w cells sets plan tasks t s p m x is lt read due session place =
       some = subst (λ (n : ℕ). 0 < n) session is_change.own.positive;
       few = subst (λ (n : ℕ). n ≤ SESSION_LIMIT) session (omega (arith, small, most));
       inside = subst (λ (n : ℕ). n < length w.places) place is_change.own.inside;
-      room = subst (λ (u : TaskPart). u.changed < PLACE_LIMIT) (sym (read_part tasks t m lt read)) room;
+      room = subst (λ (u : TaskPart). u.changed < PLACE_LIMIT) (sym (part_read tasks t m lt read)) room;
     }
 
 pub change_possible : (w : World) (cells : List Cell) (sets : List FactSet) (tasks : List RunningView) (closes : Bool) (s : ℕ) (p : PlaceNo) (t : ℕ) (m n : RunningView) (x : Cell) →
@@ -133,7 +125,7 @@ change_possible w cells sets tasks closes s p t m n x lt read some is_x e =
     let P : Parts = record { cells = cells; sets = sets; tasks = parts_of tasks } in
     let due : IsDue w P closes s p t = is_due w P closes s p t some in
     let part : n.part ≡ record (part_of P t) { changed = (part_of P t).changed + 1 } =
-    ap (λ (r : RunningView). r.part) e ∙ ap (λ (u : TaskPart). record u { changed = u.changed + 1 }) (sym (read_part tasks t m lt read)) in
+    ap (λ (r : RunningView). r.part) e ∙ ap (λ (u : TaskPart). record u { changed = u.changed + 1 }) (sym (part_read tasks t m lt read)) in
     due.step ∙ (ap (λ (c : Cell). Some (made c)) (sym is_x) ∙ ap (λ (q : Parts). Some (record { parts = q; shown = if closes then Closed else Planted })) (parts_with (set cells p.0 x) sets tasks t n (record (part_of P t) { changed = (part_of P t).changed + 1 }) part))
   where
     made : Cell → Stepped
@@ -171,7 +163,7 @@ pub changed_core : (w : World) (cells : List Cell) (sets : List FactSet) (plan :
 changed_core w cells sets plan tasks closes s p t m n x is by lt read some is_x e =
     let P : Parts = record { cells = cells; sets = sets; tasks = parts_of tasks } in
     let due : IsDue w P closes s.0 p t = is_due w P closes s.0 p t some in
-    let here : change_due w t m.part m.part.stage ≡ Some (record { closes = closes; session = s.0; place = p }) = subst (λ (u : TaskPart). change_due w t u u.stage ≡ Some (record { closes = closes; session = s.0; place = p })) (read_part tasks t m lt read) due.due in
+    let here : change_due w t m.part m.part.stage ≡ Some (record { closes = closes; session = s.0; place = p }) = subst (λ (u : TaskPart). change_due w t u u.stage ≡ Some (record { closes = closes; session = s.0; place = p })) (part_read tasks t m lt read) due.due in
     let is_change = due_change w cells sets plan tasks t m (record { closes = closes; session = s.0; place = p }) is lt read here in
     let p_in : p.0 < length cells = subst (λ k. p.0 < k) (sym is.cell_count) is_change.own.inside in
     let form : IsForm (plan_in w) p.0 x = subst (IsForm (plan_in w) p.0) (sym is_x) (changed_form w closes s.0 p is_change.own.positive is_change.own.controlled) in

@@ -29,9 +29,8 @@ use Rattle.interleave_core.specs.declared.stage.Stage.TheVariants.{Ready, Awaiti
 use Rattle.interleave_core.proofs.Changes.{goes_on, may_by, plant_cases, close_by}
 use Rattle.interleave_core.proofs.Kept.{planted_form}
 use Rattle.interleave_core.proofs.Logs.{due_at}
-use Rattle.interleave_core.proofs.Rule.{due_same, of_window}
 use Rattle.interleave_core.proofs.Ruled.{place_inside, subject_inside}
-use Rattle.interleave_core.proofs.Runs.{same_or, got, exists_by, lifted_tasks, in_hand-stage}
+use Rattle.interleave_core.proofs.Runs.{same_or, got, exists_by, lifted_tasks, in_hand-stage, same_due-true, session_of_window}
 use Rattle.interleave_core.proofs.Tied.{lift_tag, changed_tag}
 use Rattle.interleave_core.proofs.Turns.{IsChange, controller_in, due_is}
 
@@ -295,10 +294,10 @@ mark_stays : (w : World) (s : ℕ) (c : Parts) (t : ℕ) (h : Hand) (facts : Fac
 mark_stays w s c t h facts is pos lt due clear p l =
     let at = in_hand-stage Marking (part_of c t).stage h due in
     let hand : IsHand w h = is.hands t h lt due in
-    let marking : h.due ≡ Marking = due_same h.due Marking at.1 in
+    let marking : h.due ≡ Marking = same_due-true h.due Marking at.1 in
     let stands = hand.planted (λ e. let no : Marking ≡ Nothing = sym marking ∙ e in absurd cc) in
     let tag : h.cell.tag ≡ window_tag stands.0 = ap (λ (x : Cell). x.tag) stands.3 in
-    let session : tag_session h.cell.tag ≡ stands.0 = ap tag_session tag ∙ of_window stands.0 stands.1 in
+    let session : tag_session h.cell.tag ≡ stands.0 = ap tag_session tag ∙ session_of_window stands.0 stands.1 in
     let some : 0 < tag_session h.cell.tag = subst (λ (n : ℕ). 0 < n) (sym session) stands.1 in
     get_or-set_other c.sets (index_of (length w.places) (tag_session h.cell.tag) h.place.0) (index_of (length w.places) s p) facts no_facts
     (λ same.

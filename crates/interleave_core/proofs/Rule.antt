@@ -1,5 +1,5 @@
 -- The parties of a core, what its tasks have in hand, and what one task's event has to keep of the rule.
-use Rattle.std.proofs.Common.{◌≡◌, ◌≢◌, ℕ, zero, suc, ◌+◌, ◌*◌, ◌<◌, ◌≤◌, Bool, true, false, nat_eq, if◌then◌else◌, Option, Some, None, List, [], ◌∷◌, length, get_or, set, refl, sym, ◌∙◌, ap, subst, arith}
+use Rattle.std.proofs.Common.{◌≡◌, ◌≢◌, ℕ, zero, suc, ◌+◌, ◌*◌, ◌<◌, ◌≤◌, Bool, true, nat_eq, if◌then◌else◌, Option, Some, None, List, [], ◌∷◌, length, get_or, set, refl, sym, ◌∙◌, ap, subst, arith}
 use mathlib.Core.Option.{some, some-injective}
 use lib.ListN.{get_elem?}
 use Rattle.std.proofs.lemmas.Grind.{get_or-set_at}
@@ -7,12 +7,12 @@ use Rattle.std.proofs.lemmas.List.{length-set}
 use Rattle.cov_base.specs.Meaning.{FactSet, with_fact, is_full}
 use Rattle.cov_base.specs.declared.facts.Fact.{Fact}
 use Rattle.module_area.specs.Meaning.{word_at, tag_session, PlanView, kind_at, is_over}
-use Rattle.module_area.specs.Rule.{planted, Held, window_tag, is_breakpoint, fetching}
+use Rattle.module_area.specs.Rule.{planted, Held, is_breakpoint, fetching}
 use Rattle.module_area.specs.declared.cells.Cell.{Cell}
 use Rattle.module_area.specs.declared.parties.Role.TheVariants.{Root, Task}
 use Rattle.module_area.specs.declared.parties.View.{View}
 use Rattle.session_book.specs.Meaning.{no_task}
-use Rattle.interleave_core.specs.Meaning.{World, TaskPart, Parts, part_of, plan_in, first_part, same_due, in_hand, set_of, fact_in}
+use Rattle.interleave_core.specs.Meaning.{World, TaskPart, Parts, part_of, plan_in, first_part, in_hand, set_of, fact_in}
 use Rattle.interleave_core.specs.CoreState.{CoreState, log_after, Entry, Item, Met, Gave, with_mark, with_lift, task_view, task_views}
 use Rattle.interleave_core.specs.declared.events.Shown.{Shown}
 use Rattle.interleave_core.specs.declared.stage.Hand.{Hand}
@@ -20,7 +20,7 @@ use Rattle.interleave_core.specs.declared.stage.Due.{Due}
 use Rattle.interleave_core.specs.declared.stage.Due.TheVariants.{Marking, Lifting, Nothing}
 use Rattle.interleave_core.specs.declared.stage.Stage.{Stage}
 use Rattle.interleave_core.specs.declared.stage.Stage.TheVariants.{Holding}
-use Rattle.interleave_core.proofs.Runs.{in_hand-stage}
+use Rattle.interleave_core.proofs.Runs.{in_hand-stage, same_due-true, session_of_window}
 use Rattle.interleave_core.proofs.Logs.{itself, apart, one_log}
 
 -- ---- the parties
@@ -96,27 +96,13 @@ abbrev pub InStage : World → ℕ → TaskPart → List Item → Stage → Type
 InStage w t u log (Holding h) = InHand w t u log h h.due
 InStage w t u log stage = AreMarked log
 
-pub due_same : (a b : Due) → same_due a b ≡ true → a ≡ b
-due_same Marking Marking h = refl
-due_same Lifting Lifting h = refl
-due_same Nothing Nothing h = refl
-due_same Marking Lifting h = let f : false ≡ true = h in absurd cc
-due_same Marking Nothing h = let f : false ≡ true = h in absurd cc
-due_same Lifting Marking h = let f : false ≡ true = h in absurd cc
-due_same Lifting Nothing h = let f : false ≡ true = h in absurd cc
-due_same Nothing Marking h = let f : false ≡ true = h in absurd cc
-due_same Nothing Lifting h = let f : false ≡ true = h in absurd cc
-
 pub held_hand : (w : World) (t : ℕ) (u : TaskPart) (log : List Item) (stage : Stage) (due : Due) (h : Hand) → InStage w t u log stage → in_hand due stage ≡ Some h → InHand w t u log h due
 held_hand w t u log stage due h is e =
     let at = in_hand-stage due stage h e in
-    subst (λ (d : Due). InHand w t u log h d) (due_same h.due due at.1) (subst (λ (s : Stage). InStage w t u log s) at.0 is)
-
-pub of_window : (s : ℕ) → 0 < s → tag_session (window_tag s) ≡ s
-of_window s h = omega arith
+    subst (λ (d : Due). InHand w t u log h d) (same_due-true h.due due at.1) (subst (λ (s : Stage). InStage w t u log s) at.0 is)
 
 pub hand_of : (w : World) (h : Hand) (b : HasBreakpoint w h) → tag_session h.cell.tag ≡ b.session
-hand_of w h b = ap (λ (c : Cell). tag_session c.tag) b.cell ∙ of_window b.session b.some_session
+hand_of w h b = ap (λ (c : Cell). tag_session c.tag) b.cell ∙ session_of_window b.session b.some_session
 
 -- ---- the rule, and what the events need besides
 

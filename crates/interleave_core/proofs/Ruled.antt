@@ -32,11 +32,11 @@ use Rattle.interleave_core.specs.declared.stage.Stage.{Stage}
 use Rattle.interleave_core.specs.declared.stage.Stage.TheVariants.{Ready, Awaiting, Holding, Ended}
 use Rattle.interleave_core.specs.Views.{AreTied}
 use Rattle.interleave_core.proofs.Changes.{goes_on, Changed, plant_cases, close_by, logs_whole, logs_plant, logs_close}
-use Rattle.interleave_core.proofs.Runs.{got, lifted_tasks, exists_by, through, no_set_at}
+use Rattle.interleave_core.proofs.Runs.{got, lifted_tasks, exists_by, through, no_set_at, same_due-true}
 use Rattle.interleave_core.proofs.Logs.{found_at, due_at, itself, got_step}
 use Rattle.interleave_core.proofs.Tied.{tied_step, tied_first}
 use Rattle.interleave_core.proofs.Begun.{begun_instruction, begun_subject}
-use Rattle.interleave_core.proofs.Rule.{task_role, view_at, set_same, HasBreakpoint, AreMarked, entry_in, InHand, InStage, due_same, held_hand, hand_of, Ruled, logs_after, after_task}
+use Rattle.interleave_core.proofs.Rule.{task_role, view_at, set_same, HasBreakpoint, AreMarked, entry_in, InHand, InStage, held_hand, hand_of, Ruled, logs_after, after_task}
 use Rattle.interleave_core.proofs.Given.{rule_plant, rule_plants, rule_closes}
 
 -- ---- Fetch
@@ -271,8 +271,8 @@ going_hand w t u v log (Holding g) is h = by (same_due g.due Nothing) refl g.sub
   where
     by : (nothing : Bool) → same_due g.due Nothing ≡ nothing → (subject : Bool) → (if nothing then Some (if subject then executed w t u else instruction_executed w t u) else None) ≡ Some v → InStage w t v log v.stage
     by false e subject k = let n : None ≡ Some v = k in absurd cc
-    by true e true k = subst (λ (x : TaskPart). InStage w t x log x.stage) (same_Some _ v k) (executed_hand w t (executed w t u) log (step_of w t u).next (subst (λ (d : Due). InHand w t u log g d) (due_same g.due Nothing e) is))
-    by true e false k = subst (λ (x : TaskPart). InStage w t x log x.stage) (same_Some _ v k) (awaits_hand w t u log (subject_place w (step_of w t u).visits) (subst (λ (d : Due). InHand w t u log g d) (due_same g.due Nothing e) is))
+    by true e true k = subst (λ (x : TaskPart). InStage w t x log x.stage) (same_Some _ v k) (executed_hand w t (executed w t u) log (step_of w t u).next (subst (λ (d : Due). InHand w t u log g d) (same_due-true g.due Nothing e) is))
+    by true e false k = subst (λ (x : TaskPart). InStage w t x log x.stage) (same_Some _ v k) (awaits_hand w t u log (subject_place w (step_of w t u).visits) (subst (λ (d : Due). InHand w t u log g d) (same_due-true g.due Nothing e) is))
 
 done_hand : (w : World) (t : ℕ) (u v : TaskPart) (log : List Item) (stage : Stage) → InStage w t u log stage → task_done w t u stage ≡ Some v → InStage w t v log v.stage
 done_hand w t u v log stage is h = going_hand w t u v log stage is (goes_on w t u v stage h)

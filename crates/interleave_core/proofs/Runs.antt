@@ -1,13 +1,16 @@
 -- Runs of the core, event by event, and what a possible event was made of.
-use Rattle.std.proofs.Common.{◌≡◌, ◌≢◌, ◌⊎◌, ℕ, zero, suc, Bool, true, false, if◌then◌else◌, Option, Some, None, option_map, List, [], ◌∷◌, ◌++◌, get_or, replicate, refl, sym, ◌∙◌, ap, subst, arith}
+use Rattle.std.proofs.Common.{◌≡◌, ◌≢◌, ◌⊎◌, ℕ, zero, suc, ◌<◌, Bool, true, false, if◌then◌else◌, Option, Some, None, option_map, List, [], ◌∷◌, ◌++◌, get_or, replicate, refl, sym, ◌∙◌, ap, subst, arith}
 use Rattle.std.proofs.lemmas.Option.{same_Some}
 use Rattle.std.specs.Option.{option_and_then}
 use Rattle.cov_base.specs.Meaning.{no_facts}
+use Rattle.module_area.specs.Meaning.{tag_session}
+use Rattle.module_area.specs.Rule.{window_tag}
 use Rattle.module_area.specs.declared.cells.Cell.{Cell}
 use Rattle.interleave_core.specs.Meaning.{World, Parts, Stepped, parts_step, run_on, in_hand, same_due, with_cell}
 use Rattle.interleave_core.specs.CoreState.{CoreState, CoreStepped, core_step, core_from, go_on}
 use Rattle.interleave_core.specs.declared.events.Event.{Event}
 use Rattle.interleave_core.specs.declared.stage.Due.{Due}
+use Rattle.interleave_core.specs.declared.stage.Due.TheVariants.{Marking, Lifting, Nothing}
 use Rattle.interleave_core.specs.declared.stage.Hand.{Hand}
 use Rattle.interleave_core.specs.declared.stage.Stage.{Stage}
 use Rattle.interleave_core.specs.declared.stage.Stage.TheVariants.{Ready, Awaiting, Holding, Ended}
@@ -20,6 +23,21 @@ pub no_set_at : (n i : ℕ) → get_or (replicate n no_facts) i no_facts ≡ no_
 no_set_at zero i = refl
 no_set_at (suc n) zero = refl
 no_set_at (suc n) (suc i) = no_set_at n i
+
+pub same_due-true : (a b : Due) → same_due a b ≡ true → a ≡ b
+same_due-true Marking Marking h = refl
+same_due-true Lifting Lifting h = refl
+same_due-true Nothing Nothing h = refl
+same_due-true Marking Lifting h = absurd cc
+same_due-true Marking Nothing h = absurd cc
+same_due-true Lifting Marking h = absurd cc
+same_due-true Lifting Nothing h = absurd cc
+same_due-true Nothing Marking h = absurd cc
+same_due-true Nothing Lifting h = absurd cc
+
+-- the session of a window's tag
+pub session_of_window : (s : ℕ) → 0 < s → tag_session (window_tag s) ≡ s
+session_of_window s h = omega arith
 
 pub got : (A : Type 0) (f : A → Stepped) (o : Option A) (x : Stepped) → option_map f o ≡ Some x → (a : A) × (o ≡ Some a) × (x ≡ f a)
 got A f None x h = let n : None ≡ Some x = h in absurd cc

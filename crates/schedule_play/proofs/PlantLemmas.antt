@@ -1,11 +1,10 @@
 -- The places that are planted before the first item.
-use Rattle.std.proofs.Common.{◌≡◌, ◌≢◌, eqb-true, ℕ, zero, suc, ◌+◌, ◌-◌, ◌<◌, ◌≤◌, Bool, true, false, ◌&&◌, nat_eq, nat_lt, if◌then◌else◌, Some, None, option_map, List, [], ◌∷◌, length, map, All, refl, sym, ap, ◌∙◌, arith}
+use Rattle.std.proofs.Common.{◌≡◌, ◌≢◌, eqb-true, ℕ, suc, ◌+◌, ◌-◌, ◌<◌, ◌≤◌, Bool, true, false, ◌&&◌, nat_eq, nat_lt, if◌then◌else◌, Some, None, option_map, List, [], ◌∷◌, length, All, refl, sym, ap, ◌∙◌, arith}
 use Rattle.std.specs.List.{find, flat_map, range_with_len}
 use Rattle.std.proofs.lemmas.Bool.{lt-ltb}
 use Rattle.std.proofs.lemmas.Bool.Decides.{nat_tests}
 use Rattle.std.proofs.lemmas.List.Elements.{All-head, All-tail}
-use Rattle.module_area.specs.Meaning.{word_at, fresh_word, ControlledView, window_at}
-use Rattle.module_area.specs.declared.places.Place.{Place}
+use Rattle.module_area.specs.Meaning.{word_at, ControlledView, window_at}
 use Rattle.interleave_core.specs.Meaning.{World, Parts, plan_in, controller_of, Stepped, parts_step, run_on, by_controller, whole_step, with_cell, breakpoint_of}
 use Rattle.interleave_core.specs.World.{IsWorld}
 use Rattle.interleave_core.specs.declared.events.Event.{Event}
@@ -47,11 +46,6 @@ plant_possible w c s p is lt e some fresh =
 
 pub never_refused : (w : World) (c : Parts) (s p : ℕ) → IsWorld w → p < length w.places → s ≡ window_at (plan_in w) p → 0 < s → (word_at c.cells p).tag ≡ 0 → parts_step w c (plant_of s p) ≡ None → ⊥
 never_refused w c s p is lt e some fresh none = let n : None ≡ Some (planted c s p) = sym none ∙ plant_possible w c s p is lt e some fresh in absurd cc
-
-pub fresh_tag : (places : List Place) (q : ℕ) → (word_at (map fresh_word places) q).tag ≡ 0
-fresh_tag [] q = refl
-fresh_tag (p ∷ places) zero = refl
-fresh_tag (p ∷ places) (suc q) = fresh_tag places q
 
 -- the places from number p on
 abbrev pub plants_from : World → ℕ → ℕ → List Event
