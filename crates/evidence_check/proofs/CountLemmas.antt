@@ -1,29 +1,16 @@
 -- How many facts the sets of a marks file have.
-use Rattle.std.proofs.Common.{◌≡◌, ℕ, ◌+◌, ◌*◌, ◌<◌, ◌≤◌, zero, suc, Bool, true, false, if◌then◌else◌, List, [], ◌∷◌, ◌++◌, length, get_or, drop, arith}
+use Rattle.std.proofs.Common.{◌≡◌, ℕ, ◌+◌, ◌*◌, ◌<◌, ◌≤◌, zero, suc, Bool, true, false, if◌then◌else◌, List, [], ◌∷◌, length, get_or, drop, arith}
 use Rattle.std.proofs.lemmas.List.{at_drop_more}
 use Rattle.cov_base.specs.Meaning.{FactSet}
 use Rattle.module_area.specs.Meaning.{fact_count}
-use Rattle.marks_file.specs.Meaning.{MarkedView, MarksView, is_new_name, is_base, is_size, is_count, are_modules, is_module_count, keeps_rules, place_total}
+use Rattle.marks_file.specs.Meaning.{MarkedView, MarksView, keeps_rules, place_total}
 use Rattle.marks_file.specs.declared.marks.MarkedPlace.{MarkedPlace}
-use Rattle.marks_file.proofs.Laws.{is_module, both-left, both-right, le_of_test, kept_modules, marks_count}
+use Rattle.marks_file.proofs.Laws.{kept_modules, marks_count, marks_places}
 use Rattle.evidence_check.specs.Meaning.{facts_of_places, facts_of_modules}
-
-place_count-push : (ms : List MarkedView) (m : MarkedView) → place_total (ms ++ m ∷ []) ≡ place_total ms + length m.places
-place_count-push [] m = omega arith
-place_count-push (x ∷ ms) m = let e = place_count-push ms m in omega (arith, e)
-
-few_from : (earlier ms : List MarkedView) → place_total earlier ≤ 65536 → are_modules earlier ms ≡ true → place_total earlier + place_total ms ≤ 65536
-unfolding is_count
-few_from earlier [] few h = omega arith
-few_from earlier (m ∷ ms) few h =
-    let rest = both-right (is_size earlier m.base m.size) _ (both-right (is_base m.base) _ (both-right (is_new_name earlier m.name) _ (both-left (is_module earlier m) _ h))) in
-    let count = le_of_test (place_total earlier + length m.places) 65536 (both-left (is_count earlier (length m.places)) _ rest) in
-    let more = few_from (earlier ++ m ∷ []) ms (omega (arith, count, place_count-push earlier m)) (both-right (is_module earlier m) _ h) in
-    omega (arith, more, place_count-push earlier m)
 
 -- a marks file has at most 65,536 places, and 16 modules
 pub few_places : (m : MarksView) → keeps_rules m ≡ true → place_total m.modules ≤ 65536
-few_places m h = let few = few_from [] m.modules (omega arith) (both-right (is_module_count (length m.modules)) _ (kept_modules m h)) in omega arith
+few_places m h = marks_places m.modules (kept_modules m h)
 
 pub few_modules : (m : MarksView) → keeps_rules m ≡ true → length m.modules ≤ 16
 few_modules m h = marks_count m.modules (kept_modules m h)

@@ -8,12 +8,7 @@ use Rattle.marks_file.specs.declared.version.Version.{Version}
 use Rattle.marks_file.proofs.FileLemmas.{file_read, file_long}
 use Rattle.marks_file.proofs.HeadingLemmas.{told_all}
 use Rattle.marks_file.specs.Files.{HasOneAnswer}
-use Rattle.marks_file.proofs.DifferenceLemmas.{row_same}
-
--- the same rows have no difference
-none_differs : (n : ℕ) (xs : List (List ℕ)) → first_difference n xs xs ≡ None
-none_differs n [] = refl
-none_differs n (x ∷ xs) = row_same n x x xs xs refl ∙ none_differs (n + 1) xs
+use Rattle.marks_file.proofs.DifferenceLemmas.{none_differs}
 
 pub none_other : (a b : List MarkedView) (d : Difference) → b ≡ a → first_difference 0 (rows a) (rows b) ≡ Some d → ⊥
 none_other a b d e found =

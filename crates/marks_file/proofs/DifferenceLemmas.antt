@@ -1,5 +1,5 @@
 -- The first row in which two tables differ, piece by piece.
-use Rattle.std.proofs.Common.{◌≡◌, ◌≢◌, ℕ, ◌+◌, ◌-◌, ◌≤◌, min, ◌<◌, Bool, true, if◌then◌else◌, Option, Some, List, [], ◌∷◌, ◌++◌, length, drop, map, get_or, refl, ap, sym, ◌∙◌, arith, length-append, length-drop}
+use Rattle.std.proofs.Common.{◌≡◌, ◌≢◌, ℕ, ◌+◌, ◌-◌, ◌≤◌, min, ◌<◌, Bool, true, if◌then◌else◌, Option, Some, None, List, [], ◌∷◌, ◌++◌, length, drop, map, get_or, refl, ap, sym, ◌∙◌, arith, length-append, length-drop}
 use Rattle.std.specs.Str.{bytes_eq}
 use Rattle.std.proofs.lemmas.List.{at_drop_more}
 use Rattle.std.proofs.lemmas.Slice.Eq.{bytes_eq-Decides}
@@ -19,6 +19,11 @@ picks c x y e = rw e refl
 
 pub row_same : (n : ℕ) (x y : List ℕ) (xs ys : List (List ℕ)) → x ≡ y → first_difference n (x ∷ xs) (y ∷ ys) ≡ first_difference (n + 1) xs ys
 row_same n x y xs ys e = picks (bytes_eq x y) (first_difference (n + 1) xs ys) (Some (record { row = n; left = Some x; right = Some y })) (same_test x y e)
+
+-- the same rows have no difference
+pub none_differs : (n : ℕ) (xs : List (List ℕ)) → first_difference n xs xs ≡ None
+none_differs n [] = refl
+none_differs n (x ∷ xs) = row_same n x x xs xs refl ∙ none_differs (n + 1) xs
 
 -- behind places of the same rows
 pub places_same : (n : ℕ) (ps qs : List MarkedPlace) (xs ys : List (List ℕ)) → SamePlaces ps qs → first_difference n (map place_row ps ++ xs) (map place_row qs ++ ys) ≡ first_difference (n + length ps) xs ys

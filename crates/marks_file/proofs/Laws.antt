@@ -6,6 +6,7 @@ pub use Rattle.marks_file.proofs.FieldLemmas.{first_none, first_some, none_left,
 pub use Rattle.marks_file.proofs.SpellLemmas.{set_read}
 pub use Rattle.marks_file.proofs.FileLemmas.{one_table, same_marks, file_found, one_modules, marks_found, one_end}
 pub use Rattle.marks_file.proofs.AnswerLemmas.{one_answer}
-pub use Rattle.marks_file.proofs.DifferenceLemmas.{row_same, row_count}
+pub use Rattle.marks_file.proofs.DifferenceLemmas.{none_differs}
 pub use Rattle.marks_file.proofs.LawLemmas.{files_turned}
-pub use Rattle.marks_file.proofs.UnionLemmas.{same_rows, joined_rows, small_number, length-unite_places, length-unite, union_is_marks}
+pub use Rattle.marks_file.proofs.UnionLemmas.{same_rows, joined_rows, same_tables, small_number, length-unite_places, length-unite, union_is_marks}
+pub use Rattle.marks_file.proofs.UnionLemmas.{marks_places}

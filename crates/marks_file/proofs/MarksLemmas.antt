@@ -28,6 +28,10 @@ same_bytes a b h = grind (arith, bytes_eq-Decides)
 pub filled_name : (field : List ℕ) → is_filled field ≡ true → padded (unpadded field) ≡ field
 filled_name field h = same_bytes _ _ (both-right (is_name (unpadded field)) _ h)
 
+pub place_total-append : (ms : List MarkedView) (m : MarkedView) → place_total (ms ++ m ∷ []) ≡ place_total ms + length m.places
+place_total-append [] m = omega arith
+place_total-append (x ∷ ms) m = let e = place_total-append ms m in omega (arith, e)
+
 pub module_has_row : (earlier : List MarkedView) (m : MarkedView) → is_module earlier m ≡ true → HasRow m
 unfolding is_new_name is_count
 module_has_row earlier m h =

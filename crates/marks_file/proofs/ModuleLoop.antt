@@ -10,7 +10,7 @@ use Rattle.marks_file.specs.declared.fault.MarksFault.TheVariants.{BadMarks, NoM
 use Rattle.marks_file.proofs.Parts.{module_size}
 use Rattle.marks_file.proofs.FieldLemmas.{first_none, first_some}
 use Rattle.marks_file.proofs.SpellLemmas.{AreBytes, bytes_later, length-places_at}
-use Rattle.marks_file.proofs.MarksLemmas.{both-left}
+use Rattle.marks_file.proofs.MarksLemmas.{both-left, place_total-append}
 use Rattle.marks_file.proofs.ModuleLemmas.{module_spelled}
 
 -- i modules with so many places were read, and the others begin at `at`
@@ -21,10 +21,6 @@ pub record ModulesSoFar (input : List ℕ) (from count at i before : ℕ) (modul
   pub places : before ≡ place_total modules
   pub few : before ≤ 65536
   pub end : at ≡ from + length (flat_map module_bytes modules)
-
-place_count-append : (ms : List MarkedView) (m : MarkedView) → place_total (ms ++ m ∷ []) ≡ place_total ms + length m.places
-place_count-append [] m = omega arith
-place_count-append (x ∷ ms) m = let e = place_count-append ms m in omega (arith, e)
 
 places_of : (bs : List ℕ) → length (module_at bs).places ≡ place_count_at bs
 unfolding module_at
@@ -58,7 +54,7 @@ modules_step input from count at i before n modules m u s h good is many =
           ∙ (ap (λ x. modules ++ (x ∷ modules_at left (drop size bs))) (sym is)
           ∙ (ap (λ t. modules ++ (m ∷ modules_at left t)) past
           ∙ sym (append_assoc modules (m ∷ []) (modules_at left (drop (at + size) input))))));
-      places = omega (arith, s.places, place_count-append modules m, many);
+      places = omega (arith, s.places, place_total-append modules m, many);
       few = omega (arith, s.places, fits, same);
       end = omega (arith, s.end, ap length (flat_map-append module_bytes modules (m ∷ [])), length-append (flat_map module_bytes modules) (flat_map module_bytes (m ∷ [])), length-append (module_bytes m) [], long);
     } in

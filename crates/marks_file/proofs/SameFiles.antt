@@ -1,52 +1,18 @@
 -- The sets of a union depend on which tables and sets there are alone, neither on their order nor on how often each
 -- stands there.
-use Rattle.std.proofs.Common.{◌≡◌, ℕ, ◌<◌, suc, zero, Bool, true, false, ◌||◌, List, [], ◌∷◌, ◌++◌, length, take, drop, map, fold, All, slice_index_or, refl, ap, sym, subst, ◌∙◌, arith}
+use Rattle.std.proofs.Common.{◌≡◌, ℕ, ◌<◌, suc, zero, Bool, true, false, ◌||◌, List, [], ◌∷◌, length, map, fold, All, slice_index_or, refl, ap, sym, subst, ◌∙◌, arith}
 use Rattle.std.specs.List.{Contains, sum_by}
 use Rattle.std.proofs.lemmas.List.Elements.{All-contains, All-contains_itself, All-map}
-use Rattle.std.proofs.Math.Seq.{drop-append_seam, take-append_seam}
 use Rattle.cov_base.specs.Meaning.{union, FactSet}
-use Rattle.marks_file.specs.Meaning.{MarkedView, MarksView, are_marks, place_row, module_row, rows, unite_place, unite_places, unite_module, unite, File, IsFile, modules_of, spelling, AreOfOneTable, held, united, IsCombined}
-use Rattle.marks_file.specs.Marks.{HasRow}
+use Rattle.marks_file.specs.Meaning.{MarkedView, MarksView, are_marks, rows, unite_place, unite_places, unite_module, unite, File, IsFile, modules_of, spelling, AreOfOneTable, held, united, IsCombined}
 use Rattle.marks_file.specs.declared.marks.MarkedPlace.{MarkedPlace}
 use Rattle.marks_file.proofs.MarksLemmas.{marks_have_rows, kept_modules}
 use Rattle.marks_file.proofs.FileLemmas.{one_table}
-use Rattle.marks_file.specs.Combine.{SamePlaces, SameTables}
-use Rattle.marks_file.proofs.UnionLemmas.{union_is_marks}
-use Rattle.marks_file.proofs.DifferenceLemmas.{row_count}
+use Rattle.marks_file.proofs.UnionLemmas.{union_is_marks, same_tables}
 use Rattle.marks_file.proofs.LawLemmas.{files_turned, file_itself}
 use Rattle.marks_file.proofs.FilesLemmas.{runs_of, rows_kept}
 use Rattle.marks_file.specs.Files.{first_name, HaveSameSets, IsUnionAnyhow}
 use Rattle.marks_file.proofs.AnswerLemmas.{one_file, same_rest, no_text}
-
--- tables of the same rows are the same
-same_places : (ps qs : List MarkedPlace) → map place_row ps ≡ map place_row qs → SamePlaces ps qs
-same_places [] [] e = tt
-same_places [] (q ∷ qs) e = absurd (let l = ap length e in omega (arith, l))
-same_places (p ∷ ps) [] e = absurd (let l = ap length e in omega (arith, l))
-same_places (p ∷ ps) (q ∷ qs) e =
-    let head : place_row p ≡ place_row q = ap (λ xs. slice_index_or xs 0 []) e in
-    (head, same_places ps qs (ap (drop 1) e))
-
-parted : (x y xs ys : List (List ℕ)) → length x ≡ length y → x ++ xs ≡ y ++ ys → (x ≡ y) × (xs ≡ ys)
-parted x y xs ys l e = (
-  sym (take-append_seam x xs) ∙ (ap (take (length x)) e ∙ (ap (λ k. take k (y ++ ys)) l ∙ take-append_seam y ys)),
-  sym (drop-append_seam x xs) ∙ (ap (drop (length x)) e ∙ (ap (λ k. drop k (y ++ ys)) l ∙ drop-append_seam y ys)),
-)
-
-map_length : (ps : List MarkedPlace) → length (map place_row ps) ≡ length ps
-map_length [] = refl
-map_length (p ∷ ps) = ap suc (map_length ps)
-
-same_tables : (ms ns : List MarkedView) → All HasRow ms → All HasRow ns → rows ms ≡ rows ns → SameTables ms ns
-same_tables [] [] h g e = tt
-same_tables [] (n ∷ ns) h g e = absurd (let l = ap length e in omega (arith, l))
-same_tables (m ∷ ms) [] h g e = absurd (let l = ap length e in omega (arith, l))
-same_tables (m ∷ ms) (n ∷ ns) h g e =
-    let head : module_row m ≡ module_row n = ap (λ xs. slice_index_or xs 0 []) e in
-    let count : length m.places ≡ length n.places = row_count m n (h 0 m (omega arith)) (g 0 n (omega arith)) head in
-    let tail : map place_row m.places ++ rows ms ≡ map place_row n.places ++ rows ns = ap (drop 1) e in
-    let parts = parted (map place_row m.places) (map place_row n.places) (rows ms) (rows ns) (map_length m.places ∙ (count ∙ sym (map_length n.places))) tail in
-    ((head, same_places m.places n.places parts.0), same_tables ms ns (λ k d l. h (suc k) d (omega arith)) (λ k d l. g (suc k) d (omega arith)) parts.1)
 
 -- the union of two files of one table is a file of it, and the order of the two doesn't matter
 pub union_marks : (a b : List MarkedView) → are_marks a ≡ true → are_marks b ≡ true → rows a ≡ rows b → are_marks (unite a b) ≡ true

@@ -1,5 +1,5 @@
 -- The union of files of one table keeps the rules of marks files, and their rows.
-use Rattle.std.proofs.Common.{◌≡◌, ℕ, ◌+◌, ◌≤◌, ◌%◌, suc, Bool, true, false, ◌&&◌, ◌||◌, not, nat_eq, nat_lt, nat_le, List, [], ◌∷◌, ◌++◌, length, take, drop, map, slice_index, refl, ap, sym, ◌∙◌, arith, min, length-drop}
+use Rattle.std.proofs.Common.{◌≡◌, ℕ, ◌+◌, ◌≤◌, ◌%◌, suc, Bool, true, false, ◌&&◌, ◌||◌, not, nat_eq, nat_lt, nat_le, List, [], ◌∷◌, ◌++◌, length, take, drop, map, slice_index, slice_index_or, All, refl, ap, sym, ◌∙◌, arith, min, length-drop}
 use Rattle.std.specs.Str.{bytes_eq}
 use Rattle.std.specs.List.{list_any, list_all}
 use Rattle.std.proofs.lemmas.Bool.{false≢true}
@@ -10,9 +10,11 @@ use Rattle.cov_base.specs.declared.facts.Kind.TheVariants.{Straight, Conditional
 use Rattle.marks_file.specs.Meaning.{MarkedView, kind_number, is_location, is_length, is_original, is_set, are_places, end_location, is_new_name, is_base, is_clear, is_size, is_count, place_total, are_modules, is_module_count, are_marks, place_row, module_row, module_rows, rows, unite_place, unite_places, unite_module, unite}
 use Rattle.marks_file.specs.declared.marks.MarkedPlace.{MarkedPlace}
 use Rattle.marks_file.proofs.Parts.{is_place, is_module}
-use Rattle.marks_file.proofs.MarksLemmas.{both-left, both-right, both, le_of_test}
+use Rattle.marks_file.proofs.MarksLemmas.{both-left, both-right, both, le_of_test, place_total-append}
 use Rattle.marks_file.proofs.SpellLemmas.{set_read}
 use Rattle.marks_file.specs.Combine.{SamePlaces, SameTables}
+use Rattle.marks_file.specs.Marks.{HasRow}
+use Rattle.marks_file.proofs.DifferenceLemmas.{row_count}
 
 -- tables of the same rows
 pub same_rows : (x y : List ℕ) (xs ys : List (List ℕ)) → x ≡ y → xs ≡ ys → x ∷ xs ≡ y ∷ ys
@@ -32,6 +34,27 @@ tables_rows [] [] h = refl
 tables_rows [] (n ∷ ns) h = absurd h
 tables_rows (m ∷ ms) [] h = absurd h
 tables_rows (m ∷ ms) (n ∷ ns) h = joined_rows (module_rows m) (module_rows n) (rows ms) (rows ns) (same_rows (module_row m) (module_row n) (map place_row m.places) (map place_row n.places) h.0.0 (places_rows m.places n.places h.0.1)) (tables_rows ms ns h.1)
+
+-- tables of the same rows are the same
+
+split_rows : (ps qs : List MarkedPlace) (xs ys : List (List ℕ)) → length ps ≡ length qs → map place_row ps ++ xs ≡ map place_row qs ++ ys → SamePlaces ps qs × (xs ≡ ys)
+split_rows [] [] xs ys l e = (tt, e)
+split_rows [] (q ∷ qs) xs ys l e = absurd (omega arith)
+split_rows (p ∷ ps) [] xs ys l e = absurd (omega arith)
+split_rows (p ∷ ps) (q ∷ qs) xs ys l e =
+    let head : place_row p ≡ place_row q = ap (λ rs. slice_index_or rs 0 []) e in
+    let more = split_rows ps qs xs ys (omega arith) (ap (drop 1) e) in
+    ((head, more.0), more.1)
+
+pub same_tables : (ms ns : List MarkedView) → All HasRow ms → All HasRow ns → rows ms ≡ rows ns → SameTables ms ns
+same_tables [] [] h g e = tt
+same_tables [] (n ∷ ns) h g e = absurd (let l = ap length e in omega (arith, l))
+same_tables (m ∷ ms) [] h g e = absurd (let l = ap length e in omega (arith, l))
+same_tables (m ∷ ms) (n ∷ ns) h g e =
+    let head : module_row m ≡ module_row n = ap (λ rs. slice_index_or rs 0 []) e in
+    let count : length m.places ≡ length n.places = row_count m n (h 0 m (omega arith)) (g 0 n (omega arith)) head in
+    let more = split_rows m.places n.places (rows ms) (rows ns) count (ap (drop 1) e) in
+    ((head, more.0), same_tables ms ns (λ k d l. h (suc k) d (omega arith)) (λ k d l. g (suc k) d (omega arith)) more.1)
 
 -- places of the same row have the same kind
 one_kind : (k l : Kind) → kind_number k ≡ kind_number l → k ≡ l
@@ -207,10 +230,6 @@ modules_united a b i all h e =
     sym (take-append-drop i a) ∙ (ap (λ t. take i a ++ t) (sym (no_module_united (drop i a) (drop i b) none)) ∙ e)
 
 -- the places of a file's modules
-counts_append : (ms : List MarkedView) (m : MarkedView) → place_total (ms ++ m ∷ []) ≡ place_total ms + length m.places
-counts_append [] m = omega arith
-counts_append (x ∷ ms) m = let e = counts_append ms m in omega (arith, e)
-
 few_places : (earlier : List MarkedView) (n : ℕ) → is_count earlier n ≡ true → place_total earlier + n ≤ 65536
 unfolding is_count
 few_places earlier n h = le_of_test (place_total earlier + n) 65536 h
@@ -221,7 +240,7 @@ modules_places earlier (m ∷ ms) few h =
     let one = both-left (is_module earlier m) (are_modules (earlier ++ m ∷ []) ms) h in
     let h4 = both-right (is_size earlier m.base m.size) _ (both-right (is_base m.base) _ (both-right (is_new_name earlier m.name) _ one)) in
     let here = few_places earlier (length m.places) (both-left (is_count earlier (length m.places)) _ h4) in
-    let e = counts_append earlier m in
+    let e = place_total-append earlier m in
     let more = modules_places (earlier ++ m ∷ []) ms (omega arith) (both-right (is_module earlier m) _ h) in
     omega arith
 

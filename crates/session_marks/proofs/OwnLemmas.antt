@@ -1,16 +1,13 @@
 -- A file in which no row differs is the session's marks with some sets.
-use Rattle.std.proofs.Common.{◌≡◌, ◌≢◌, ◌⊎◌, inl, inr, ℕ, ◌+◌, ◌<◌, ◌≤◌, zero, suc, Bool, true, false, if◌then◌else◌, nat_eq, Option, Some, None, List, [], ◌∷◌, ◌++◌, length, get_or, drop, map, All, refl, ap, sym, ◌∙◌, subst, arith}
+use Rattle.std.proofs.Common.{◌≡◌, ◌≢◌, ◌⊎◌, inl, inr, ℕ, ◌+◌, ◌<◌, ◌≤◌, zero, suc, Bool, true, false, if◌then◌else◌, nat_eq, Option, Some, None, List, [], ◌∷◌, length, get_or, refl, ap, sym, ◌∙◌, subst, arith}
 use Rattle.std.specs.Str.{bytes_eq}
 use Rattle.std.proofs.lemmas.List.{length-map, get_or_default}
-use Rattle.std.proofs.lemmas.List.Elements.{All-tail}
 use Rattle.std.proofs.lemmas.Bool.{ne_eqb, eq-eqb}
 use Rattle.cov_base.specs.Lists.{Differ}
 use Rattle.cov_base.specs.Meaning.{FactSet}
-use Rattle.marks_file.specs.Meaning.{modules_bytes, MarkedView, are_marks, place_row, module_row, rows, Difference, first_difference, unite}
-use Rattle.marks_file.specs.Marks.{HasRow}
+use Rattle.marks_file.specs.Meaning.{modules_bytes, MarkedView, are_marks, rows, Difference, first_difference, unite}
 use Rattle.marks_file.specs.declared.marks.MarkedPlace.{MarkedPlace}
-use Rattle.marks_file.proofs.Laws.{same_bytes, marks_have_rows, one_table, row_count, union_is_marks, length-unite, files_turned}
-use Rattle.marks_file.specs.Combine.{SamePlaces, SameTables}
+use Rattle.marks_file.proofs.Laws.{same_bytes, marks_have_rows, one_table, union_is_marks, length-unite, files_turned, same_rows, same_tables}
 use Rattle.brk_table.specs.Meaning.{TableView, TablesView, first_place, place_count}
 use Rattle.session_book.specs.Meaning.{JobView, session_of}
 use Rattle.session_marks.specs.Meaning.{marked_module, session_marks, session_rows}
@@ -23,40 +20,13 @@ went_on : (c : Bool) (x : Option Difference) (d : Difference) → (if c then x e
 went_on true x d h = (refl, h)
 went_on false x d h = absurd cc
 
-one_row : (x y : List ℕ) (xs ys : List (List ℕ)) → x ≡ y → xs ≡ ys → x ∷ xs ≡ y ∷ ys
-one_row x y xs ys e f = rw (e, f) refl
-
 equal_rows : (n : ℕ) (xs ys : List (List ℕ)) → first_difference n xs ys ≡ None → xs ≡ ys
 equal_rows n [] [] h = refl
 equal_rows n (x ∷ xs) [] h = absurd cc
 equal_rows n [] (y ∷ ys) h = absurd cc
 equal_rows n (x ∷ xs) (y ∷ ys) h =
     let same = went_on (bytes_eq x y) (first_difference (n + 1) xs ys) (record { row = n; left = Some x; right = Some y }) h in
-    one_row x y xs ys (same_bytes x y same.0) (equal_rows (n + 1) xs ys same.1)
-
-head_same : (x y : List ℕ) (xs ys : List (List ℕ)) → x ∷ xs ≡ y ∷ ys → x ≡ y
-head_same x y xs ys e = ap (λ z. get_or z 0 []) e
-
-tail_same : (x y : List ℕ) (xs ys : List (List ℕ)) → x ∷ xs ≡ y ∷ ys → xs ≡ ys
-tail_same x y xs ys e = ap (λ z. drop 1 z) e
-
--- rows of as many places
-split_rows : (ps qs : List MarkedPlace) (xs ys : List (List ℕ)) → length ps ≡ length qs → map place_row ps ++ xs ≡ map place_row qs ++ ys → SamePlaces ps qs × (xs ≡ ys)
-split_rows [] [] xs ys l e = (tt, e)
-split_rows [] (q ∷ qs) xs ys l e = absurd (omega arith)
-split_rows (p ∷ ps) [] xs ys l e = absurd (omega arith)
-split_rows (p ∷ ps) (q ∷ qs) xs ys l e =
-    let more = split_rows ps qs xs ys (omega arith) (tail_same (place_row p) (place_row q) (map place_row ps ++ xs) (map place_row qs ++ ys) e) in
-    ((head_same (place_row p) (place_row q) (map place_row ps ++ xs) (map place_row qs ++ ys) e, more.0), more.1)
-
-same_tables : (ms ns : List MarkedView) → All HasRow ms → All HasRow ns → rows ms ≡ rows ns → SameTables ms ns
-same_tables [] [] hm hn e = tt
-same_tables [] (n ∷ ns) hm hn e = absurd cc
-same_tables (m ∷ ms) [] hm hn e = absurd cc
-same_tables (m ∷ ms) (n ∷ ns) hm hn e =
-    let row : module_row m ≡ module_row n = head_same (module_row m) (module_row n) (map place_row m.places ++ rows ms) (map place_row n.places ++ rows ns) e in
-    let more = split_rows m.places n.places (rows ms) (rows ns) (row_count m n (hm 0 m (omega arith)) (hn 0 n (omega arith)) row) (tail_same (module_row m) (module_row n) (map place_row m.places ++ rows ms) (map place_row n.places ++ rows ns) e) in
-    ((row, more.0), same_tables ms ns (All-tail HasRow m ms hm) (All-tail HasRow n ns hn) more.1)
+    same_rows x y xs ys (same_bytes x y same.0) (equal_rows (n + 1) xs ys same.1)
 
 -- these places' sets from number n on, and the others before them
 put_sets : (ℕ → FactSet) → ℕ → List MarkedPlace → ℕ → FactSet

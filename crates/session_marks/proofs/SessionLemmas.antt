@@ -5,7 +5,7 @@ use Rattle.cov_base.specs.Meaning.{FactSet, number_of_facts, is_within}
 use Rattle.cov_base.specs.declared.facts.Kind.{Kind}
 use Rattle.marks_file.specs.Meaning.{MarkedView, is_location, is_length, is_original, is_set, are_places, end_location, is_new_name, is_base, is_size, is_count, are_modules, is_module_count, are_marks, place_row, module_row, module_rows, rows, first_difference, unite}
 use Rattle.marks_file.specs.declared.marks.MarkedPlace.{MarkedPlace}
-use Rattle.marks_file.proofs.Laws.{is_place, is_module, both-left, both-right, set_read, row_same, same_rows, joined_rows, length-unite_places}
+use Rattle.marks_file.proofs.Laws.{is_place, is_module, both-left, both-right, set_read, same_rows, joined_rows, length-unite_places, none_differs}
 use Rattle.module_area.specs.Meaning.{place_of}
 use Rattle.module_area.specs.declared.places.Place.{Place}
 use Rattle.brk_table.specs.Meaning.{TablesView, first_place, place_count}
@@ -39,10 +39,6 @@ modules_rows j tables sets others (m ∷ ms) =
     joined_rows (module_rows (marked_module j tables sets m)) (module_rows (marked_module j tables others m)) (rows (map (marked_module j tables sets) ms)) (rows (map (marked_module j tables others) ms))
     (same_rows (module_row (marked_module j tables sets m)) (module_row (marked_module j tables others m)) _ _ (module_row_same j tables sets others m) (places_rows (module_of j m).base tables.places sets others (first_place tables.tables m) (place_count tables.tables m)))
     (modules_rows j tables sets others ms)
-
-none_differs : (n : ℕ) (xs : List (List ℕ)) → first_difference n xs xs ≡ None
-none_differs n [] = refl
-none_differs n (x ∷ xs) = row_same n x x xs xs refl ∙ none_differs (n + 1) xs
 
 -- no row of the session's marks differs
 pub own_same : (j : JobView) (tables : TablesView) (s : ℕ) (file : List MarkedView) → IsOwn j tables s file → first_difference 0 (session_rows j tables s) (rows file) ≡ None
