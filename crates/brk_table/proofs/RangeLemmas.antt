@@ -7,6 +7,15 @@ use Rattle.std.proofs.lemmas.List.{drop_more, drop_all, get_or_past}
 use Rattle.brk_table.specs.Meaning.{TableView, all_places, first_place, place_count, entry_of_line, place_at_line}
 use Rattle.brk_table.specs.Places.{HasItsPlaces}
 
+-- a module's places are some of all
+pub range_most : (ts : List TableView) (m : ℕ) → first_place ts m + place_count ts m ≤ length (all_places ts)
+range_most [] m = omega arith
+range_most (t ∷ ts) m = by_module (nat_eq t.«module» m) refl (range_most ts m)
+  where
+    by_module : (q : Bool) → nat_eq t.«module» m ≡ q → first_place ts m + place_count ts m ≤ length (all_places ts) → first_place (t ∷ ts) m + place_count (t ∷ ts) m ≤ length (all_places (t ∷ ts))
+    by_module true e more = let size = length-append t.places (all_places ts) in rw e (omega (arith, size))
+    by_module false e more = let size = length-append t.places (all_places ts) in rw e (omega (arith, size, more))
+
 -- the module's table is met
 pub first-here : (t : TableView) (ts : List TableView) (m : ℕ) → t.«module» ≡ m → first_place (t ∷ ts) m ≡ 0
 first-here t ts m h = rw (eq-eqb t.«module» m h) refl

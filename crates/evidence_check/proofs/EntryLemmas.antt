@@ -4,8 +4,8 @@ use Rattle.std.specs.List.{flat_map}
 use Rattle.cov_base.specs.declared.facts.Fact.{Fact}
 use Rattle.cov_base.specs.declared.facts.Fact.TheVariants.{Ran, Went, Stayed}
 use Rattle.brk_table.specs.Meaning.{TablesView, all_places, first_place, place_count}
+use Rattle.brk_table.proofs.Laws.{range_most}
 use Rattle.session_book.specs.Meaning.{JobView, session_of}
-use Rattle.session_marks.proofs.Laws.{range_most}
 use Rattle.evidence_check.specs.Meaning.{evidence_magic, place_entries, places_entries, module_entries, evidence, phase_first, session_first}
 use Rattle.evidence_check.specs.Found.{found_at, AreFirsts}
 use Rattle.evidence_check.specs.declared.firsts.First.{First}

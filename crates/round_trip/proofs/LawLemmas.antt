@@ -10,7 +10,7 @@ use Rattle.module_area.specs.Meaning.{place_of}
 use Rattle.session_book.specs.Meaning.{SessionView, ResultView, session_of, is_whole, observes}
 use Rattle.session_marks.specs.Meaning.{session_marks}
 use Rattle.session_marks.specs.FromFile.{AreSameAt}
-use Rattle.session_marks.proofs.Laws.{range_most, sets_one}
+use Rattle.session_marks.proofs.Laws.{sets_one}
 use Rattle.marks_file.specs.Meaning.{MarkedView, MarksView, keeps_rules, file_bytes}
 use Rattle.marks_file.specs.declared.version.Version.TheVariants.{Second}
 use Rattle.marks_file.proofs.Laws.{one_modules}
@@ -29,6 +29,7 @@ use Rattle.job_answers.specs.Meaning.{ReadyView, BeginsWith, IsShown, Shown, Fil
 use Rattle.coverage_commands.specs.Meaning.{IsReady, Finished, Read, OfJob, HasStatus, ToAnswer, HoldsTrue}
 use Rattle.job_answers.proofs.Laws.{any_job, is_free, one_marks, IsSame}
 use Rattle.coverage_commands.proofs.Laws.{one_ready, one_rest, one_number}
+use Rattle.brk_table.proofs.Laws.{range_most}
 use Rattle.round_trip.specs.Laws.{HasText, HasWhole, IsMarked, IsPart, HasReport}
 use Rattle.round_trip.proofs.TableLemmas.{place_module}
 use Rattle.round_trip.proofs.SetLemmas.{same_marks, same_part}

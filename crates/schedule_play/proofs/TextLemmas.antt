@@ -1,10 +1,11 @@
 -- The lines of a schedule that was played.
-use Rattle.std.proofs.Common.{◌≡◌, ℕ, ◌+◌, ◌-◌, ◌<◌, ◌≤◌, Bool, true, false, nat_eq, Option, Result, codes, List, [], ◌∷◌, ◌++◌, length, length-append, get_or, subst, refl, sym, ap, ◌∙◌, arith}
+use Rattle.std.proofs.Common.{◌≡◌, ℕ, ◌+◌, ◌-◌, ◌<◌, true, Option, Result, codes, List, [], ◌∷◌, ◌++◌, length, get_or, subst, sym, ap, ◌∙◌, arith}
 use Rattle.std.proofs.lemmas.List.{get_or_default}
 use Rattle.cov_base.specs.Meaning.{is_within}
 use Rattle.module_area.specs.Meaning.{kind_at}
 use Rattle.module_area.specs.declared.places.Place.{Place}
-use Rattle.brk_table.specs.Meaning.{TableView, TablesView, all_places, first_place, place_count}
+use Rattle.brk_table.specs.Meaning.{TablesView, all_places}
+use Rattle.brk_table.proofs.Laws.{range_most}
 use Rattle.session_book.specs.Meaning.{JobView, task_of, session_of}
 use Rattle.interleave_core.specs.Meaning.{World, Parts, plan_in, set_of, results_of}
 use Rattle.interleave_core.specs.Results.{Fits}
@@ -30,14 +31,6 @@ core_results j tables w c is fits = record {
   count = ap (λ (v : World). length v.job.tasks) is;
   sizes = λ t lt. fits.bytes t (omega (arith, lt, fits.tasks, ap (λ (v : World). length v.job.tasks) is)) ∙ ap (λ (v : World). (task_of v.job t).private) is;
 }
-
-range_most : (ts : List TableView) (m : ℕ) → first_place ts m + place_count ts m ≤ length (all_places ts)
-range_most [] m = omega arith
-range_most (t ∷ ts) m = by_module (nat_eq t.«module» m) refl (range_most ts m)
-  where
-    by_module : (q : Bool) → nat_eq t.«module» m ≡ q → first_place ts m + place_count ts m ≤ length (all_places ts) → first_place (t ∷ ts) m + place_count (t ∷ ts) m ≤ length (all_places (t ∷ ts))
-    by_module true e more = let size = length-append t.places (all_places ts) in rw e (omega (arith, size))
-    by_module false e more = let size = length-append t.places (all_places ts) in rw e (omega (arith, size, more))
 
 pub core_sets : (j : JobView) (tables : TablesView) (w : World) (c : Parts) → w ≡ record { job = j; places = tables.places } → tables.places ≡ all_places tables.tables → Fits w c →
     AreSetsOf j tables (length w.job.sessions) (length w.places) (λ s p. set_of w c s p)

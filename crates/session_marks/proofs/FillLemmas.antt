@@ -1,9 +1,10 @@
 -- Marks that were made with empty sets, and are filled.
-use Rattle.std.proofs.Common.{◌≡◌, ℕ, zero, suc, ◌+◌, ◌<◌, ◌≤◌, Bool, true, false, nat_eq, nat_lt, List, [], ◌∷◌, ◌++◌, length, take, drop, map, min, All, refl, sym, ap, ◌∙◌, arith, length-drop, length-append}
+use Rattle.std.proofs.Common.{◌≡◌, ℕ, zero, suc, ◌+◌, ◌<◌, ◌≤◌, true, nat_lt, List, [], ◌∷◌, ◌++◌, length, take, drop, map, min, All, refl, sym, ap, ◌∙◌, arith, length-drop}
 use Rattle.std.proofs.lemmas.List.{take-append-drop}
 use Rattle.cov_base.specs.Lists.{Differ}
 use Rattle.cov_base.specs.Meaning.{FactSet, is_filled}
-use Rattle.brk_table.specs.Meaning.{TableView, TablesView, first_place, place_count, all_places}
+use Rattle.brk_table.specs.Meaning.{TablesView, first_place, place_count, all_places}
+use Rattle.brk_table.proofs.Laws.{range_most}
 use Rattle.marks_file.specs.Meaning.{MarkedView, is_location, is_length, is_original, are_places, end_location, is_new_name, is_base, is_size, is_count, are_modules, is_module_count, are_marks}
 use Rattle.marks_file.proofs.Laws.{both-left, both-right, is_place, is_module}
 use Rattle.std.proofs.lemmas.List.Elements.{All-cons, All-nil}
@@ -39,15 +40,6 @@ modules_are_filled j tables old new (m ∷ ms) =
     let one : filled_module new (first_place tables.tables m) (marked_module j tables old m) ≡ marked_module j tables new m =
     ap (λ (ps : List MarkedPlace). record (marked_module j tables new m) { places = ps }) (places_filled (marked_module j tables old m).base tables.places old new (first_place tables.tables m) (place_count tables.tables m)) in
     ap (λ (x : MarkedView). x ∷ filled tables new (map (marked_module j tables old) ms) ms) one ∙ ap (λ (xs : List MarkedView). marked_module j tables new m ∷ xs) (modules_are_filled j tables old new ms)
-
--- a module's places are some of all
-pub range_most : (ts : List TableView) (m : ℕ) → first_place ts m + place_count ts m ≤ length (all_places ts)
-range_most [] m = omega arith
-range_most (t ∷ ts) m = by_module (nat_eq t.«module» m) refl (range_most ts m)
-  where
-    by_module : (q : Bool) → nat_eq t.«module» m ≡ q → first_place ts m + place_count ts m ≤ length (all_places ts) → first_place (t ∷ ts) m + place_count (t ∷ ts) m ≤ length (all_places (t ∷ ts))
-    by_module true e more = let size = length-append t.places (all_places ts) in rw e (omega (arith, size))
-    by_module false e more = let size = length-append t.places (all_places ts) in rw e (omega (arith, size, more))
 
 pub are_there : (j : JobView) (tables : TablesView) (sets : ℕ → FactSet) (ms : List ℕ) → tables.places ≡ all_places tables.tables → AreThere tables (map (marked_module j tables sets) ms) ms
 are_there j tables sets [] e = tt
