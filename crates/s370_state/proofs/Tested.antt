@@ -54,6 +54,17 @@ reach_part m a n i b zero h l e = refl
 reach_part m a n i b (suc k) h l e =
     rw (reach_part m a n i b k h (omega arith) e, e, wrapped_once a i k) (reach_at m a n (i + k) (wrap (a + (i + k))) h (omega arith) refl)
 
+-- the first bytes of a range that may be stored, and any of its bytes
+
+pub store_prefix : (m : Memory) (a n k : ℕ) → can_store m a n ≡ true → k ≤ n → can_store m a k ≡ true
+unfolding can_store
+store_prefix m a zero k h l = let e : k ≡ 0 = omega arith in rw e refl
+store_prefix m a (suc n) k h l =
+    elim (last_or k (suc n) (omega arith)) [
+      | inl q ↦ rw q h
+      | inr z ↦ store_prefix m a n k (both-left (can_store m a n) _ h) (omega arith)
+    ]
+
 pub store_part : (m : Memory) (a n i b k : ℕ) → can_store m a n ≡ true → i + k ≤ n → b ≡ wrap (a + i) → can_store m b k ≡ true
 unfolding can_store
 store_part m a n i b zero h l e = refl

@@ -1,7 +1,9 @@
 -- Long operands, one byte on.
 use Rattle.std.proofs.Common.{◌≡◌, ◌≢◌, ℕ, ◌+◌, ◌<◌, ◌≤◌, zero, suc, Bool, true, false, ◌&&◌, not, ◌==◌, Some, None, List, slice_set, refl, sym, add-one, arith, ◌⊎◌, inl, inr}
 use Rattle.std.proofs.lemmas.Bool.Decides.{nat_tests}
-use Rattle.cov_base.specs.Meaning.{Memory, wrap, can_reach, can_store, is_accessible, is_private}
+use Rattle.cov_base.specs.Meaning.{Memory, wrap, can_reach, is_accessible}
+-- by this path a line of the source gives it
+pub use Rattle.s370_state.proofs.Laws.{store_prefix}
 use Rattle.s370_storage.proofs.Firsts.{first_none, first_more, first_here}
 use Rattle.s370_storage.specs.Meaning.{lesser, padded_bytes, first_byte, second_byte, unequal}
 use Rattle.s370_storage.specs.declared.long.Long.{Long}
@@ -29,15 +31,6 @@ reach_prefix m a (suc n) k h l =
     elim (same_or k n l) [
       | inl q ↦ rw q h
       | inr z ↦ reach_prefix m a n k (both_left (can_reach m a n) (is_accessible m (wrap (a + n))) h) z
-    ]
-
-pub store_prefix : (m : Memory) (a n k : ℕ) → can_store m a n ≡ true → k ≤ n → can_store m a k ≡ true
-unfolding can_store
-store_prefix m a zero k h l = let e : k ≡ 0 = omega arith in rw e refl
-store_prefix m a (suc n) k h l =
-    elim (same_or k n l) [
-      | inl q ↦ rw q h
-      | inr z ↦ store_prefix m a n k (both_left (can_store m a n) (is_private m (wrap (a + n))) h) z
     ]
 
 pub unequal_none : (m : Memory) (bytes : List ℕ) (o : Long) → unequal m bytes o 0 ≡ None
