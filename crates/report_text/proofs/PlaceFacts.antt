@@ -1,8 +1,10 @@
 -- Places, and sums over numbers.
-use Rattle.std.proofs.Common.{◌≡◌, ℕ, ◌+◌, ◌-◌, ◌<◌, ◌≤◌, suc, List, Bool, true, false, if◌then◌else◌, nat_eq, nat_lt, refl, arith}
+use Rattle.std.proofs.Common.{◌≡◌, ℕ, ◌+◌, ◌-◌, ◌<◌, suc, List, if◌then◌else◌, nat_eq, refl, arith}
 use Rattle.annotator.specs.Meaning.{mark_byte}
-use Rattle.cov_base.specs.Meaning.{length_of, FactSet, full_of, mark_of}
+use Rattle.cov_base.specs.Meaning.{FactSet, full_of, mark_of}
 use Rattle.cov_base.specs.declared.marks.Mark.{Mark}
+-- by this name a line of the source gives it
+pub use Rattle.cov_base.proofs.Laws.{length_of-least as some_length}
 use Rattle.module_area.specs.Meaning.{fact_count, place_of}
 use Rattle.module_area.specs.declared.places.Place.{Place}
 use Rattle.session_book.specs.Meaning.{ResultView}
@@ -23,15 +25,6 @@ marked_at mark places sets n = if nat_eq (mark_byte mark) (mark_byte (mark_of (p
 
 abbrev pub done_at : (ℕ → ResultView) → ℕ → ℕ
 done_at results t = (results t).done
-
-one_of : (a b : Bool) → 2 ≤ (if a then 2 else (if b then 4 else 6))
-one_of true b = omega arith
-one_of false true = omega arith
-one_of false false = omega arith
-
-pub some_length : (h : ℕ) → 2 ≤ length_of h
-unfolding length_of
-some_length h = one_of (nat_lt h 16384) (nat_lt h 49152)
 
 count_step : (n count : ℕ) → n < count → count - n ≡ suc (count - (n + 1))
 count_step n count h = omega arith
