@@ -3,4 +3,4 @@ pub use Rattle.cov_base.proofs.FactLemmas.{same_fact-self, same_fact-true, same_
 pub use Rattle.cov_base.proofs.FactLemmas.{with_fact-here, with_fact-more, with_fact-cases, has_fact-union, same_sets}
 pub use Rattle.cov_base.proofs.FactLemmas.{is_of_kind-fact_of, has_fact-full_of, within_none, within_kind, is_full-true}
 pub use Rattle.cov_base.proofs.LengthLemmas.{length_of-cases, length_of-least}
-pub use Rattle.cov_base.proofs.NameLemmas.{unpadded-padded}
+pub use Rattle.cov_base.proofs.NameLemmas.{no_blank, unpadded-padded}

@@ -12,7 +12,7 @@ pub both-right : (a b : Bool) → (a && b) ≡ true → b ≡ true
 both-right true b h = h
 both-right false b h = let e : false ≡ true = h in absurd cc
 
-no_blank : (b : ℕ) → is_name_byte b ≡ true → nat_eq b 32 ≡ false
+pub no_blank : (b : ℕ) → is_name_byte b ≡ true → nat_eq b 32 ≡ false
 no_blank b h = grind (arith, nat_tests)
 
 unpadded-blanks : (n : ℕ) → unpadded (replicate n 32) ≡ []

@@ -9,7 +9,7 @@ use Rattle.std.proofs.lemmas.List.{get_or-append-add}
 use Rattle.std.proofs.lemmas.List.Sums.{count_by-le-length}
 use Rattle.cov_base.specs.Meaning.{breakpoint, length_of}
 use Rattle.listing_reader.specs.declared.columns.Width.TheVariants.{Narrow}
-use Rattle.listing_reader.specs.Meaning.{narrow_text, is_text_after, heading_of, line_of, lines_behind}
+use Rattle.listing_reader.specs.Meaning.{narrow_text, is_text_after, heading_of, lines_behind}
 use Rattle.listing_reader.specs.Meaning as reader
 use Rattle.listing_reader.specs.declared.lines.Line.{Line}
 use Rattle.listing_reader.specs.declared.lines.Line.TheVariants.{Text}

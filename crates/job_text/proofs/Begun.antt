@@ -11,6 +11,7 @@ use Rattle.std.proofs.lemmas.Option.{same_Some, cond_some}
 use Rattle.std.proofs.lemmas.Bool.{and_from, and_parts, not-true, or_right}
 use Rattle.hex.proofs.OnLiterals.{hex_on_literals}
 use Rattle.cov_base.specs.Meaning.{is_name_byte, name_at, unpadded, words}
+use Rattle.cov_base.proofs.Laws.{no_blank}
 use Rattle.session_book.specs.Meaning.{TaskView}
 use Rattle.job_text.specs.Meaning.{LineView, listing_text, SessionDraft, DraftView, Present, is_controller, is_met_by, is_met, are_met, CardView, Cover, Module, Text, Listing, Phase, Session, Task, Reg, Data, Input, End, card_at, card_of, with_module, with_phase, this_phase, may_have, with_new_session, has_task, with_task, JobBegins, Serve, with_service}
 use Rattle.session_book.specs.declared.services.Service.{Service}
@@ -208,13 +209,6 @@ run_waits (l ∷ ls) st e r w =
     run_waits ls t.from e t.gives (step_waits st t.from l t.was w)
 
 -- the TASK card of a name
-
-no_blank : (b : ℕ) → is_name_byte b ≡ true → nat_eq b 32 ≡ false
-no_blank b e = by_test (nat_eq b 32) refl
-  where
-    by_test : (q : Bool) → nat_eq b 32 ≡ q → nat_eq b 32 ≡ false
-    by_test true f = let is : b ≡ 32 = grind (arith, nat_tests, f) in let no : is_name_byte 32 ≡ true = ap is_name_byte (sym is) ∙ e in absurd cc
-    by_test false f = f
 
 word_first : (w rest : List ℕ) → list_all is_name_byte w ≡ true → words (w ++ 32 ∷ rest) ≡ w ∷ words rest
 word_first [] rest e = refl

@@ -10,7 +10,7 @@ use Rattle.names.proofs.Laws.{index_of-map, has-map, none_named, one_named}
 use Rattle.session_book.specs.Meaning.{TaskView, no_task}
 use Rattle.job_text.specs.Names.{task_names}
 use Rattle.job_text.specs.declared.job_names.JobNames.{JobNames}
-use Rattle.job_text.specs.Meaning.{SessionDraft, DraftView, controller_named, has_module, has_task}
+use Rattle.job_text.specs.Meaning.{SessionDraft, controller_named, has_module, has_task}
 use Rattle.job_text.specs.Meaning as adding
 use Rattle.job_text.specs.DraftInside.{names_in, draft_view, HasNames}
 use Rattle.job_text.specs.declared.parts.Draft.TheInside.{Inside}

@@ -4,7 +4,8 @@ use Rattle.std.proofs.Common.{◌≡◌, ℕ, ◌+◌, Bool, true, false, nat_eq
 use Rattle.module_area.specs.declared.places.Place.{Place}
 use Rattle.interleave_core.specs.Meaning.{World, Parts, first_parts, run_on}
 use Rattle.session_book.specs.Meaning.{JobView}
-use Rattle.job_text.specs.Meaning.{LineView, put_on, lines_of, item_at}
+use Rattle.job_text.specs.Meaning.{LineView, lines_of, item_at}
+use Rattle.job_text.proofs.Laws.{no_lines}
 use Rattle.schedule_play.specs.Meaning.{Play, Bad, Whole, with_item, play, play_line, play_end, play_of, plants}
 use Rattle.schedule_play.specs.Play.{IsLine, IsUnplayed}
 use Rattle.schedule_play.specs.declared.playing.Played.{Played}
@@ -28,18 +29,9 @@ pub with_items-whole : (ps : List Played) (c : Parts) (qs : List Played) → wit
 with_items-whole [] c qs = refl
 with_items-whole (p ∷ ps) c qs = ap (with_item p) (with_items-whole ps c qs)
 
-none_put : (b : ℕ) (ls : List LineView) → put_on b ls ≡ [] → ⊥
-none_put b [] e = absurd cc
-none_put b (l ∷ ls) e = absurd cc
-
 -- bytes have a line
 pub has_line : (bs : List ℕ) → false ≡ (length bs == 0) → lines_of bs ≡ [] → ⊥
-has_line [] q e = absurd cc
-has_line (b ∷ bs) q e = by_end (nat_eq b 10) e
-  where
-    by_end : (f : Bool) → (if f then record { bytes = []; ended = true } ∷ lines_of bs else put_on b (lines_of bs)) ≡ [] → ⊥
-    by_end true r = absurd cc
-    by_end false r = none_put b (lines_of bs) r
+has_line bs q e = let none : false ≡ true = q ∙ ap (λ (xs : List ℕ). length xs == 0) (no_lines bs e) in absurd cc
 
 pub no_line : (bs : List ℕ) → length bs ≡ 0 → lines_of bs ≡ []
 no_line [] q = refl
