@@ -171,11 +171,8 @@ rule_mark w c v t h is lt due =
 
 -- ---- Lift
 
-cell_is : (a b : Cell) → a.tag ≡ b.tag → a.half ≡ b.half → a ≡ b
-cell_is a b h k = ap (λ (n : ℕ). record { tag = n; half = a.half }) h ∙ ap (λ (n : ℕ). record { tag = b.tag; half = n }) k
-
 pub same_cells : (a b : Cell) → same_cell a b ≡ true → a ≡ b
-same_cells a b h = let at = and_parts (nat_eq a.tag b.tag) (nat_eq a.half b.half) h in cell_is a b (eqb-true a.tag b.tag at.0) (eqb-true a.half b.half at.1)
+same_cells a b h = let at = and_parts (nat_eq a.tag b.tag) (nat_eq a.half b.half) h in λ i. record { tag = eqb-true a.tag b.tag at.0 i; half = eqb-true a.half b.half at.1 i }
 
 cell_itself : (a : Cell) → same_cell a a ≡ true
 cell_itself a = rw (itself a.tag, itself a.half) refl

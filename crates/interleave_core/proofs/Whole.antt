@@ -3,7 +3,7 @@ use Rattle.std.proofs.Common.{◌≡◌, ◌≢◌, ◌⊎◌, inl, inr, ℕ, ze
 use Rattle.std.proofs.lemmas.Bool.Decides.{nat_tests}
 use Rattle.std.proofs.lemmas.Grind.{get_or-set_at}
 use Rattle.std.proofs.lemmas.List.{get_or-set_other, get_or-map, append-nil}
-use Rattle.std.proofs.lemmas.Option.{same_Some}
+use Rattle.std.proofs.lemmas.Option.{same_Some, cond_some}
 use Rattle.std.proofs.lemmas.Bool.{and_from, and_parts, ltb-true, both_ways}
 use Rattle.cov_base.specs.Meaning.{FactSet, no_facts, has_fact, with_fact, is_full, fact_of, Visit}
 use Rattle.cov_base.specs.declared.numbers.PlaceNo.{PlaceNo}
@@ -246,10 +246,6 @@ noted_shown w p f (Met e ∷ log) pos is h = elim (has-append (noted_one p f) (l
   ]
 ]
 
-begun_by : (b : Bool) (g f : Fact) → (if b then Some g else None) ≡ Some f → (b ≡ true) × (g ≡ f)
-begun_by true g f h = (refl, cc)
-begun_by false g f h = let n : None ≡ Some f = h in absurd cc
-
 -- one visit more
 more_facts : (b : Bool) (x : FactSet) (g f : Fact) → has_fact x f ≡ true → has_fact (if b then with_fact x g else x) f ≡ true
 more_facts true x g f h = with_fact-more x g f h
@@ -289,7 +285,7 @@ noted_facts w p f [] h = absurd h
 noted_facts w p f (v ∷ vs) h = elim (has-append (noted_one p f) (note w v (place_at w v.at)) (noted w vs) h) [
   | inl new ↦
       let by = note_by w v (place_at w v.at) p f new in
-      let fact = begun_by v.begun (fact_of (kind_at (plan_in w) p) v.went) f by.1 in
+      let fact = cond_some v.begun (fact_of (kind_at (plan_in w) p) v.went) f by.1 in
       this_fact (executes (place_of w.places p) v) (facts_at (place_of w.places p) vs) (fact_of (kind_at (plan_in w) p) v.went) f
       (and_from v.begun (v.at == (place_of w.places p).at) fact.0 (equal_test v.at (place_of w.places p).at (sym (place_number w v.at p by.0)))) fact.1
   | inr old ↦ more_facts (executes (place_of w.places p) v) (facts_at (place_of w.places p) vs) (fact_of (kind_at (plan_in w) p) v.went) f (noted_facts w p f vs old)

@@ -1,5 +1,6 @@
 -- Each kind of step that leaves the cells keeps the rule.
-use Rattle.std.proofs.Common.{◌≡◌, ◌≢◌, ◌⊎◌, ℕ, ◌+◌, ◌%◌, ◌<◌, ◌≤◌, ◌&&◌, ◌||◌, Bool, true, false, nat_eq, if◌then◌else◌, Some, None, List, length, set, sym, refl, ap, ◌∙◌, subst, inl, inr, ⊎_elim, arith, eqb-true}
+use Rattle.std.proofs.Common.{◌≡◌, ◌≢◌, ◌⊎◌, ℕ, ◌+◌, ◌%◌, ◌<◌, ◌≤◌, ◌&&◌, ◌||◌, Bool, true, false, nat_eq, if◌then◌else◌, Some, List, length, set, sym, refl, ap, ◌∙◌, subst, inl, inr, ⊎_elim, arith, eqb-true}
+use Rattle.std.proofs.lemmas.Option.{cond_some}
 use Rattle.std.proofs.lemmas.Bool.{and_parts}
 use mathlib.Core.Option.{some}
 use mathlib.Core.Logic.{dite}
@@ -74,10 +75,6 @@ planted_not s c n e = n (sym (ap (λ (z : Cell). z.half) e))
 
 pub same_window : (s t : ℕ) → 0 < s → 0 < t → window_tag s ≡ window_tag t → s ≡ t
 same_window s t ps pt e = omega arith
-
-waits : (b : Bool) (x y : ℕ × ℕ) → (if b then Some x else None) ≡ Some y → (b ≡ true) × (x ≡ y)
-waits true x y e = (refl, cc)
-waits false x y e = absurd cc
 
 module _ (plan : PlanView) (p : ℕ) (c : Cell) (fine : original_at plan p ≢ breakpoint) where
   pub breakpoint_form : IsForm plan p c → c.half ≡ breakpoint → (s : ℕ) × (0 < s) × (is_over plan s p ≡ true) × (c ≡ planted s)
@@ -269,7 +266,7 @@ module _ (plan : PlanView) where
       pub fetch_kept : Kept plan cell sets (fetching plan p (cell p) v)
       fetch_kept = let k = r.kept id v at in let w : View = fetching plan p (cell p) v in record {
         seen = λ q t h. ⊎_elim (λ (e : (p, (cell p).tag) ≡ (q, t)). subst (λ (z : ℕ × ℕ). (z.0 < length plan.places) × (z.1 ≤ (cell z.0).tag)) e (l, omega arith)) (λ (o : Has (q, t) v.seen). k.seen q t o) h;
-        pending = λ q t h. let b = waits (is_breakpoint (cell p)) (p, (cell p).tag) (q, t) h in
+        pending = λ q t h. let b = cond_some (is_breakpoint (cell p)) (p, (cell p).tag) (q, t) h in
             subst (λ (z : ℕ × ℕ). (s : ℕ) × (0 < s) × (is_over plan s z.0 ≡ true) × (z.1 ≡ window_tag s) × Has z w.seen) b.1
             (let a = was_planted (eqb-true _ _ b.0) in (a.0, a.1, a.2, a.3, inl refl));
         marked = k.marked;

@@ -1,5 +1,6 @@
 -- The steps on cells and sets, and the seats split and joined, where the tasks' words stand behind.
-use Rattle.std.proofs.Common.{◌≡◌, ◌≢◌, ℕ, ◌*◌, ◌%◌, ◌^◌, ◌<◌, ◌≤◌, Bool, true, false, nat_eq, eqb, if◌then◌else◌, Some, None, List, length, get_or, set, sym, refl, ap, ◌∙◌, subst, ⊎_elim, arith, bit_or, length-set, get_or-set_same, get_or-set_other}
+use Rattle.std.proofs.Common.{◌≡◌, ◌≢◌, ℕ, ◌*◌, ◌%◌, ◌^◌, ◌<◌, ◌≤◌, Bool, true, false, nat_eq, eqb, if◌then◌else◌, List, length, get_or, set, sym, refl, ap, ◌∙◌, subst, ⊎_elim, arith, bit_or, length-set, get_or-set_same, get_or-set_other}
+use Rattle.std.proofs.lemmas.Option.{cond_some}
 use Rattle.std.proofs.lemmas.List.{length-take-le, get_or-take}
 use Rattle.std.proofs.Math.Seq.{take-set-lt}
 use lib.Seq.{set-get_or}
@@ -29,13 +30,6 @@ use Rattle.shared_area.proofs.Picked.{IsFront, Tagged}
 use Rattle.shared_area.proofs.WordLemmas.{cell_of-word_of, cell_of-closed_word_of, cell_front, set_front}
 use Rattle.shared_area.proofs.RootLemmas.{rooted_set, rooted_more, rooted_other}
 use Rattle.shared_area.proofs.TableLemmas.{added, other_cell, cell_no_set, set_no_cell, other_set, lift_did, fetch_allowed, mark_allowed, look_allowed, lift_allowed, plant_allowed, close_allowed}
-
-waits_by : (b : Bool) (y z : ℕ × ℕ) → (if b then Some y else None) ≡ Some z → y ≡ z
-waits_by true y z e = cc
-waits_by false y z e = absurd cc
-
-waits : (b : Bool) (p t q x : ℕ) (y z : ℕ × ℕ) → y ≡ (p, t) → z ≡ (q, x) → (if b then Some y else None) ≡ Some z → (q ≡ p) × (x ≡ t)
-waits b p t q x y z ey ez e = let k = waits_by b y z e in (sym (ap (λ (y : ℕ × ℕ). y.0) ez) ∙ (sym (ap (λ (y : ℕ × ℕ). y.0) k) ∙ ap (λ (y : ℕ × ℕ). y.0) ey), sym (ap (λ (y : ℕ × ℕ). y.1) ez) ∙ (sym (ap (λ (y : ℕ × ℕ). y.1) k) ∙ ap (λ (y : ℕ × ℕ). y.1) ey))
 
 module _ (plan : PlanView) where
   abbrev pub St : Type 0
@@ -84,7 +78,7 @@ module _ (plan : PlanView) where
       (λ s r at m told. let F : List ℕ = front plan s.words in let c : Cell = cell_of (get_or F p 0) in
       subst (λ (z : List ℕ × View). DrainedOf z.0 s.words (set s.views id z.1)) (λ j. (sym (set-get_or F p 0) j, sym told.0.after j))
       (fetch_drained plan (cells_in F) (sets_in plan F) (numbers_in plan s.words) s.views r.held r.drained id me.0 at t p c (fetching plan p c me.0) bears even refl
-      (λ q x e. waits (is_breakpoint c) p c.tag q x (p, c.tag) (q, x) refl refl e) refl refl refl refl refl refl))
+      (λ q x e. let same = (cond_some (is_breakpoint c) (p, c.tag) (q, x) e).1 in (sym (ap (λ (y : ℕ × ℕ). y.0) same), sym (ap (λ (y : ℕ × ℕ). y.1) same))) refl refl refl refl refl refl))
 
   pub mark_stands : (slots id s p : ℕ) (f : Fact) (me : Me NoSlot View) → MayMark plan s p f me.0
       → Allows (IsArea plan) slots id me (set_word (length plan.places) s p) (λ x. bit_or x (2 ^ bit_of p f)) (λ w me'. Marked plan s p f me.0 (facts_of (kind_at plan p) p w) me'.0 × (me'.1 ≡ me.1))
