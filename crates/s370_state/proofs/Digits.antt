@@ -1,5 +1,5 @@
 -- The digits of packed decimal fields, a byte at a time.
-use Rattle.std.proofs.Common.{if◌then◌else◌, ◌≡◌, ℕ, ◌+◌, ◌-◌, ◌*◌, ◌/◌, ◌%◌, ◌^◌, ◌<◌, ◌≤◌, zero, suc, Bool, true, false, ◌&&◌, Option, Some, None, List, [], ◌∷◌, ◌++◌, length, length-append, take, drop, slice_index, slice_set, refl, ap, sym, ◌∙◌, arith, lit<, append_assoc, add-one, ◌⊎◌, inl, inr}
+use Rattle.std.proofs.Common.{if◌then◌else◌, ◌≡◌, ℕ, ◌+◌, ◌-◌, ◌*◌, ◌/◌, ◌%◌, ◌^◌, ◌<◌, ◌≤◌, zero, suc, Bool, true, false, ◌&&◌, Option, Some, None, List, [], ◌∷◌, ◌++◌, length, length-append, take, drop, slice_index, slice_set, refl, ap, sym, ◌∙◌, arith, lit<, append_assoc, add-one, inl, inr, eq-or-lt_of_le}
 use Rattle.std.proofs.Math.Nat.{pow-suc, pow-le-pow_right}
 use Rattle.std.proofs.lemmas.Nat.{pow-add, mul-pow}
 use Rattle.std.proofs.lemmas.Bool.Decides.{nat_tests}
@@ -8,6 +8,7 @@ use Rattle.std.proofs.Math.Seq.{take-add, take-suc}
 use Rattle.std.proofs.lemmas.List.Folds.{list_all-append}
 use Rattle.std.specs.List.{list_all}
 use Rattle.std.proofs.lemmas.Bool.{and_parts}
+use Rattle.std.proofs.Math.Bool.{and-true, and-false}
 use Rattle.cov_base.specs.Meaning.{Memory, byte_at, wrap}
 use Rattle.s370_state.specs.declared.packed.Field.{Field}
 use Rattle.s370_state.specs.Meaning.{is_sign, is_minus, sign_half, is_digit, halves_at, decimal, field_at, digits_of, bytes_of, store_bytes, store_field}
@@ -29,28 +30,16 @@ pub more_halves : (m : Memory) (bytes : List ℕ) (a n b : ℕ) → b ≡ byte_a
 unfolding halves_at
 more_halves m bytes a n b e = rw (add-one, e) refl
 
-two_true : (a b : Bool) → (a && (b && true)) ≡ (a && b)
-two_true true true = refl
-two_true true false = refl
-two_true false b = refl
-
-and_false : (a : Bool) → (a && false) ≡ false
-and_false true = refl
-and_false false = refl
-
 -- the digits of a byte more
 pub digits_more : (m : Memory) (bytes : List ℕ) (a n b : ℕ) → b ≡ byte_at m bytes (wrap (a + n)) → list_all is_digit (halves_at m bytes a n) ≡ true → (is_digit (b / 16) && is_digit (b % 16)) ≡ true →
     list_all is_digit (halves_at m bytes a (n + 1)) ≡ true
 digits_more m bytes a n b e h d =
-    rw (more_halves m bytes a n b e, list_all-append is_digit (halves_at m bytes a n) (b / 16 ∷ (b % 16 ∷ [])), h) (two_true (is_digit (b / 16)) (is_digit (b % 16)) ∙ d)
+    rw (more_halves m bytes a n b e, list_all-append is_digit (halves_at m bytes a n) (b / 16 ∷ (b % 16 ∷ [])), h) (ap (λ x. is_digit (b / 16) && x) (and-true (is_digit (b % 16))) ∙ d)
 
 -- and their number
 pub number_more : (m : Memory) (bytes : List ℕ) (a n b v : ℕ) → b ≡ byte_at m bytes (wrap (a + n)) → v ≡ decimal 0 (halves_at m bytes a n) → v * 100 + (b / 16 * 10 + b % 16) ≡ decimal 0 (halves_at m bytes a (n + 1))
 number_more m bytes a n b v e h =
     rw (more_halves m bytes a n b e, decimal_append (halves_at m bytes a n) 0 (b / 16 ∷ (b % 16 ∷ [])), ← h, decimal_two v (b / 16) (b % 16)) refl
-
-last_or : (i n : ℕ) → i < suc n → (i ≡ n) ⊎ (i < n)
-last_or i n h = grind arith
 
 -- a byte that is no pair of digits
 pub digits_fail : (m : Memory) (bytes : List ℕ) (a n i b : ℕ) → b ≡ byte_at m bytes (wrap (a + i)) → i < n → (is_digit (b / 16) && is_digit (b % 16)) ≡ false → list_all is_digit (halves_at m bytes a n) ≡ false
@@ -59,11 +48,11 @@ digits_fail m bytes a zero i b e l h = absurd (omega arith)
 digits_fail m bytes a (suc n) i b e l h =
     let c : ℕ = byte_at m bytes (wrap (a + n)) in
     let parts = list_all-append is_digit (halves_at m bytes a n) (c / 16 ∷ (c % 16 ∷ [])) in
-    elim (last_or i n l) [
+    elim (eq-or-lt_of_le {n = i} {m = n} (omega arith)) [
       | inl q ↦
           let same : b ≡ c = e ∙ ap (λ (k : ℕ). byte_at m bytes (wrap (a + k))) q in
-          let bad : (is_digit (c / 16) && (is_digit (c % 16) && true)) ≡ false = two_true (is_digit (c / 16)) (is_digit (c % 16)) ∙ (rw same at h) in
-          parts ∙ (rw bad (and_false (list_all is_digit (halves_at m bytes a n))))
+          let bad : (is_digit (c / 16) && (is_digit (c % 16) && true)) ≡ false = ap (λ x. is_digit (c / 16) && x) (and-true (is_digit (c % 16))) ∙ (rw same at h) in
+          parts ∙ (rw bad (and-false (list_all is_digit (halves_at m bytes a n))))
       | inr k ↦ parts ∙ (rw (digits_fail m bytes a n i b e k h) refl)
     ]
 

@@ -1,35 +1,25 @@
 -- What an operand that passed its tests gives for each of its bytes.
-use Rattle.std.proofs.Common.{◌≡◌, ℕ, ◌+◌, ◌*◌, ◌/◌, ◌%◌, ◌<◌, ◌≤◌, zero, suc, Bool, true, false, ◌&&◌, List, slice_set, arith, zero-add, add-zero, refl, ◌⊎◌, inl, inr}
+use Rattle.std.proofs.Common.{◌≡◌, ℕ, ◌+◌, ◌*◌, ◌/◌, ◌%◌, ◌<◌, ◌≤◌, zero, suc, true, List, slice_set, arith, zero-add, add-zero, refl, inl, inr, eq-or-lt_of_le}
+use Rattle.std.proofs.lemmas.Bool.{and_parts}
 use Rattle.cov_base.specs.Meaning.{Memory, can_reach, can_store, is_accessible, is_private, wrap, byte_at}
 use Rattle.s370_state.specs.Meaning.{number_at, store_number}
-
-both-left : (a b : Bool) → (a && b) ≡ true → a ≡ true
-both-left true b h = refl
-both-left false b h = h
-
-both-right : (a b : Bool) → (a && b) ≡ true → b ≡ true
-both-right true b h = h
-both-right false b h = let e : false ≡ true = h in absurd cc
-
-last_or : (i n : ℕ) → i < suc n → (i ≡ n) ⊎ (i < n)
-last_or i n h = grind arith
 
 pub reach_at : (m : Memory) (a n i b : ℕ) → can_reach m a n ≡ true → i < n → b ≡ wrap (a + i) → is_accessible m b ≡ true
 unfolding can_reach
 reach_at m a zero i b h l e = absurd (omega arith)
 reach_at m a (suc n) i b h l e =
-    elim (last_or i n l) [
-      | inl q ↦ rw (e, q) (both-right (can_reach m a n) _ h)
-      | inr k ↦ reach_at m a n i b (both-left (can_reach m a n) _ h) k e
+    elim (eq-or-lt_of_le {n = i} {m = n} (omega arith)) [
+      | inl q ↦ rw (e, q) (and_parts (can_reach m a n) _ h).1
+      | inr k ↦ reach_at m a n i b (and_parts (can_reach m a n) _ h).0 k e
     ]
 
 pub store_at : (m : Memory) (a n i b : ℕ) → can_store m a n ≡ true → i < n → b ≡ wrap (a + i) → is_private m b ≡ true
 unfolding can_store
 store_at m a zero i b h l e = absurd (omega arith)
 store_at m a (suc n) i b h l e =
-    elim (last_or i n l) [
-      | inl q ↦ rw (e, q) (both-right (can_store m a n) _ h)
-      | inr k ↦ store_at m a n i b (both-left (can_store m a n) _ h) k e
+    elim (eq-or-lt_of_le {n = i} {m = n} (omega arith)) [
+      | inl q ↦ rw (e, q) (and_parts (can_store m a n) _ h).1
+      | inr k ↦ store_at m a n i b (and_parts (can_store m a n) _ h).0 k e
     ]
 
 pub word_of_bytes : (m : Memory) (bytes : List ℕ) (a : ℕ) → number_at m bytes a 4 ≡ ((byte_at m bytes (wrap a) * 256 + byte_at m bytes (wrap (a + 1))) * 256 + byte_at m bytes (wrap (a + 2))) * 256 + byte_at m bytes (wrap (a + 3))
@@ -60,9 +50,9 @@ pub store_prefix : (m : Memory) (a n k : ℕ) → can_store m a n ≡ true → k
 unfolding can_store
 store_prefix m a zero k h l = let e : k ≡ 0 = omega arith in rw e refl
 store_prefix m a (suc n) k h l =
-    elim (last_or k (suc n) (omega arith)) [
+    elim (eq-or-lt_of_le l) [
       | inl q ↦ rw q h
-      | inr z ↦ store_prefix m a n k (both-left (can_store m a n) _ h) (omega arith)
+      | inr z ↦ store_prefix m a n k (and_parts (can_store m a n) (is_private m (wrap (a + n))) h).0 (omega arith)
     ]
 
 pub store_part : (m : Memory) (a n i b k : ℕ) → can_store m a n ≡ true → i + k ≤ n → b ≡ wrap (a + i) → can_store m b k ≡ true
