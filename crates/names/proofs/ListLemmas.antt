@@ -1,9 +1,9 @@
 -- What a map finds of names is what a search of the list finds.
-use Rattle.std.proofs.Common.{◌≡◌, ◌≢◌, ℕ, ◌+◌, ◌<◌, ◌≤◌, Bool, true, false, not, ◌&&◌, ◌||◌, cond, nat_lt, Some, None, List, [], ◌∷◌, length, map, get_or, position, is_some, if◌then◌else◌, refl, ap, sym, ◌∙◌, arith, ◌⊎◌, inl, inr}
+use Rattle.std.proofs.Common.{◌≡◌, ℕ, ◌+◌, ◌<◌, ◌≤◌, Bool, true, false, not, ◌&&◌, ◌||◌, cond, nat_lt, Some, None, List, [], ◌∷◌, length, map, get_or, position, is_some, if◌then◌else◌, refl, ap, sym, ◌∙◌, arith, ◌⊎◌, inl, inr}
 use Rattle.std.specs.List.{list_any, prefix_len, position_or_len, IsDistinct}
 use Rattle.std.specs.Str.{bytes_eq}
 use Rattle.std.specs.Cmp.Lexicographic.{nat_list_eq_equiv}
-use Rattle.std.proofs.lemmas.Bool.{cases_lt}
+use Rattle.std.proofs.lemmas.Bool.{cases_lt, false_from_ne_true}
 use Rattle.std.proofs.lemmas.Bool.Decides.{nat_tests}
 use Rattle.std.proofs.lemmas.Slice.Eq.{bytes_eq-Decides}
 use Rattle.std.proofs.lemmas.List.{length-map, get_or-map}
@@ -60,15 +60,6 @@ pub has-map : {X : Type 0} (name : X → List ℕ) (xs : List X) (n : List ℕ) 
 has-map name [] n = refl
 has-map name (x ∷ xs) n = ap (λ b. bytes_eq (name x) n || b) (has-map name xs n)
 
--- two names that differ
-
-unlike : (a b : List ℕ) → a ≢ b → bytes_eq a b ≡ false
-unlike a b apart = by (bytes_eq a b) refl
-  where
-    by : (q : Bool) → bytes_eq a b ≡ q → bytes_eq a b ≡ false
-    by true e = absurd (apart ((bytes_eq-Decides a b).0 e))
-    by false e = e
-
 -- an element that has the name and passes a further test: where names differ the one with the name, if it passes
 
 first_at : {X : Type 0} (p : X → Bool) (xs : List X) (i : ℕ) → position_or_len p xs ≡ i → i < length xs → position p xs ≡ Some i
@@ -106,7 +97,7 @@ module _ {X : Type 0} (name : X → List ℕ) (more : X → Bool) (xs : List X) 
       here = position-Some is_named xs i d e
 
       apart : (k : ℕ) → i < k → k < length xs → is_named (get_or xs k d) ≡ false
-      apart k h l = unlike (name (get_or xs k d)) n (λ same.
+      apart k h l = false_from_ne_true _ (λ t. let same = (bytes_eq-Decides (name (get_or xs k d)) n).0 t in
           differ i k (name d) h (omega (arith, length-map xs name, l))
           (get_or-map name xs i d (name d) here.0 ∙ ((bytes_eq-Decides (name (get_or xs i d)) n).0 here.1 ∙ (sym same ∙ sym (get_or-map name xs k d (name d) l)))))
 
