@@ -1,11 +1,12 @@
 -- Lines in a buffer: a line that is read, a block that is opened, and a line that is added.
-use Rattle.std.proofs.Common.{◌≡◌, ℕ, ◌+◌, ◌-◌, ◌/◌, ◌<◌, ◌≤◌, List, [], ◌∷◌, ◌++◌, length, get_or, map, drop, refl, sym, ap, ◌∙◌, true, false, nat_lt, if◌then◌else◌, length-append, inl, inr, ◌⊎◌, arith}
+use Rattle.std.proofs.Common.{◌≡◌, ℕ, ◌+◌, ◌-◌, ◌/◌, ◌<◌, ◌≤◌, List, [], ◌∷◌, ◌++◌, length, get_or, map, drop, refl, sym, ap, ◌∙◌, true, false, nat_lt, if◌then◌else◌, length-append, inl, inr, arith}
 use Rattle.std.specs.Prelude.{slice_range}
 use Rattle.std.specs.List.{range_with_len}
 use Rattle.std.proofs.Math.Seq.{drop-append_seam, get_or-append_seam}
 use Rattle.std.proofs.lemmas.Bool.Decides.{nat_tests}
 use Rattle.std.proofs.lemmas.List.{take_all, take-append-le, drop-append-le, length-drop, get_or_append_left, ext_get_or}
 use Rattle.std.proofs.lemmas.List.FromFn.{length-map-range_with_len, get_or-map-range_with_len, map-range_with_len_more, fill_by_all}
+use Rattle.std.proofs.lemmas.Bool.{cases_lt}
 use Rattle.cov_base.specs.declared.limits.TheConstants.{LINE_LIMIT}
 use Rattle.listing_reader.specs.Buffer.{begin_of, buffered_line, buffered_lines, IsBuffer}
 
@@ -83,13 +84,6 @@ range_added xs ys =
     let size : length (xs ++ ys) - length xs ≡ length ys = omega (arith, length-append xs ys) in
     rw (drop-append_seam xs ys, size) (take_all (length ys) ys (omega arith))
 
-le_or_lt : (i n : ℕ) → (i ≤ n) ⊎ (n < i)
-le_or_lt i n = by_test (nat_lt n i) refl
-  where
-    by_test : (t : _) → nat_lt n i ≡ t → (i ≤ n) ⊎ (n < i)
-    by_test true e = inr (grind (arith, nat_tests))
-    by_test false e = inl (grind (arith, nat_tests))
-
 -- a further line
 module _ (bytes starts begins line : List ℕ) (begin : ℕ) (b : IsBuffer bytes starts begins) (is : length begins / 256 < length starts) (short : length line ≤ LINE_LIMIT) (at : begin ≡ length bytes - get_or starts (length begins / 256) 0) where
   begin_before : (i : ℕ) → i ≤ length begins → begin_of (bytes ++ line) starts (begins ++ begin ∷ []) i ≡ begin_of bytes starts begins i
@@ -138,15 +132,15 @@ module _ (bytes starts begins line : List ℕ) (begin : ℕ) (b : IsBuffer bytes
           rw same is
 
       inside : (i : ℕ) → begin_of (bytes ++ line) starts (begins ++ begin ∷ []) i ≤ length (bytes ++ line)
-      inside i = elim (le_or_lt i (length begins)) [
-        | inl le ↦ omega (arith, begin_before i le, b.inside i, length-append bytes line)
-        | inr gt ↦ omega (arith, begin_behind i gt, length-append bytes line)
+      inside i = elim (cases_lt (length begins) i) [
+        | inl gt ↦ omega (arith, begin_behind i gt, length-append bytes line)
+        | inr le ↦ omega (arith, begin_before i le, b.inside i, length-append bytes line)
       ]
 
       rising : (i : ℕ) → begin_of (bytes ++ line) starts (begins ++ begin ∷ []) i ≤ begin_of (bytes ++ line) starts (begins ++ begin ∷ []) (i + 1)
-      rising i = elim (le_or_lt (i + 1) (length begins)) [
-        | inl le ↦ omega (arith, begin_before i (omega arith), begin_before (i + 1) le, b.rising i)
-        | inr gt ↦ omega (arith, inside i, begin_behind (i + 1) gt, length-append bytes line)
+      rising i = elim (cases_lt (length begins) (i + 1)) [
+        | inl gt ↦ omega (arith, inside i, begin_behind (i + 1) gt, length-append bytes line)
+        | inr le ↦ omega (arith, begin_before i (omega arith), begin_before (i + 1) le, b.rising i)
       ]
 
   pub added_lines : buffered_lines (bytes ++ line) starts (begins ++ begin ∷ []) ≡ buffered_lines bytes starts begins ++ line ∷ []

@@ -1,15 +1,13 @@
 -- Tests and digits of several columns.
-use Rattle.std.proofs.Common.{◌≡◌, ℕ, ◌+◌, ◌*◌, ◌^◌, ◌/◌, ◌%◌, ◌⊎◌, inl, inr, unwrap_or, ◌<◌, ◌≤◌, zero, suc, Bool, true, false, ◌&&◌, Option, Some, None, List, refl, add-one, arith}
+use Rattle.std.proofs.Common.{◌≡◌, ℕ, ◌+◌, ◌*◌, ◌^◌, ◌/◌, ◌%◌, inl, inr, unwrap_or, ◌<◌, ◌≤◌, zero, suc, Bool, true, false, Option, Some, None, List, refl, add-one, arith, eq-or-lt_of_le, lit<}
 use Rattle.std.proofs.Common.{add-zero}
 use Rattle.std.specs.Prelude.{option_map}
 use Rattle.std.specs.Option.{option_and_then}
+use Rattle.std.proofs.Math.Bool.{and-false}
+use Rattle.std.proofs.Math.Nat.{pow-le-pow_right}
 use Rattle.hex.specs.Hex.{hex_digit_value}
 use Rattle.listing_reader.specs.declared.columns.Columns.{Columns}
 use Rattle.listing_reader.specs.Meaning.{column, all_below, number_in, byte_in}
-
-and_false : (b : Bool) → (b && false) ≡ false
-and_false true = refl
-and_false false = refl
 
 pub all_below_none : (test : ℕ → Bool) → all_below test 0 ≡ true
 unfolding all_below
@@ -22,13 +20,10 @@ all_below_more test k h t = rw (add-one, h, t) refl
 pub all_below_false : (test : ℕ → Bool) (m k : ℕ) → test k ≡ false → k < m → all_below test m ≡ false
 unfolding all_below
 all_below_false test zero k t h = absurd (omega arith)
-all_below_false test (suc m) k t h = elim (at_or_below k m h) [
-  | inl e ↦ rw (← e, t) (and_false (all_below test k))
+all_below_false test (suc m) k t h = elim (eq-or-lt_of_le {n = k} {m = m} (omega arith)) [
+  | inl e ↦ rw (← e, t) (and-false (all_below test k))
   | inr l ↦ rw (all_below_false test m k t l) refl
 ]
-  where
-    at_or_below : (k m : ℕ) → k < suc m → (k ≡ m) ⊎ (k < m)
-    at_or_below k m h = grind arith
 
 -- the number with a digit more
 abbrev pub with_digit : Option ℕ → Option ℕ → Option ℕ
@@ -45,13 +40,10 @@ number_in_more line shift from k n d h e = rw (add-one, h, e) refl
 pub number_in_none : (line : List ℕ) (shift from m k : ℕ) → hex_digit_value (column line shift (from + k)) ≡ None → k < m → number_in line shift from m ≡ None
 unfolding number_in
 number_in_none line shift from zero k e h = absurd (omega arith)
-number_in_none line shift from (suc m) k e h = elim (at_or_below k m h) [
+number_in_none line shift from (suc m) k e h = elim (eq-or-lt_of_le {n = k} {m = m} (omega arith)) [
   | inl q ↦ rw (← q, e) (no_digit (number_in line shift from k))
   | inr l ↦ rw (number_in_none line shift from m k e l) refl
 ]
-  where
-    at_or_below : (k m : ℕ) → k < suc m → (k ≡ m) ⊎ (k < m)
-    at_or_below k m h = grind arith
 
 -- two digits
 pub number_in_two : (line : List ℕ) (shift from : ℕ) → number_in line shift from 2 ≡ with_digit (with_digit (Some 0) (hex_digit_value (column line shift from))) (hex_digit_value (column line shift (from + 1)))
@@ -59,15 +51,7 @@ unfolding number_in
 number_in_two line shift from = rw (add-zero from) refl
 
 pub power_16 : (i : ℕ) → i < 8 → 16 ^ i ≤ 268435456
-power_16 zero h = omega arith
-power_16 (suc zero) h = omega arith
-power_16 (suc (suc zero)) h = omega arith
-power_16 (suc (suc (suc zero))) h = omega arith
-power_16 (suc (suc (suc (suc zero)))) h = omega arith
-power_16 (suc (suc (suc (suc (suc zero))))) h = omega arith
-power_16 (suc (suc (suc (suc (suc (suc zero)))))) h = omega arith
-power_16 (suc (suc (suc (suc (suc (suc (suc zero))))))) h = omega arith
-power_16 (suc (suc (suc (suc (suc (suc (suc (suc i)))))))) h = absurd (omega arith)
+power_16 i h = pow-le-pow_right {n = 16} (lit< tt) {i = i} {j = 7} (omega arith)
 
 -- a byte of the object code by its two digits
 pub byte_in_two : (c : Columns) (line : List ℕ) (shift i : ℕ) (high low : Option ℕ) → hex_digit_value (column line shift (c.object + 5 * (i / 2) + 2 * (i % 2))) ≡ high
