@@ -46,7 +46,7 @@ fn put_product<P: Space>(cpu: &Cpu, space: &mut P, it: &Decoded, o: Operands) ->
 }
 
 /// Quotient and remainder go to the first field, unless the divisor is zero or the quotient too long.
-#[tactic(auto, unfolding(crate::specs::Meaning::divided_fields), using(crate::proofs::Powers::store_left, crate::proofs::Powers::store_right))]
+#[tactic(auto, unfolding(crate::specs::Meaning::divided_fields), using(s370_state::proofs::Laws::store_prefix, s370_state::proofs::Laws::store_part))]
 fn put_quotient<P: Space>(cpu: &Cpu, space: &mut P, it: &Decoded, o: Operands) -> Next
     requires shorter { l2 it.now.code < l1 it.now.code }
     requires store { can_store (P.memory space.old) (e1 cpu.now it.now.code) (l1 it.now.code + 1) ≡ true }

@@ -1,13 +1,7 @@
 -- The first number that passes a test, one number on.
-use Rattle.std.proofs.Common.{◌≡◌, ℕ, ◌+◌, ◌<◌, ◌≤◌, zero, suc, Bool, true, false, if◌then◌else◌, Option, Some, None, refl, add-one, arith, ◌⊎◌, inl, inr}
+use Rattle.std.proofs.Common.{◌≡◌, ℕ, ◌+◌, ◌<◌, ◌≤◌, zero, suc, Bool, true, false, if◌then◌else◌, Option, Some, None, refl, add-one, arith, ◌⊎◌, inl, inr, eq-or-lt_of_le}
 use Rattle.std.specs.Option.{option_or}
 use Rattle.s370_storage.specs.Meaning.{first_where}
-
-last_or : (i n : ℕ) → i < suc n → (i ≡ n) ⊎ (i < n)
-last_or i n h = grind arith
-
-same_or : (i n : ℕ) → i ≤ suc n → (i ≡ suc n) ⊎ (i ≤ n)
-same_or i n h = grind arith
 
 pub first_none : (p : ℕ → Bool) → first_where p 0 ≡ None
 unfolding first_where
@@ -21,7 +15,7 @@ pub first_here : (p : ℕ → Bool) (n i : ℕ) → i < n → first_where p i �
 unfolding first_where
 first_here p zero i l h k = absurd (omega arith)
 first_here p (suc n) i l h k =
-    elim (last_or i n l) [
+    elim (eq-or-lt_of_le {n = i} {m = n} (omega arith)) [
       | inl q ↦ rw (← q, h, k) refl
       | inr z ↦ rw (first_here p n i z h k) refl
     ]
@@ -36,10 +30,10 @@ pub first_past : (p : ℕ → Bool) (n i j : ℕ) → i ≤ n → first_where p 
 unfolding first_where
 first_past p zero i j l h e = let x : None ≡ Some j = e in absurd cc
 first_past p (suc n) i j l h e =
-    elim (same_or i n l) [
+    elim (eq-or-lt_of_le l) [
       | inl q ↦ let x : first_where p (suc n) ≡ None = rw q at h in let y : first_where p (suc n) ≡ Some j = e in absurd cc
       | inr k ↦ elim (last_of (p n) (first_where p n) n j e) [
-        | inl q ↦ first_past p n i j k h q
-        | inr z ↦ rw z k
+        | inl q ↦ first_past p n i j (omega arith) h q
+        | inr z ↦ rw z (omega arith)
       ]
     ]

@@ -1,9 +1,7 @@
 -- Long operands, one byte on.
-use Rattle.std.proofs.Common.{◌≡◌, ◌≢◌, ℕ, ◌+◌, ◌<◌, ◌≤◌, zero, suc, Bool, true, false, ◌&&◌, not, ◌==◌, Some, None, List, slice_set, refl, sym, add-one, arith, ◌⊎◌, inl, inr}
-use Rattle.std.proofs.lemmas.Bool.Decides.{nat_tests}
+use Rattle.std.proofs.Common.{◌≡◌, ◌≢◌, ℕ, ◌+◌, ◌<◌, ◌≤◌, zero, suc, true, Some, None, List, slice_set, refl, sym, add-one, arith, inl, inr, eq-or-lt_of_le, ◌∙◌}
+use Rattle.std.proofs.lemmas.Bool.{and_parts, eq-eqb, ne_eqb, not_from_false, not_from_true}
 use Rattle.cov_base.specs.Meaning.{Memory, wrap, can_reach, is_accessible}
--- by this path a line of the source gives it
-pub use Rattle.s370_state.proofs.Laws.{store_prefix}
 use Rattle.s370_storage.proofs.Firsts.{first_none, first_more, first_here}
 use Rattle.s370_storage.specs.Meaning.{lesser, padded_bytes, first_byte, second_byte, unequal}
 use Rattle.s370_storage.specs.declared.long.Long.{Long}
@@ -16,37 +14,24 @@ pub padded_more : (bytes : List ℕ) (o : Long) (k : ℕ) → padded_bytes bytes
 unfolding padded_bytes
 padded_more bytes o k = rw add-one refl
 
-both_left : (a b : Bool) → (a && b) ≡ true → a ≡ true
-both_left true b h = refl
-both_left false b h = h
-
-same_or : (i n : ℕ) → i ≤ suc n → (i ≡ suc n) ⊎ (i ≤ n)
-same_or i n h = grind arith
-
 -- the left part of an operand
 pub reach_prefix : (m : Memory) (a n k : ℕ) → can_reach m a n ≡ true → k ≤ n → can_reach m a k ≡ true
 unfolding can_reach
 reach_prefix m a zero k h l = let e : k ≡ 0 = omega arith in rw e refl
 reach_prefix m a (suc n) k h l =
-    elim (same_or k n l) [
+    elim (eq-or-lt_of_le l) [
       | inl q ↦ rw q h
-      | inr z ↦ reach_prefix m a n k (both_left (can_reach m a n) (is_accessible m (wrap (a + n))) h) z
+      | inr z ↦ reach_prefix m a n k (and_parts (can_reach m a n) (is_accessible m (wrap (a + n))) h).0 (omega arith)
     ]
 
 pub unequal_none : (m : Memory) (bytes : List ℕ) (o : Long) → unequal m bytes o 0 ≡ None
 unfolding unequal
 unequal_none m bytes o = first_none _
 
-equal_fails : (x y : ℕ) → x ≡ y → not (x == y) ≡ false
-equal_fails x y h = grind (arith, nat_tests)
-
-others_pass : (x y : ℕ) → x ≢ y → not (x == y) ≡ true
-others_pass x y h = grind (arith, nat_tests)
-
 pub unequal_more : (m : Memory) (bytes : List ℕ) (o : Long) (n x y : ℕ) → unequal m bytes o n ≡ None → x ≡ first_byte m bytes o n → y ≡ second_byte m bytes o n → x ≡ y → unequal m bytes o (n + 1) ≡ None
 unfolding unequal
-unequal_more m bytes o n x y h d e z = first_more _ n h (equal_fails _ _ cc)
+unequal_more m bytes o n x y h d e z = first_more _ n h (not_from_true _ (eq-eqb _ _ (sym d ∙ z ∙ e)))
 
 pub unequal_here : (m : Memory) (bytes : List ℕ) (o : Long) (n i x y : ℕ) → i < n → unequal m bytes o i ≡ None → x ≡ first_byte m bytes o i → y ≡ second_byte m bytes o i → x ≢ y → Some i ≡ unequal m bytes o n
 unfolding unequal
-unequal_here m bytes o n i x y l h d e z = sym (first_here _ n i l h (rw (← d, ← e) (others_pass x y z)))
+unequal_here m bytes o n i x y l h d e z = sym (first_here _ n i l h (rw (← d, ← e) (not_from_false _ (ne_eqb x y z))))

@@ -1,42 +1,19 @@
 -- The function bytes of a table, one argument on.
-use Rattle.std.proofs.Common.{◌≡◌, ◌≢◌, ℕ, ◌+◌, ◌<◌, ◌≤◌, zero, suc, Bool, true, false, ◌&&◌, Option, Some, None, List, [], ◌∷◌, ◌++◌, slice_set, refl, sym, ◌∙◌, add-one, arith, get_or-set_other, ◌⊎◌, inl, inr, not, ◌==◌}
+use Rattle.std.proofs.Common.{◌≡◌, ◌≢◌, ℕ, ◌+◌, ◌<◌, ◌≤◌, zero, suc, true, false, ◌&&◌, Option, Some, None, List, [], ◌∷◌, ◌++◌, slice_set, refl, sym, ◌∙◌, add-one, arith, get_or-set_other, inl, inr, not, ◌==◌, eq-or-lt_of_le}
 use Rattle.std.specs.Option.{option_or}
-use Rattle.std.proofs.lemmas.Bool.Decides.{nat_tests}
-use Rattle.std.proofs.lemmas.Bool.{and_from, and_left}
+use Rattle.std.proofs.lemmas.Bool.{and_from, and_left, and_parts, eq-eqb, ne_eqb, not_from_false, not_from_true}
+use Rattle.std.proofs.Math.Bool.{and_assoc, and-false, and-true}
 use Rattle.cov_base.specs.Meaning.{Memory, byte_at, wrap, can_reach, first_touch, is_accessible}
 use Rattle.s370_state.specs.Meaning.{Use, reads, all_reached, all_stored, touched, touch_ending}
 use Rattle.s370_state.proofs.Laws.{reach_at}
 use Rattle.s370_storage.proofs.Firsts.{first_none, first_more, first_here, first_past}
 use Rattle.s370_storage.specs.Meaning.{function_at, functions, translated, function, selected, looked_up}
 
-and_true : (a : Bool) → (a && true) ≡ a
-and_true true = refl
-and_true false = refl
-
-and_assoc : (a b c : Bool) → (a && (b && c)) ≡ ((a && b) && c)
-and_assoc true b c = refl
-and_assoc false b c = refl
-
-and_false : (a : Bool) → (a && false) ≡ false
-and_false true = refl
-and_false false = refl
-
-both_left : (a b : Bool) → (a && b) ≡ true → a ≡ true
-both_left true b h = refl
-both_left false b h = h
-
-both_right : (a b : Bool) → (a && b) ≡ true → b ≡ true
-both_right true b h = h
-both_right false b h = let e : false ≡ true = h in absurd cc
-
-last_or : (i n : ℕ) → i < suc n → (i ≡ n) ⊎ (i < n)
-last_or i n h = grind arith
-
 -- a byte more that is read
 reached_last : (m : Memory) (us : List Use) (b : ℕ) → all_reached m (us ++ (reads b 1 ∷ [])) ≡ (all_reached m us && can_reach m b 1)
 unfolding all_reached
-reached_last m [] b = and_true _
-reached_last m (u ∷ us) b = rw (reached_last m us b) (and_assoc (can_reach m u.at u.size) (all_reached m us) (can_reach m b 1))
+reached_last m [] b = and-true _
+reached_last m (u ∷ us) b = rw (reached_last m us b) (sym (and_assoc (can_reach m u.at u.size) (all_reached m us) (can_reach m b 1)))
 
 pub functions_reached_none : (m : Memory) (bytes : List ℕ) (a t : ℕ) → all_reached m (functions m bytes a t 0) ≡ true
 unfolding functions all_reached
@@ -52,8 +29,8 @@ functions_reached_more m bytes a t n b h e k = rw (add-one, functions_reached m 
 pub functions_refused : (m : Memory) (bytes : List ℕ) (a t n i b : ℕ) → i < n → b ≡ function_at m bytes a t i → can_reach m b 1 ≡ false → all_reached m (functions m bytes a t n) ≡ false
 functions_refused m bytes a t zero i b l e k = absurd (omega arith)
 functions_refused m bytes a t (suc n) i b l e k =
-    functions_reached m bytes a t n ∙ elim (last_or i n l) [
-      | inl q ↦ rw (← q, ← e, k) (and_false _)
+    functions_reached m bytes a t n ∙ elim (eq-or-lt_of_le {n = i} {m = n} (omega arith)) [
+      | inl q ↦ rw (← q, ← e, k) (and-false _)
       | inr z ↦ and_left _ _ (functions_refused m bytes a t n i b z e k)
     ]
 
@@ -62,9 +39,9 @@ function_reached : (m : Memory) (bytes : List ℕ) (a t n i b : ℕ) → all_rea
 function_reached m bytes a t zero i b h l e = absurd (omega arith)
 function_reached m bytes a t (suc n) i b h l e =
     let both : (all_reached m (functions m bytes a t n) && can_reach m (function_at m bytes a t n) 1) ≡ true = sym (functions_reached m bytes a t n) ∙ h in
-    elim (last_or i n l) [
-      | inl q ↦ rw (e, q) (both_right _ _ both)
-      | inr z ↦ function_reached m bytes a t n i b (both_left _ _ both) z e
+    elim (eq-or-lt_of_le {n = i} {m = n} (omega arith)) [
+      | inl q ↦ rw (e, q) (and_parts _ _ both).1
+      | inr z ↦ function_reached m bytes a t n i b (and_parts _ _ both).0 z e
     ]
 
 pub function_accessible : (m : Memory) (bytes : List ℕ) (a t n i b : ℕ) → all_reached m (functions m bytes a t n) ≡ true → i < n → b ≡ function_at m bytes a t i → is_accessible m b ≡ true
@@ -76,7 +53,7 @@ one_accessible m b x h l e = reach_at m x 1 0 b h (omega arith) (omega arith)
 stored_last : (m : Memory) (us : List Use) (b : ℕ) → all_stored m us ≡ true → all_stored m (us ++ (reads b 1 ∷ [])) ≡ true
 unfolding all_stored
 stored_last m [] b h = refl
-stored_last m (u ∷ us) b h = and_from _ _ (both_left _ _ h) (stored_last m us b (both_right _ _ h))
+stored_last m (u ∷ us) b h = let p = and_parts _ _ h in and_from _ _ p.0 (stored_last m us b p.1)
 
 -- none is stored
 pub functions_stored : (m : Memory) (bytes : List ℕ) (a t n : ℕ) → all_stored m (functions m bytes a t n) ≡ true
@@ -128,23 +105,17 @@ translated_keeps m bytes a t zero i l h = refl
 translated_keeps m bytes a t (suc n) i l h =
     byte_set_other m (translated m bytes a t n) (wrap (a + n)) (wrap (a + i)) _ (omega arith) ∙ translated_keeps m bytes a t n i (omega arith) h
 
-zero_fails : (v : ℕ) → v ≡ 0 → not (v == 0) ≡ false
-zero_fails v e = rw e refl
-
-others_pass : (v : ℕ) → v ≢ 0 → not (v == 0) ≡ true
-others_pass v h = grind (arith, nat_tests)
-
 pub selected_none : (m : Memory) (bytes : List ℕ) (a t : ℕ) → selected m bytes a t 0 ≡ None
 unfolding selected
 selected_none m bytes a t = first_none _
 
 pub selected_more : (m : Memory) (bytes : List ℕ) (a t n v : ℕ) → selected m bytes a t n ≡ None → v ≡ function m bytes a t n → v ≡ 0 → selected m bytes a t (n + 1) ≡ None
 unfolding selected
-selected_more m bytes a t n v h e z = first_more _ n h (zero_fails _ (sym e ∙ z))
+selected_more m bytes a t n v h e z = first_more _ n h (not_from_true _ (eq-eqb _ 0 (sym e ∙ z)))
 
 pub selected_here : (m : Memory) (bytes : List ℕ) (a t n i v : ℕ) → i < n → selected m bytes a t i ≡ None → v ≡ function m bytes a t i → v ≢ 0 → Some i ≡ selected m bytes a t n
 unfolding selected
-selected_here m bytes a t n i v l h e z = sym (first_here _ n i l h (rw (← e) (others_pass v z)))
+selected_here m bytes a t n i v l h e z = sym (first_here _ n i l h (rw (← e) (not_from_false _ (ne_eqb v 0 z))))
 
 looked_in : (n i : ℕ) (f : Option ℕ) → i < n → ((j : ℕ) → f ≡ Some j → i ≤ j) → i < looked_up n f
 looked_in n i None l h = l

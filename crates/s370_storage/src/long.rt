@@ -87,7 +87,7 @@ fn fill<P: Space>(space: &mut P, o: &Long)
 }
 
 /// Moves as many bytes as both operands have, and pads the rest of the first.
-#[tactic(auto, using(crate::proofs::LongSteps::store_prefix, crate::proofs::LongSteps::reach_prefix, crate::proofs::Steps::moved_copied))]
+#[tactic(auto, using(s370_state::proofs::Laws::store_prefix, crate::proofs::LongSteps::reach_prefix, crate::proofs::Steps::moved_copied))]
 fn move_and_fill<P: Space>(space: &mut P, o: &Long)
     requires store { can_store (P.memory space.old) o.now.first o.now.first_length ≡ true }
     requires reach { can_reach (P.memory space.old) o.now.first o.now.first_length ≡ true }
