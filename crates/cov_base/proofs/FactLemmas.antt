@@ -1,6 +1,7 @@
 -- What sets of facts have, and which facts are of a kind.
 use Rattle.std.proofs.Common.{◌≡◌, ◌⊎◌, inl, inr, Bool, true, false, not, ◌&&◌, ◌||◌, refl, sym, ◌∙◌}
 use Rattle.std.proofs.lemmas.Bool.{or_cases, or_left, or_right}
+use Rattle.std.proofs.Math.Bool.{or-false, or-true}
 use Rattle.cov_base.specs.declared.facts.Fact.{Fact}
 use Rattle.cov_base.specs.declared.facts.Fact.TheVariants.{Ran, Went, Stayed}
 use Rattle.cov_base.specs.declared.facts.Kind.{Kind}
@@ -44,24 +45,16 @@ has_fact-none Ran = refl
 has_fact-none Went = refl
 has_fact-none Stayed = refl
 
-or_false : (b : Bool) → b ≡ (b || false)
-or_false true = refl
-or_false false = refl
-
-or_true : (b : Bool) → true ≡ (b || true)
-or_true true = refl
-or_true false = refl
-
 pub has_fact-with_fact : (s : FactSet) (f g : Fact) → has_fact (with_fact s f) g ≡ (has_fact s g || same_fact g f)
-has_fact-with_fact s Ran Ran = or_true s.ran
-has_fact-with_fact s Ran Went = or_false s.went
-has_fact-with_fact s Ran Stayed = or_false s.stayed
-has_fact-with_fact s Went Ran = or_false s.ran
-has_fact-with_fact s Went Went = or_true s.went
-has_fact-with_fact s Went Stayed = or_false s.stayed
-has_fact-with_fact s Stayed Ran = or_false s.ran
-has_fact-with_fact s Stayed Went = or_false s.went
-has_fact-with_fact s Stayed Stayed = or_true s.stayed
+has_fact-with_fact s Ran Ran = sym (or-true s.ran)
+has_fact-with_fact s Ran Went = sym (or-false s.went)
+has_fact-with_fact s Ran Stayed = sym (or-false s.stayed)
+has_fact-with_fact s Went Ran = sym (or-false s.ran)
+has_fact-with_fact s Went Went = sym (or-true s.went)
+has_fact-with_fact s Went Stayed = sym (or-false s.stayed)
+has_fact-with_fact s Stayed Ran = sym (or-false s.ran)
+has_fact-with_fact s Stayed Went = sym (or-false s.went)
+has_fact-with_fact s Stayed Stayed = sym (or-true s.stayed)
 
 pub with_fact-here : (s : FactSet) (f : Fact) → has_fact (with_fact s f) f ≡ true
 with_fact-here s f = has_fact-with_fact s f f ∙ or_right (has_fact s f) (same_fact f f) (same_fact-self f)

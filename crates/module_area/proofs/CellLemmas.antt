@@ -1,5 +1,6 @@
 -- Each kind of step that changes a cell keeps the rule.
 use Rattle.std.proofs.Common.{◌≡◌, ◌≢◌, ◌⊎◌, ℕ, ◌+◌, ◌*◌, ◌<◌, ◌≤◌, ◌&&◌, Bool, true, false, nat_eq, if◌then◌else◌, List, ◌∷◌, length, set, sym, refl, ap, ◌∙◌, subst, inl, inr, ⊎_elim, arith, eq-eqb, ne_eqb}
+use Rattle.std.proofs.Math.Bool.{and-false}
 use mathlib.Core.Option.{some}
 use mathlib.Core.Logic.{dite}
 use native.Mathlib.Decide.{ℕ_discrete}
@@ -13,7 +14,7 @@ use Rattle.module_area.specs.Meaning.{PlanView, original_at, kind_at, is_over, i
 use Rattle.module_area.specs.Rule.{Has, add_if, times, last_tag, window_tag, lifting, planting, planted, lifted, closed, IsForm, Once, Keeps, Owes, Held}
 use Rattle.module_area.specs.Parties.{closing}
 use Rattle.module_area.proofs.PartyLemmas.{has-add_if}
-use Rattle.module_area.proofs.StepLemmas.{Grows, kept_grows, back, into, moved, once_same, ties_same, one_keeper, planted_not, same_window, full_some, one_if, and_false, breakpoint_form, or_right}
+use Rattle.module_area.proofs.StepLemmas.{Grows, kept_grows, back, into, moved, once_same, ties_same, one_keeper, planted_not, same_window, full_some, one_if, breakpoint_form, or_right}
 
 abbrev Cells : Type 0
 Cells = ℕ → Cell
@@ -75,7 +76,7 @@ module _ (plan : PlanView) (cell : Cells) (sets : Sets) (views : List View) (r :
           not_yet = λ z. absurd (planted_not t (lifted s x) fine (sym z));
         }))
         (λ miss _. absurd (miss y))
-        (λ other _. let none_more : ◌≡◌ {A = ℕ} (if nat_eq s t && nat_eq p q then 1 else 0) 0 = ap (λ b. one_if (nat_eq s t && b)) (ne_eqb p q (λ z. other (sym z))) ∙ ap one_if (and_false (nat_eq s t)) in
+        (λ other _. let none_more : ◌≡◌ {A = ℕ} (if nat_eq s t && nat_eq p q then 1 else 0) 0 = ap (λ b. one_if (nat_eq s t && b)) (ne_eqb p q (λ z. other (sym z))) ∙ ap one_if (and-false (nat_eq s t)) in
         once_same plan cell sets views r id v at t (original_at plan q) (cell q) n n' (times t q v.lifted) (omega arith) h)
         refl
 

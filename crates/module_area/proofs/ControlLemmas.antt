@@ -1,16 +1,13 @@
 -- One place more of a session that is opened or closed.
-use Rattle.std.proofs.Common.{◌≡◌, ℕ, ◌+◌, ◌-◌, ◌*◌, ◌<◌, Bool, true, false, ◌||◌, nat_eq, if◌then◌else◌, List, [], length, take, get_or, AllPairs, sym, refl, ap, ◌∙◌, arith, eqb-true, eq-eqb, ne_eqb}
+use Rattle.std.proofs.Common.{◌≡◌, ℕ, ◌+◌, ◌-◌, ◌*◌, ◌<◌, Bool, true, false, ◌||◌, nat_eq, if◌then◌else◌, List, [], length, take, get_or, AllPairs, refl, ap, ◌∙◌, arith, ne_eqb}
 use Rattle.std.proofs.lemmas.List.{length-take-le, get_or-take, get_or_default}
 use Rattle.std.proofs.lemmas.List.Folds.{list_any_more, list_any_none}
+use Rattle.std.specs.Cmp.{nat_eq_equiv}
 use mathlib.Core.Path.{fun_ext}
 use Rattle.cov_base.specs.declared.numbers.PlaceNo.{PlaceNo}
 use Rattle.module_area.specs.Meaning.{has_place}
 use Rattle.module_area.specs.Notes.{Notes, after_plant, after_close}
 use Rattle.module_area.specs.Control.{after_plants, after_closes}
-use Rattle.module_area.proofs.Indices.{same_tests}
-
-turned : (a b : ℕ) → nat_eq a b ≡ nat_eq b a
-turned a b = same_tests (nat_eq a b) (nat_eq b a) (λ h. eq-eqb b a (sym (eqb-true a b h))) (λ h. eq-eqb a b (sym (eqb-true b a h)))
 
 either_way : (a b : Bool) (x y : ℕ) → (if a || b then x else y) ≡ (if b then x else (if a then x else y))
 either_way true true x y = refl
@@ -21,7 +18,7 @@ either_way false false x y = refl
 more_tags : (f : ℕ → ℕ) (x : ℕ) (places : List PlaceNo) (i : ℕ) (d : PlaceNo) → i < length places
     → ◌≡◌ {A = ℕ → ℕ} (λ q. if has_place (take (i + 1) places) q then x else f q) (λ q. if nat_eq q (get_or places i d).0 then x else (if has_place (take i places) q then x else f q))
 more_tags f x places i d l = fun_ext (λ q. ap (λ b. if b then x else f q) (list_any_more (λ (p : PlaceNo). nat_eq p.0 q) places i d l)
-    ∙ (either_way (has_place (take i places) q) (nat_eq (get_or places i d).0 q) x (f q) ∙ ap (λ b. if b then x else (if has_place (take i places) q then x else f q)) (turned (get_or places i d).0 q)))
+    ∙ (either_way (has_place (take i places) q) (nat_eq (get_or places i d).0 q) x (f q) ∙ ap (λ b. if b then x else (if has_place (take i places) q then x else f q)) (nat_eq_equiv.symm (get_or places i d).0 q)))
 
 more_length : (places : List PlaceNo) (i : ℕ) → i < length places → length (take (i + 1) places) ≡ length (take i places) + 1
 more_length places i l = let a = length-take-le (i + 1) places (omega arith) in let b = length-take-le i places (omega arith) in omega arith

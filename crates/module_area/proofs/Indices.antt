@@ -1,31 +1,18 @@
 -- Sets stand at different indices, and tests on booleans.
-use Rattle.std.proofs.Common.{◌≡◌, ℕ, ◌+◌, ◌-◌, ◌*◌, ◌<◌, ◌≤◌, Bool, true, false, ◌&&◌, refl, sym, arith}
+use Rattle.std.proofs.Common.{◌≡◌, ℕ, ◌+◌, ◌-◌, ◌*◌, ◌<◌, ◌≤◌, Bool, true, false, ◌&&◌, refl, sym, arith, le_refl}
+use Rattle.std.proofs.lemmas.Nat.{row_fits, same_from_place}
 use Rattle.module_area.specs.Meaning.{index_of}
-
-pub row_below : (a b n : ℕ) → a < b → a * n + n ≤ b * n
-row_below a b n h = grind arith
 
 pub index_below : (places sessions s p : ℕ) → 0 < s → s ≤ sessions → p < places → index_of places s p < sessions * places
 index_below places sessions s p pos within lt =
-    let step : (s - 1) * places + places ≤ sessions * places = row_below (s - 1) sessions places (omega arith) in
-    omega arith
-
-not_lower : (places t q s p : ℕ) → 0 < t → q < places → index_of places t q ≡ index_of places s p → t < s → ⊥
-not_lower places t q s p t0 q_in e below =
-    let step : (t - 1) * places + places ≤ (s - 1) * places = row_below (t - 1) (s - 1) places (omega arith) in
-    omega arith
-
-same_place : (places t q s p : ℕ) → t ≡ s → index_of places t q ≡ index_of places s p → q ≡ p
-same_place places t q s p same e =
-    let rows : (t - 1) * places ≡ (s - 1) * places = rw same refl in
+    let step : (s - 1) * places + places ≤ sessions * places = row_fits (s - 1) places sessions places (omega arith) (le_refl places) in
     omega arith
 
 pub same_index : (places t q s p : ℕ) → 0 < t → 0 < s → q < places → p < places → index_of places t q ≡ index_of places s p → (t ≡ s) × (q ≡ p)
 same_index places t q s p t0 s0 q_in p_in e =
-    let low = not_lower places t q s p t0 q_in e in
-    let high = not_lower places s p t q s0 p_in (sym e) in
-    let same : t ≡ s = omega arith in
-    (same, same_place places t q s p same e)
+    let same = same_from_place (t - 1) q (s - 1) p places q_in p_in e in
+    let row : t - 1 ≡ s - 1 = same.0 in
+    (omega arith, same.1)
 
 pub and_left : (a b : Bool) → (a && b) ≡ true → a ≡ true
 and_left true b h = refl

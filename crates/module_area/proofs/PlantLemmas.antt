@@ -1,7 +1,8 @@
 -- One place more of a planting round.
-use Rattle.std.proofs.Common.{◌≡◌, ◌≢◌, ℕ, ◌+◌, ◌-◌, ◌*◌, ◌<◌, true, not, ◌&&◌, nat_eq, nat_lt, if◌then◌else◌, length, refl, arith}
+use Rattle.std.proofs.Common.{◌≡◌, ◌≢◌, ℕ, ◌+◌, ◌-◌, ◌*◌, ◌<◌, not, ◌&&◌, nat_eq, nat_lt, if◌then◌else◌, length, refl, arith}
 use Rattle.std.proofs.lemmas.Bool.Decides.{nat_tests}
 use Rattle.std.proofs.lemmas.List.Sums.{count_by_more_no, count_by_more_yes}
+use Rattle.std.proofs.lemmas.Bool.{ne_eqb, not_from_false}
 use mathlib.Core.Path.{fun_ext}
 use Rattle.module_area.specs.Meaning.{PlanView, window_at}
 use Rattle.module_area.specs.Notes.{Notes, after_plant}
@@ -17,16 +18,13 @@ seen_skip : (w s : ℕ → ℕ) (n p : ℕ) → w n ≡ 0 →
     ≡ (if nat_lt p n && not (nat_eq (w p) 0) then 2 * w p - 1 else s p)
 seen_skip w s n p h = grind (arith, nat_tests)
 
-is_window : (w : ℕ) → w ≢ 0 → not (nat_eq w 0) ≡ true
-is_window w ne = grind (arith, nat_tests)
-
 -- the place is planted
 pub planted_more : (plan : PlanView) (notes : Notes) (n : ℕ) → n < length plan.windows → window_at plan n ≢ 0 →
     planted_notes plan notes (n + 1) ≡ after_plant (planted_notes plan notes n) (window_at plan n) n
 planted_more plan notes n h ne =
     let seen = fun_ext (λ (p : ℕ). seen_more (window_at plan) notes.seen n p ne) in
     let last = fun_ext (λ (p : ℕ). seen_more (window_at plan) notes.last n p ne) in
-    let count = count_by_more_yes (λ w. not (nat_eq w 0)) plan.windows n 0 h (is_window (window_at plan n) ne) in
+    let count = count_by_more_yes (λ w. not (nat_eq w 0)) plan.windows n 0 h (not_from_false _ (ne_eqb (window_at plan n) 0 ne)) in
     let plants : (planted_notes plan notes (n + 1)).tally.plants ≡ (planted_notes plan notes n).tally.plants + 1 = omega (arith, count) in
     λ i. record notes { seen = seen i; last = last i; tally = record notes.tally { plants = plants i } }
 
