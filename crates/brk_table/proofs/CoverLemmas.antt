@@ -1,14 +1,8 @@
 -- Which bytes of a module have a line.
-use Rattle.std.proofs.Common.{◌≡◌, ◌⊎◌, inl, inr, ℕ, ◌+◌, ◌<◌, zero, suc, Bool, true, false, ◌||◌, Option, Some, None, is_some, List, get_or, refl, sym, ◌∙◌, add-one, arith}
+use Rattle.std.proofs.Common.{◌≡◌, inl, inr, ℕ, ◌+◌, ◌<◌, zero, suc, Bool, true, false, Option, Some, None, is_some, List, get_or, refl, sym, ◌∙◌, add-one, arith, eq-or-lt_of_le}
 use Rattle.std.proofs.lemmas.Bool.{or_parts}
+use Rattle.std.proofs.Math.Bool.{or-true}
 use Rattle.brk_table.specs.Cover.{is_covered}
-
-or_true : (a : Bool) → (a || true) ≡ true
-or_true true = refl
-or_true false = refl
-
-at_or_below : (k m : ℕ) → k < suc m → (k ≡ m) ⊎ (k < m)
-at_or_below k m h = grind arith
 
 pub covered_none : (cover : List (Option ℕ)) (from : ℕ) → is_covered cover from 0 ≡ false
 unfolding is_covered
@@ -21,8 +15,8 @@ covered_more cover from k h e = rw (add-one, h, e) refl
 pub covered_found : (cover : List (Option ℕ)) (from len k i : ℕ) → k < len → get_or cover (from + k) None ≡ Some i → is_covered cover from len ≡ true
 unfolding is_covered
 covered_found cover from zero k i l e = absurd (omega arith)
-covered_found cover from (suc n) k i l e = elim (at_or_below k n l) [
-  | inl q ↦ rw (← q, e) (or_true (is_covered cover from k))
+covered_found cover from (suc n) k i l e = elim (eq-or-lt_of_le {n = k} {m = n} (omega arith)) [
+  | inl q ↦ rw (← q, e) (or-true (is_covered cover from k))
   | inr b ↦ rw (covered_found cover from n k i b e) refl
 ]
 
@@ -31,7 +25,7 @@ unfolding is_covered
 not_covered cover from zero h k l = absurd (omega arith)
 not_covered cover from (suc n) h k l =
     let both = or_parts (is_covered cover from n) (is_some (get_or cover (from + n) None)) h in
-    elim (at_or_below k n l) [
+    elim (eq-or-lt_of_le {n = k} {m = n} (omega arith)) [
       | inl q ↦ rw q (none (get_or cover (from + n) None) both.1)
       | inr b ↦ not_covered cover from n both.0 k b
     ]

@@ -1,6 +1,6 @@
 -- Instructions that are decoded one after the other, and those from one place on, of which one is found at an address.
 use Rattle.std.proofs.Common.{◌≡◌, ◌≢◌, ◌==◌, inl, inr, ℕ, ◌+◌, ◌-◌, ◌<◌, ◌≤◌, Bool, true, false, if◌then◌else◌, List, [], ◌∷◌, ◌++◌, length, get_or, drop, refl, ap, subst, sym, ◌∙◌, arith, length-append}
-use Rattle.std.proofs.lemmas.Bool.{cases_lt, eqb-true, eqb-false}
+use Rattle.std.proofs.lemmas.Bool.{cases_lt, eqb-true}
 use Rattle.std.proofs.lemmas.List.{length-drop, get_or-drop, get_or_append_left, get_or-append_right, drop-drop}
 use Rattle.cov_base.specs.declared.constants.TheConstants.{RETURN_ADDRESS}
 use Rattle.s370_decode.specs.declared.code.Code.{Code}
@@ -70,11 +70,6 @@ is_there tables kept k n i a from placed most head small key =
 pub first_there : (tables : TablesView) (kept : List Kept) (k : Kept) (n a : ℕ) → AreFrom tables n kept → AreAtPlaces tables → n ≤ length tables.places → a < 16777216 → (get_or kept 0 k).key ≡ a → IsThere tables n a
 first_there tables kept k n a from placed most small key =
     subst (λ (i : ℕ). IsThere tables i a) (let e : n + 0 ≡ n = omega arith in e) (is_there tables kept k n 0 a from placed most (omega arith) small key)
-
--- what is equal is found so
-pub found_equal : (b : Bool) (x y : ℕ) → (x == y) ≡ b → x ≡ y → b ≡ true
-found_equal true x y e is = refl
-found_equal false x y e is = absurd (eqb-false x y e is)
 
 key_at : (b : Bool) (at a : ℕ) → (at == RETURN_ADDRESS) ≡ b → at ≡ a → a ≢ RETURN_ADDRESS → (if b then 16777216 else at) ≡ a
 key_at true at a e is on = absurd (on (sym is ∙ eqb-true at RETURN_ADDRESS e))

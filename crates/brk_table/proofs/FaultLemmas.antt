@@ -2,7 +2,7 @@
 use Rattle.std.proofs.Common.{◌≡◌, inl, inr, ℕ, ◌+◌, ◌-◌, ◌%◌, ◌<◌, ◌≤◌, Bool, true, false, cond, nat_le, nat_lt, ◌==◌, Option, Some, None, List, [], ◌∷◌, ◌++◌, length, get_or, refl, sym, ◌∙◌, arith}
 use Rattle.std.specs.List.{list_any, AllPass}
 use Rattle.std.specs.Str.{bytes_eq}
-use Rattle.std.proofs.lemmas.Bool.{cases_lt, and_from, lt-ltb, and_parts, le-leb, leb-true, ltb-true, false_from_ne_true, leb-false, ltb-false}
+use Rattle.std.proofs.lemmas.Bool.{cases_lt, and_from, lt-ltb, and_parts, le-leb, leb-true, ltb-true, false_from_ne_true, leb-false, ltb-false, eqb-false}
 use Rattle.std.proofs.lemmas.Bool.Decides.{nat_tests}
 use Rattle.std.proofs.lemmas.List.{get_or_append_left, get_or_push, get_or_default, length_push}
 use Rattle.std.proofs.lemmas.List.Folds.{list_any_none, list_any_at}
@@ -35,9 +35,6 @@ pub record IsFaultless (bytes : List ℕ) (room : ℕ) (shared : Bool) (before l
   pub free : (first_half code == breakpoint) ≡ false
   pub same : bytes_eq code.bytes (module_code bytes loc code.len).bytes ≡ true
 
-even_of : (n : ℕ) → (n % 2 == 1) ≡ false → n % 2 ≡ 0
-even_of n h = grind (arith, nat_tests)
-
 pub faultless : (bytes : List ℕ) (room : ℕ) (shared : Bool) (before n loc : ℕ) (code : Code) → fault_by bytes room shared before n loc code ≡ None → IsFaultless bytes room shared before loc code
 unfolding fault_by
 faultless bytes room shared before n loc code h =
@@ -47,7 +44,7 @@ faultless bytes room shared before n loc code h =
     let d = no_first (nat_le room before) _ _ c.1 in
     let e = no_first (first_half code == breakpoint) _ _ d.1 in
     record {
-      even = even_of loc a.0;
+      even = (let odd = eqb-false (loc % 2) 1 a.0 in omega arith);
       inside = ltb-false (length bytes) (loc + code.len) b.0;
       apart = c.0;
       fits = leb-false room before d.0;

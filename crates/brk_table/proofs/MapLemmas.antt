@@ -1,8 +1,9 @@
 -- Entries of the map.
-use Rattle.std.proofs.Common.{◌≡◌, ◌≢◌, ◌⊎◌, inl, inr, ℕ, ◌+◌, ◌-◌, ◌*◌, ◌/◌, ◌%◌, ◌<◌, ◌≤◌, true, false, List, ◌++◌, length, get_or, replicate, sym, ap, ◌∙◌, arith, length-append}
+use Rattle.std.proofs.Common.{◌≡◌, ◌≢◌, inl, inr, ℕ, ◌+◌, ◌-◌, ◌*◌, ◌/◌, ◌%◌, ◌<◌, ◌≤◌, true, false, List, ◌++◌, length, get_or, replicate, sym, ap, ◌∙◌, arith, length-append}
 use Rattle.std.proofs.Math.ListN.{set}
 use Rattle.std.proofs.lemmas.List.{get_or_append_left, get_or-append-add, get_or-replicate, get_or-set_same, get_or-set_other, length-set, length-replicate}
 use Rattle.cov_base.proofs.Laws.{length_of-least}
+use Rattle.std.proofs.lemmas.Bool.{cases_eq}
 use Rattle.module_area.specs.Meaning.{no_place, place_of, is_place}
 use Rattle.module_area.specs.declared.places.Place.{Place}
 use Rattle.brk_table.specs.Places.{IsPlace, AreApart, ArePlaces}
@@ -33,22 +34,19 @@ set_kept pages entries a v are l own = λ b m d. get_or-set_other entries (slot_
 
 -- ---- a page gets its own entries
 
-k_or : (j k : ℕ) → (j ≡ k) ⊎ (j ≢ k)
-k_or j k = grind arith
-
 own_at : (pages entries : List ℕ) (k : ℕ) → ArePages pages entries → k < 4096 → (j : ℕ) → j < 4096 → get_or (set pages k (length entries / 2048)) j 0 * 2048 + 2048 ≤ length entries + 2048
-own_at pages entries k are l j m = elim (k_or j k) [
+own_at pages entries k are l j m = elim (cases_eq j k) [
   | inl e ↦ (let v : get_or (set pages k (length entries / 2048)) j 0 ≡ length entries / 2048 = ap (λ n. get_or (set pages k (length entries / 2048)) n 0) e ∙ get_or-set_same pages k (length entries / 2048) 0 (omega (arith, are.count)) in omega (arith, v))
   | inr d ↦ (let v : get_or (set pages k (length entries / 2048)) j 0 ≡ get_or pages j 0 = get_or-set_other pages k j (length entries / 2048) 0 d in omega (arith, v, are.own j m))
 ]
 
 apart_at : (pages entries : List ℕ) (k : ℕ) → ArePages pages entries → k < 4096 → (i j : ℕ) → i < 4096 → j < 4096 → get_or (set pages k (length entries / 2048)) i 0 ≡ get_or (set pages k (length entries / 2048)) j 0 → 0 < get_or (set pages k (length entries / 2048)) i 0 → i ≡ j
-apart_at pages entries k are l i j m n e p = elim (k_or i k) [
-  | inl a ↦ elim (k_or j k) [
+apart_at pages entries k are l i j m n e p = elim (cases_eq i k) [
+  | inl a ↦ elim (cases_eq j k) [
     | inl b ↦ a ∙ sym b
     | inr b ↦ absurd (let v = same i a in let w = other j b in omega (arith, v, w, e, are.own j n))
   ]
-  | inr a ↦ elim (k_or j k) [
+  | inr a ↦ elim (cases_eq j k) [
     | inl b ↦ absurd (let v = same j b in let w = other i a in omega (arith, v, w, e, are.own i m))
     | inr b ↦ (let v = other i a in let w = other j b in are.apart i j m n (sym v ∙ (e ∙ w)) (omega (arith, v, p)))
   ]
@@ -73,7 +71,7 @@ own_pages pages entries k are l =
 
 pub own_same : (pages entries : List ℕ) (k : ℕ) → ArePages pages entries → k < 4096 → get_or pages k 0 ≡ 0 → AreSame pages entries (set pages k (length entries / 2048)) (entries ++ replicate 2048 0)
 unfolding entry_at
-own_same pages entries k are l none = λ a m. elim (k_or (a / 4096) k) [
+own_same pages entries k are l none = λ a m. elim (cases_eq (a / 4096) k) [
   | inl e ↦ (
       let v : get_or (set pages k (length entries / 2048)) (a / 4096) 0 ≡ length entries / 2048 = ap (λ n. get_or (set pages k (length entries / 2048)) n 0) e ∙ get_or-set_same pages k (length entries / 2048) 0 (omega (arith, are.count)) in
       let w : get_or pages (a / 4096) 0 ≡ 0 = ap (λ n. get_or pages n 0) e ∙ none in
@@ -129,15 +127,15 @@ pub map_more : (old_pages old pages entries : List ℕ) (places : List Place) (n
 map_more old_pages old pages entries places n are l was new size set_one kept = record {
   are_pages = new;
   room = omega (arith, was.room, size);
-  there = λ k m. elim (k_or k n) [
+  there = λ k m. elim (cases_eq k n) [
     | inl e ↦ ap (λ i. entry_at pages entries (place_of places i).at) e ∙ (set_one ∙ ap (λ i. i + 1) (sym e))
     | inr d ↦ (let b : k < n = omega (arith, d) in kept (place_of places k).at (low k (omega arith)) (halves_differ places are k n b l) ∙ was.there k b)
   ];
-  exists = λ a k m e v. elim (k_or (a / 2) ((place_of places n).at / 2)) [
+  exists = λ a k m e v. elim (cases_eq (a / 2) ((place_of places n).at / 2)) [
     | inl q ↦ (let i = its a m e q k v in omega (arith, i))
     | inr d ↦ (let i = was.exists a k m e (sym (kept a m d) ∙ v) in omega (arith, i))
   ];
-  begins = λ a k m e v. elim (k_or (a / 2) ((place_of places n).at / 2)) [
+  begins = λ a k m e v. elim (cases_eq (a / 2) ((place_of places n).at / 2)) [
     | inl q ↦ ap (λ i. (place_of places i).at) (its a m e q k v) ∙ sym (at_same a e q)
     | inr d ↦ was.begins a k m e (sym (kept a m d) ∙ v)
   ];

@@ -1,10 +1,10 @@
 -- The places of a table whose listing has no fault: apart, and the module's own.
-use Rattle.std.proofs.Common.{◌≡◌, ◌≢◌, ◌⊎◌, inl, inr, ℕ, ◌+◌, ◌-◌, ◌*◌, ◌%◌, ◌<◌, ◌≤◌, zero, suc, Bool, true, false, nat_lt, ◌==◌, Option, Some, None, List, [], length, get_or, take, drop, refl, sym, ap, ◌∙◌, subst, arith}
+use Rattle.std.proofs.Common.{◌≡◌, ◌≢◌, inl, inr, ℕ, ◌+◌, ◌-◌, ◌*◌, ◌%◌, ◌<◌, ◌≤◌, zero, suc, Bool, true, false, nat_lt, ◌==◌, Option, Some, None, List, [], length, get_or, take, drop, refl, sym, ap, ◌∙◌, subst, arith}
 use Rattle.std.specs.Prelude.{slice_index, IfSome, count_by}
 use Rattle.std.specs.List.{list_any, AllPass}
 use Rattle.std.specs.Option.{option_or}
 use Rattle.std.specs.Str.{bytes_eq}
-use Rattle.std.proofs.lemmas.Bool.{cases_lt, lt-ltb}
+use Rattle.std.proofs.lemmas.Bool.{cases_lt, lt-ltb, false_from_ne_true}
 use Rattle.std.proofs.lemmas.Bool.Decides.{nat_tests}
 use Rattle.std.proofs.lemmas.List.{get_or_default, get_or-take, length-take-le}
 use Rattle.std.proofs.lemmas.List.Folds.{list_any_at}
@@ -83,9 +83,6 @@ of_line m base bytes room lines t is none sound k l =
 no_own : (h : ℕ) → (h == breakpoint) ≡ false → h ≢ breakpoint
 no_own h e q = grind (arith, nat_tests)
 
-even_sum : (a b : ℕ) → a % 2 ≡ 0 → b % 2 ≡ 0 → (a + b) % 2 ≡ 0
-even_sum a b p q = omega arith
-
 own_half : (bytes : List ℕ) (loc : ℕ) (code : Code) → 2 ≤ code.len → bytes_eq code.bytes (module_code bytes loc code.len).bytes ≡ true → first_half code ≡ slice_index bytes loc * 256 + slice_index bytes (loc + 1)
 unfolding module_code
 own_half bytes loc code long e =
@@ -101,7 +98,7 @@ own_half bytes loc code long e =
 place_is : (m : ℕ) (image : ImageView) (loc : ℕ) (code : Code) (room before : ℕ) (shared : Bool) → image.base % 2 ≡ 0 → image.base + length image.bytes ≤ 16777216 → code.len ≡ length_of (first_half code) → IsFaultless image.bytes room shared before loc code
     → IsPlace (place_from m image.base loc code)
 place_is m image loc code room before shared even below size fine = record {
-  even = even_sum image.base loc even fine.even;
+  even = omega (arith, even, fine.even);
   size = size;
   kind = refl;
   no_breakpoint = no_own (first_half code) fine.free;
@@ -128,11 +125,7 @@ apart_bytes m base a b c d h = elim (cases_lt a (b + d.len)) [
 ]
 
 not_any : (test : Line → Bool) (lines : List Line) (i : ℕ) → list_any test lines ≡ false → i < length lines → test (get_or lines i Text) ≡ false
-not_any test lines i h l = by_test (test (get_or lines i Text)) refl
-  where
-    by_test : (b : Bool) → test (get_or lines i Text) ≡ b → test (get_or lines i Text) ≡ false
-    by_test true e = absurd (let t = list_any_at test lines i Text l e in cc)
-    by_test false e = e
+not_any test lines i h l = false_from_ne_true _ (λ e. let t = list_any_at test lines i Text l e in absurd cc)
 
 apart_lines : (m base : ℕ) (bytes : List ℕ) (room : ℕ) (lines : List Line) (t : TableView) (j k : ℕ) (a : OfLine m base bytes room lines t j) (b : OfLine m base bytes room lines t k) → a.i < b.i → AreApart (place_from m base b.loc b.code) (place_from m base a.loc a.code)
 apart_lines m base bytes room lines t j k a b l =
@@ -145,13 +138,10 @@ flip : (p q : Place) → AreApart p q → AreApart q p
 flip p q (inl h) = inr h
 flip p q (inr h) = inl h
 
-cases_apart : (a b : ℕ) → a ≢ b → (a < b) ⊎ (b < a)
-cases_apart a b h = grind arith
-
 apart_pair : (m base : ℕ) (bytes : List ℕ) (room : ℕ) (lines : List Line) (t : TableView) (j k : ℕ) → j < k → (a : OfLine m base bytes room lines t j) (b : OfLine m base bytes room lines t k) → AreApart (place_of t.places j) (place_of t.places k)
-apart_pair m base bytes room lines t j k l a b = rw (a.place, b.place) (elim (cases_apart a.i b.i (λ e. differ e)) [
+apart_pair m base bytes room lines t j k l a b = rw (a.place, b.place) (elim (cases_lt a.i b.i) [
   | inl less ↦ flip (place_from m base b.loc b.code) (place_from m base a.loc a.code) (apart_lines m base bytes room lines t j k a b less)
-  | inr more ↦ apart_lines m base bytes room lines t k j b a more
+  | inr most ↦ apart_lines m base bytes room lines t k j b a (let apart : a.i ≢ b.i = differ in omega arith)
 ])
   where
     differ : a.i ≡ b.i → ⊥

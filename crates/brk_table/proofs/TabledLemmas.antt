@@ -5,6 +5,7 @@ use Rattle.std.specs.List.{AllPass}
 use Rattle.std.proofs.lemmas.Bool.{cases_lt, cases_eq, leb-true}
 use Rattle.std.proofs.lemmas.List.{get_or_append_left, get_or_push, get_or_default, length_push, length-set, get_or-set_same, get_or-set_other}
 use Rattle.std.proofs.lemmas.List.Sums.{sum_by-set, sum_by-cons}
+use Rattle.std.proofs.lemmas.Option.{none-some}
 use Rattle.s370_decode.specs.declared.code.Code.{Code}
 use Rattle.module_area.specs.Meaning.{no_place, place_of}
 use Rattle.module_area.specs.declared.places.Place.{Place}
@@ -36,12 +37,9 @@ none_at lines cover at is sound l e j loc code b q s =
     let f = found lines cover at j loc code is sound l b q s in
     absurd cc
 
-below_next : (loc at : ℕ) → loc < at + 1 → (loc ≡ at → ⊥) → loc < at
-below_next loc at l h = elim (cases_lt loc at) [ inl b ↦ b | inr a ↦ absurd (h (omega arith)) ]
-
 entry_on : (m base at : ℕ) (places : List Place) (line : Line) (entry : Option ℕ) → IsEntryBelow m base at places line entry → ((loc : ℕ) (code : Code) → line ≡ says.Code loc code → loc ≡ at → ⊥) → IsEntryBelow m base (at + 1) places line entry
 entry_on m base at places Text entry h none = h
-entry_on m base at places (says.Code loc code) entry h none = (λ l. h.0 (below_next loc at l (none loc code refl)), λ l. h.1 (omega arith))
+entry_on m base at places (says.Code loc code) entry h none = (λ l. h.0 (let n = none loc code refl in omega arith), λ l. h.1 (omega arith))
 
 pub tabled_none : (m base : ℕ) (lines : List Line) (at : ℕ) (places : List Place) (entries : List (Option ℕ)) → IsTabled m base lines at places entries → NoneAt lines at → IsTabled m base lines (at + 1) places entries
 tabled_none m base lines at places entries t none = record {
@@ -79,9 +77,6 @@ count_set entries i k l e =
     let z : one (get_or entries i None) ≡ 0 = ap one e in
     omega (arith, s, z)
 
-no_both : (x : Option ℕ) (k : ℕ) → x ≡ Some k → x ≡ None → ⊥
-no_both x k e f = cc
-
 pub tabled_more : (m base : ℕ) (lines : List Line) (at : ℕ) (places : List Place) (entries : List (Option ℕ)) (i : ℕ) (code : Code) → IsTabled m base lines at places entries → i < length lines → get_or lines i Text ≡ says.Code at code → OnlyAt lines at i
     → IsTabled m base lines (at + 1) (places ++ place_from m base at code ∷ []) (set entries i (Some (length places)))
 tabled_more m base lines at places entries i code t l own only = record {
@@ -118,7 +113,7 @@ tabled_more m base lines at places entries i code t l own only = record {
     of_lines k b = elim (cases_lt k (length places)) [
       | inl low ↦ (
           let c = t.of_lines k low in
-          let other : c.0 ≢ i = λ e. (let f : get_or entries i (Some k) ≡ Some k = rw (← e) c.2 in let g : get_or entries i (Some k) ≡ get_or entries i None = get_or_default entries i (Some k) None there in no_both (get_or entries i None) k (sym g ∙ f) none) in
+          let other : c.0 ≢ i = λ e. (let f : get_or entries i (Some k) ≡ Some k = rw (← e) c.2 in let g : get_or entries i (Some k) ≡ get_or entries i None = get_or_default entries i (Some k) None there in none-some k (sym none ∙ (sym g ∙ f))) in
           (c.0, omega (arith, c.1, length-set entries i (Some (length places))), get_or-set_other entries i c.0 (Some (length places)) (Some k) other ∙ c.2))
       | inr high ↦ (
           let e : length places ≡ k = omega (arith, grown) in

@@ -1,6 +1,6 @@
-use Rattle.std.proofs.Common.{refl, sym, ◌∙◌, arith}
-use Rattle.std.proofs.lemmas.Bool.{eqb-true}
-use Rattle.brk_table.proofs.DecodedLemmas.{is_there, key_there, found_equal}
+use Rattle.std.proofs.Common.{sym, ◌∙◌, arith}
+use Rattle.std.proofs.lemmas.Bool.{eq-eqb, eqb-true}
+use Rattle.brk_table.proofs.DecodedLemmas.{is_there, key_there}
 use Rattle.brk_table.proofs.tables.Tables.comes_next.Goals as goal
 
 pub returns-clause-there : goal.returns-clause-there
@@ -9,4 +9,4 @@ returns-clause-there c = λ t.
 
 pub returns-clause-found : goal.returns-clause-found
 returns-clause-found c = λ t.
-    found_equal _ _ _ refl (key_there c.args.self.now c.args.kept.now _ c.args.last 1 c.args.a c.requires.kept c.requires.codes t ∙ sym c.get.ensures.value)
+    eq-eqb _ _ (key_there c.args.self.now c.args.kept.now _ c.args.last 1 c.args.a c.requires.kept c.requires.codes t ∙ sym c.get.ensures.value)
