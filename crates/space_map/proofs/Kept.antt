@@ -1,10 +1,11 @@
 -- The instructions that are kept are those that a task sees at their places.
-use Rattle.std.proofs.Common.{◌≡◌, ℕ, ◌+◌, ◌-◌, ◌*◌, ◌/◌, ◌%◌, ◌<◌, ◌≤◌, true, false, List, length, get_or, slice_index, refl, ap, ◌∙◌, arith, inl, inr}
+use Rattle.std.proofs.Common.{◌≡◌, ℕ, ◌+◌, ◌-◌, ◌*◌, ◌%◌, ◌<◌, ◌≤◌, true, false, List, length, get_or, slice_index, refl, ap, ◌∙◌, arith, inl, inr}
 use Rattle.std.specs.List.{All}
 use Rattle.std.proofs.lemmas.Bool.{cases_lt, lt-ltb, le-ltb}
 use Rattle.std.proofs.lemmas.Bool.Decides.{nat_tests}
 use Rattle.cov_base.specs.Meaning.{length_of, ImageView, wrap, byte_at, can_reach}
 use Rattle.cov_base.proofs.Laws.{length_of-least}
+use Rattle.std.proofs.lemmas.Nat.{div-mul-add, mod-mul-add}
 use Rattle.s370_decode.specs.declared.code.Code.{Code}
 use Rattle.module_area.specs.declared.places.Place.{Place}
 use Rattle.module_area.specs.Meaning.{no_place, place_of}
@@ -59,12 +60,6 @@ later_untouched size images places n i are l from to =
     let here : wrap ((place_of places n).at + i) ≡ (place_of places n).at + i = omega (arith, (are.each n no_place l).below) in
     rw here (not_touched places n ((place_of places n).at + i) are l (omega arith) (omega arith))
 
-high : (x y : ℕ) → y < 256 → (x * 256 + y) / 256 ≡ x
-high x y l = omega arith
-
-low : (x y : ℕ) → y < 256 → (x * 256 + y) % 256 ≡ y
-low x y l = omega arith
-
 -- the module's bytes are those of the place's halfwords
 pub code_in-halves : (i : ImageView) (p : Place) → 2 ≤ p.len → p.original ≡ slice_index i.bytes (p.at - i.base) * 256 + slice_index i.bytes (p.at - i.base + 1) → All (λ b. b < 256) (code_in i p).bytes
     → code_in i p ≡ code_by p (module_half i.bytes (p.at - i.base) p.len 2) (module_half i.bytes (p.at - i.base) p.len 4)
@@ -76,7 +71,7 @@ code_in-halves i p long half small =
     let one : b 1 < 256 = small 1 0 (omega arith) in
     let three : b 3 < 256 = small 3 0 (omega arith) in
     let five : b 5 < 256 = small 5 0 (omega arith) in
-    rw (first, high (b 0) (b 1) one, low (b 0) (b 1) one, high (b 2) (b 3) three, low (b 2) (b 3) three, high (b 4) (b 5) five, low (b 4) (b 5) five) refl
+    rw (first, div-mul-add (b 0) 256 (b 1) one, mod-mul-add (b 0) 256 (b 1) one, div-mul-add (b 2) 256 (b 3) three, mod-mul-add (b 2) 256 (b 3) three, div-mul-add (b 4) 256 (b 5) five, mod-mul-add (b 4) 256 (b 5) five) refl
 
 is_kept : (size : ℕ) (images : List ImageView) (places : List Place) (n : ℕ) (c : Code) → size ≤ 1048576 → AreImages images → ArePlaces places → n < length places → IsCodeOf images (place_of places n) c → IsKept (memory_of size images places) (place_of places n) c
 is_kept size images places n c h f are l is =

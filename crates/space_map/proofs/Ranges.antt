@@ -1,12 +1,9 @@
 -- Whole ranges of addresses in a memory.
-use Rattle.std.proofs.Common.{◌≡◌, ℕ, ◌+◌, ◌-◌, ◌<◌, ◌≤◌, zero, suc, Bool, true, false, ◌||◌, None, refl, arith, ◌⊎◌, inl, inr}
-use Rattle.std.proofs.lemmas.Bool.{lt-ltb, le-ltb}
+use Rattle.std.proofs.Common.{◌≡◌, ℕ, ◌+◌, ◌-◌, ◌<◌, ◌≤◌, zero, suc, true, false, None, refl, arith, inl, inr}
+use Rattle.std.proofs.lemmas.Bool.{lt-ltb, le-ltb, cases_lt}
+use Rattle.std.proofs.Math.Bool.{or-true}
 use Rattle.cov_base.specs.Meaning.{Memory, wrap, can_reach, can_store, first_touch, is_accessible, is_private}
 use Rattle.s370_state.proofs.Laws.{store_fails}
-
-or_true : (a : Bool) → (a || true) ≡ true
-or_true true = refl
-or_true false = refl
 
 wrapped : (a : ℕ) → a < 16777216 → wrap a ≡ a
 wrapped a h = omega arith
@@ -19,7 +16,7 @@ reach_private m a (suc n) h k = rw (reach_private m a n (omega arith) k, wrapped
 pub reach_image : (m : Memory) (a n : ℕ) → ((b : ℕ) → a ≤ b → b < a + n → m.is_image b ≡ true) → a + n ≤ 16777216 → can_reach m a n ≡ true
 unfolding can_reach is_accessible
 reach_image m a zero h k = refl
-reach_image m a (suc n) h k = rw (reach_image m a n (λ b p q. h b p (omega arith)) (omega arith), wrapped (a + n) (omega arith), h (a + n) (omega arith) (omega arith)) (or_true _)
+reach_image m a (suc n) h k = rw (reach_image m a n (λ b p q. h b p (omega arith)) (omega arith), wrapped (a + n) (omega arith), h (a + n) (omega arith) (omega arith)) (or-true _)
 
 pub store_private : (m : Memory) (a n : ℕ) → a + n ≤ m.private → m.private ≤ 16777216 → can_store m a n ≡ true
 unfolding can_store is_private
@@ -30,15 +27,12 @@ is_private-outside : (m : Memory) (b : ℕ) → m.private ≤ b → is_private m
 unfolding is_private
 is_private-outside m b h = le-ltb b m.private h
 
-ends : (a n : ℕ) → a + n ≤ 16777216 ⊎ 16777216 < a + n
-ends a n = grind arith
-
 -- past private storage's end lies a byte of the range, or the last address does
 pub store_outside : (m : Memory) (a n : ℕ) → 0 < n → m.private < a + n → a < 16777216 → m.private < 16777216 → can_store m a n ≡ false
 store_outside m a n p h l k =
-    elim (ends a n) [
-      | inl q ↦ store_fails m a n (n - 1) (a + (n - 1)) (omega arith) (omega arith) (is_private-outside m (a + (n - 1)) (omega arith))
-      | inr q ↦ store_fails m a n (16777215 - a) 16777215 (omega arith) (omega arith) (is_private-outside m 16777215 (omega arith))
+    elim (cases_lt 16777216 (a + n)) [
+      | inl q ↦ store_fails m a n (16777215 - a) 16777215 (omega arith) (omega arith) (is_private-outside m 16777215 (omega arith))
+      | inr q ↦ store_fails m a n (n - 1) (a + (n - 1)) (omega arith) (omega arith) (is_private-outside m (a + (n - 1)) (omega arith))
     ]
 
 pub touch_private : (m : Memory) (a n : ℕ) → ((b : ℕ) → b < m.private → m.is_touch b ≡ false) → a + n ≤ m.private → m.private ≤ 16777216 → first_touch m a n ≡ None

@@ -1,11 +1,12 @@
 -- Each place is reached, and shows its original.
-use Rattle.std.proofs.Common.{◌≡◌, ℕ, ◌+◌, ◌-◌, ◌*◌, ◌<◌, ◌≤◌, zero, suc, Bool, true, false, ◌||◌, nat_lt, List, [], ◌∷◌, length, take, drop, get_or, slice_index, refl, sym, ◌∙◌, arith, inl, inr}
-use Rattle.std.specs.List.{All, AllPairs, Contains, list_any}
+use Rattle.std.proofs.Common.{◌≡◌, ℕ, ◌+◌, ◌-◌, ◌*◌, ◌<◌, ◌≤◌, zero, suc, true, false, nat_lt, List, [], ◌∷◌, length, take, drop, get_or, slice_index, refl, sym, ◌∙◌, arith, inl, inr}
+use Rattle.std.specs.List.{All, AllPairs, Contains}
 use Rattle.std.proofs.lemmas.Bool.Decides.{nat_tests}
 use Rattle.std.proofs.lemmas.List.Elements.{All-get_or}
 use Rattle.std.proofs.lemmas.List.{get_or_read, get_or-take, get_or-drop}
 use Rattle.cov_base.specs.Meaning.{ImageView, wrap, byte_at}
 use Rattle.cov_base.proofs.Laws.{length_of-least}
+use Rattle.std.proofs.lemmas.List.Folds.{list_any_at}
 use Rattle.module_area.specs.declared.places.Place.{Place}
 use Rattle.module_area.specs.Meaning.{no_place}
 use Rattle.module_area.specs.Images.{AreImages, AreClear}
@@ -33,15 +34,6 @@ clear : (i j : ImageView) (a : ℕ) → AreClear i j → in_image j a ≡ true �
 clear i j a (inl h) k = let f = in_image-from j a k in after i a (omega arith)
 clear i j a (inr h) k = let t = in_image-to j a k in before i a (omega arith)
 
-or_true : (b : Bool) → (b || true) ≡ true
-or_true true = refl
-or_true false = refl
-
-pub list_any-there : (images : List ImageView) (d : ImageView) (n a : ℕ) → n < length images → in_image (get_or images n d) a ≡ true → list_any (λ i. in_image i a) images ≡ true
-list_any-there [] d n a l h = absurd (omega arith)
-list_any-there (i ∷ is) d zero a l h = rw h refl
-list_any-there (i ∷ is) d (suc n) a l h = rw (list_any-there is d n a (omega arith) h) (or_true (in_image i a))
-
 -- of modules that share no byte, the one that has the address gives its byte
 image_byte-there : (images : List ImageView) (d : ImageView) (n a : ℕ) → n < length images → AllPairs AreClear images → in_image (get_or images n d) a ≡ true → image_byte images a ≡ slice_index (get_or images n d).bytes (a - (get_or images n d).base)
 image_byte-there [] d n a l f h = absurd (omega arith)
@@ -59,7 +51,7 @@ image_byte-of images p q a f from to =
 
 pub is_image-of : (size : ℕ) (images : List ImageView) (places : List Place) (p : Place) (q : IsIn images p) (a : ℕ) → q.image.base ≤ a → a < q.image.base + length q.image.bytes → (memory_of size images places).is_image a ≡ true
 unfolding memory_of
-is_image-of size images places p q a from to = list_any-there images q.image p.module a q.exists (rw q.is (in_image-inside q.image a from to))
+is_image-of size images places p q a from to = list_any_at (λ i. in_image i a) images p.module q.image q.exists (rw q.is (in_image-inside q.image a from to))
 
 is_seen : (size : ℕ) (images : List ImageView) (places : List Place) (p : Place) → size ≤ 1048576 → AreImages images → IsPlace p → IsIn images p → IsSeen (memory_of size images places) p
 is_seen size images places p h f g q =

@@ -1,10 +1,9 @@
 -- What one test of a range tells in a task's space.
-use Rattle.std.proofs.Common.{◌≡◌, ℕ, ◌+◌, ◌*◌, ◌/◌, ◌%◌, ◌<◌, ◌≤◌, zero, suc, Bool, true, false, nat_eq, nat_le, IsTrue, None, Ok, List, length, take, drop, ◌++◌, slice_index, slice_set, refl, ap, sym, ◌∙◌, arith, ◌⊎◌, inl, inr}
+use Rattle.std.proofs.Common.{◌≡◌, ℕ, ◌+◌, ◌*◌, ◌/◌, ◌%◌, ◌<◌, ◌≤◌, zero, suc, Bool, true, false, nat_eq, nat_le, IsTrue, None, Ok, List, length, take, drop, ◌++◌, slice_index, slice_set, refl, ap, sym, ◌∙◌, arith, inl, inr}
 use Rattle.std.specs.List.{list_any}
-use Rattle.std.proofs.lemmas.Bool.Decides.{nat_tests}
 use Rattle.std.proofs.lemmas.List.{length-set}
 use Rattle.std.proofs.Math.Seq.{take-append_seam}
-use Rattle.std.proofs.lemmas.Bool.{le-leb, lt-leb, lt-ltb}
+use Rattle.std.proofs.lemmas.Bool.{le-leb, lt-leb, lt-ltb, cases_eq, cases_lt, leb-true}
 use Rattle.cov_base.specs.Meaning.{Memory, ImageView, wrap, byte_at, can_reach, can_store, first_touch}
 use Rattle.s370_state.specs.Answers.{first_answer}
 use Rattle.s370_state.specs.Fields.{AreBytes, copied}
@@ -43,30 +42,24 @@ unfolding first_touch
 touch_empty m a zero h = refl
 touch_empty m a (suc n) h = absurd (omega arith)
 
-ends : (a b : ℕ) → (a ≤ b) ⊎ (b < a)
-ends a b = grind arith
-
-told_within : (a b : ℕ) → IsTrue (nat_le a b) → a ≤ b
-told_within a b h = grind (arith, nat_tests)
-
 -- by the number of private bytes, however it was read
 
 pub store_range : (s : SpaceView) (monitored : Bool) (a n x size : ℕ) → IsSpace s monitored → size ≡ length s.bytes → a < 16777216 → 0 < n → x ≡ a + n → nat_le x size ≡ can_store (memory_of_space s) a n
 unfolding memory_of
 store_range s monitored a n x size k f l p e =
-    elim (ends x size) [
-      | inl h ↦ rw (le-leb x size h, store_private (memory_of_space s) a n (omega arith) (omega arith)) refl
-      | inr h ↦ rw (lt-leb x size h, store_outside (memory_of_space s) a n p (omega arith) l (omega arith)) refl
+    elim (cases_lt size x) [
+      | inl h ↦ rw (lt-leb x size h, store_outside (memory_of_space s) a n p (omega arith) l (omega arith)) refl
+      | inr h ↦ rw (le-leb x size h, store_private (memory_of_space s) a n (omega arith) (omega arith)) refl
     ]
 
 pub reach_range : (s : SpaceView) (monitored : Bool) (a n x size : ℕ) → IsSpace s monitored → size ≡ length s.bytes → x ≡ a + n → IsTrue (nat_le x size) → can_reach (memory_of_space s) a n ≡ true
 unfolding memory_of
-reach_range s monitored a n x size k f e h = let w = told_within x size h in reach_private (memory_of_space s) a n (omega arith) (omega arith)
+reach_range s monitored a n x size k f e h = let w = leb-true x size h in reach_private (memory_of_space s) a n (omega arith) (omega arith)
 
 pub touch_range : (s : SpaceView) (monitored : Bool) (a n x size : ℕ) → IsSpace s monitored → size ≡ length s.bytes → x ≡ a + n → IsTrue (nat_le x size) → first_touch (memory_of_space s) a n ≡ None
 unfolding memory_of
 touch_range s monitored a n x size k f e h =
-    let w = told_within x size h in
+    let w = leb-true x size h in
     touch_private (memory_of_space s) a n (λ b l. touches-private s.images s.places b k.are_images k.in_images (omega arith)) (omega arith) (omega arith)
 
 pub reach_listed : (size : ℕ) (images : List ImageView) (places : List Place) (a n : ℕ) → ((b : ℕ) → a ≤ b → b < a + n → list_any (λ i. in_image i b) images ≡ true) → a + n ≤ 16777216 → can_reach (memory_of size images places) a n ≡ true
@@ -74,10 +67,7 @@ unfolding memory_of
 reach_listed size images places a n f h = reach_image (memory_of size images places) a n f h
 
 two : (P : ℕ → Type 0) (a b : ℕ) → a ≤ b → b < a + 2 → P a → P (a + 1) → P b
-two P a b l h p q = elim (which a b l h) [ inl e ↦ rw e p | inr e ↦ rw e q ]
-  where
-    which : (a b : ℕ) → a ≤ b → b < a + 2 → (b ≡ a) ⊎ (b ≡ a + 1)
-    which a b l h = grind arith
+two P a b l h p q = elim (cases_eq b a) [ inl e ↦ rw e p | inr n ↦ rw (let e : b ≡ a + 1 = omega arith in e) q ]
 
 pub first_listed : (s : SpaceView) (monitored : Bool) (a h : ℕ) → IsSpace s monitored → 1048576 ≤ a → a + 2 ≤ 16777216 → list_any (λ i. in_image i a) s.images ≡ true → list_any (λ i. in_image i (a + 1)) s.images ≡ true → h ≡ image_byte s.images a * 256 + image_byte s.images (a + 1) → Ok h ≡ first_answer (memory_of_space s) s.bytes a
 first_listed s monitored a h k from to one next e =
@@ -100,9 +90,9 @@ outside s monitored a n k l p q = store_outside (memory_of_space s) a n p q l (o
 
 -- what may be stored lies in private storage
 pub within : (s : SpaceView) (monitored : Bool) (a n : ℕ) → IsSpace s monitored → a < 16777216 → 0 < n → can_store (memory_of_space s) a n ≡ true → a + n ≤ length s.bytes
-within s monitored a n k l p h = elim (ends (a + n) (length s.bytes)) [
-  | inl q ↦ q
-  | inr q ↦ (let no : true ≡ false = sym h ∙ outside s monitored a n k l p q in absurd cc)
+within s monitored a n k l p h = elim (cases_lt (length s.bytes) (a + n)) [
+  | inl q ↦ (let no : true ≡ false = sym h ∙ outside s monitored a n k l p q in absurd cc)
+  | inr q ↦ q
 ]
 
 pub set_length : (bytes : List ℕ) (a v : ℕ) → length (slice_set bytes a v) ≡ length bytes

@@ -1,24 +1,18 @@
 -- Touch bytes, and the look-ups that tell them.
-use Rattle.std.proofs.Common.{◌≡◌, ℕ, ◌+◌, ◌-◌, ◌%◌, ◌<◌, ◌≤◌, zero, suc, Bool, true, false, ◌||◌, ◌==◌, if◌then◌else◌, ◌↔◌, Option, Some, None, List, [], ◌∷◌, length, get_or, refl, sym, ◌∙◌, arith, ◌⊎◌, inl, inr}
+use Rattle.std.proofs.Common.{◌≡◌, ℕ, ◌+◌, ◌-◌, ◌%◌, ◌<◌, ◌≤◌, zero, suc, Bool, true, false, ◌==◌, if◌then◌else◌, ◌↔◌, Option, Some, None, List, [], ◌∷◌, length, get_or, refl, sym, ◌∙◌, arith, inl, inr, eq-or-lt_of_le}
 use Rattle.std.specs.Option.{option_or}
 use Rattle.std.specs.List.{All}
 use Rattle.std.specs.Option.{IsNone, is_some}
 use Rattle.std.proofs.lemmas.Bool.Decides.{nat_tests}
 use Rattle.std.proofs.lemmas.List.Elements.{All-head, All-tail, All-get_or}
+use Rattle.std.proofs.lemmas.Bool.{cases_eq, ne_eqb}
+use Rattle.std.proofs.Math.Bool.{or-false}
 use Rattle.cov_base.specs.Meaning.{Memory, ImageView, wrap, first_touch}
 use Rattle.module_area.specs.declared.places.Place.{Place}
 use Rattle.module_area.specs.Meaning.{is_place}
 use Rattle.module_area.specs.Images.{IsImage, AreImages}
 use Rattle.brk_table.specs.Meaning.{touches, memory_of}
 use Rattle.brk_table.specs.Places.{IsPlace, IsIn}
-
-or_false : (b : Bool) → (b || false) ≡ b
-or_false true = refl
-or_false false = refl
-
-differ : (a b : ℕ) → (a < b) ⊎ (b < a) → (a == b) ≡ false
-differ a b (inl h) = grind (arith, nat_tests)
-differ a b (inr h) = grind (arith, nat_tests)
 
 odd_even : (a b : ℕ) → a % 2 ≡ 0 → b % 2 ≡ 0 → (a == b + 1) ≡ false
 odd_even a b h k = grind (arith, nat_tests)
@@ -33,7 +27,7 @@ touches-even : (places : List Place) (a : ℕ) → All IsPlace places → a % 2 
 touches-even [] a f h = refl
 touches-even (p ∷ ps) a f h =
     let q : IsPlace p = All-head IsPlace p ps f in
-    rw (odd_even a p.at h q.even, or_false (a == p.at), touches-even ps a (All-tail IsPlace p ps f) h) refl
+    rw (odd_even a p.at h q.even, or-false (a == p.at), touches-even ps a (All-tail IsPlace p ps f) h) refl
 
 touches-odd : (places : List Place) (a : ℕ) → All IsPlace places → a % 2 ≡ 1 → touches places a ≡ is_place places (a - 1)
 touches-odd [] a f h = refl
@@ -41,39 +35,29 @@ touches-odd (p ∷ ps) a f h =
     let q : IsPlace p = All-head IsPlace p ps f in
     rw (even_odd a p.at h q.even, one_before a p.at h, touches-odd ps a (All-tail IsPlace p ps f) h) refl
 
-parity : (a : ℕ) → (a % 2 ≡ 0) ⊎ (a % 2 ≡ 1)
-parity a = grind arith
-
 -- one look-up tells a halfword
 pub touches-halfword : (places : List Place) (a b : ℕ) → All IsPlace places → b ≡ a - a % 2 → touches places a ≡ is_place places b
 touches-halfword places a b f e =
-    elim (parity a) [
+    elim (cases_eq (a % 2) 0) [
       | inl h ↦ rw (let d : b ≡ a = omega arith in d) (touches-even places a f h)
-      | inr h ↦ rw (let d : b ≡ a - 1 = omega arith in d) (touches-odd places a f h)
+      | inr h ↦ rw (let d : b ≡ a - 1 = omega arith in d) (touches-odd places a f (omega arith))
     ]
 
-or_none : (o q : Option ℕ) → option_or o q ≡ None → o ≡ None
-or_none None q h = refl
-or_none (Some a) q h = let e : Some a ≡ None = h in absurd cc
-
-then_none : (o q : Option ℕ) → option_or o q ≡ None → q ≡ None
-then_none None q h = h
-then_none (Some a) q h = let e : Some a ≡ None = h in absurd cc
+neither : (o q : Option ℕ) → option_or o q ≡ None → (o ≡ None) × (q ≡ None)
+neither None q h = (refl, h)
+neither (Some a) q h = let e : Some a ≡ None = h in absurd cc
 
 none_untold : (b : Bool) (a : ℕ) → (if b then Some a else None) ≡ None → b ≡ false
 none_untold true a h = let e : Some a ≡ None = h in absurd cc
 none_untold false a h = refl
 
-last_or : (i n : ℕ) → i < suc n → (i ≡ n) ⊎ (i < n)
-last_or i n h = grind arith
-
 touch_at : (m : Memory) (a n i b : ℕ) → first_touch m a n ≡ None → i < n → b ≡ wrap (a + i) → m.is_touch b ≡ false
 unfolding first_touch
 touch_at m a zero i b h l e = absurd (omega arith)
 touch_at m a (suc n) i b h l e =
-    elim (last_or i n l) [
-      | inl q ↦ rw (e, q) (none_untold (m.is_touch (wrap (a + n))) (wrap (a + n)) (then_none (first_touch m a n) _ h))
-      | inr k ↦ touch_at m a n i b (or_none (first_touch m a n) _ h) k e
+    elim (eq-or-lt_of_le {n = i} {m = n} (omega arith)) [
+      | inl q ↦ rw (e, q) (none_untold (m.is_touch (wrap (a + n))) (wrap (a + n)) (neither (first_touch m a n) _ h).1)
+      | inr k ↦ touch_at m a n i b (neither (first_touch m a n) _ h).0 k e
     ]
 
 -- an odd byte is a touch byte where the one before it is
@@ -94,7 +78,7 @@ pub touches-private : (images : List ImageView) (places : List Place) (b : ℕ) 
 touches-private images [] b f h l = refl
 touches-private images (p ∷ ps) b f h l =
     let q : 1048576 ≤ p.at = base_from images p f (All-head (IsIn images) p ps h) in
-    rw (differ b p.at (inl (omega arith)), differ b (p.at + 1) (inl (omega arith)), touches-private images ps b f (All-tail (IsIn images) p ps h) l) refl
+    rw (ne_eqb b p.at (λ e. omega arith), ne_eqb b (p.at + 1) (λ e. omega arith), touches-private images ps b f (All-tail (IsIn images) p ps h) l) refl
 
 -- nor is any where no module is monitored
 pub touches-none : (places : List Place) (b : ℕ) → length places ≤ 0 → touches places b ≡ false
