@@ -1,12 +1,11 @@
 -- What the words of a closed area say.
-use Rattle.std.proofs.Common.{◌≡◌, ℕ, zero, suc, ◌+◌, ◌-◌, ◌*◌, ◌/◌, ◌%◌, ◌<◌, ◌≤◌, Bool, true, false, not, ◌&&◌, nat_lt, List, [], ◌∷◌, map, length, get_or, sym, refl, ap, ◌∙◌, subst, inl, inr, arith, mod-lt, lt_of_not-le}
+use Rattle.std.proofs.Common.{◌≡◌, ℕ, zero, suc, ◌+◌, ◌-◌, ◌*◌, ◌/◌, ◌%◌, ◌<◌, ◌≤◌, Bool, true, false, not, ◌&&◌, nat_lt, List, [], ◌∷◌, map, length, get_or, sym, refl, ap, ◌∙◌, subst, inl, inr, arith, mod-lt}
 use mathlib.Core.Logic.{dite}
-use native.Mathlib.Decide.{ℕ_discrete, dec_le}
+use native.Mathlib.Decide.{ℕ_discrete}
 use mathlib.Core.Option.{some}
 use lib.ListN.{get_elem?}
-use Rattle.std.proofs.Math.Nat.{mul-le-mul_right}
 use Rattle.std.proofs.lemmas.List.{get_or-take, length-map}
-use Rattle.std.proofs.lemmas.Nat.{div-add-mod', div-mul-add, mod-mul-add}
+use Rattle.std.proofs.lemmas.Nat.{div-add-mod', div-mul-add, mod-mul-add, div_below}
 use Rattle.atomic_table.specs.Table.{State, Final, Seen}
 use Rattle.cov_base.specs.declared.facts.Fact.{Fact}
 use Rattle.cov_base.specs.Meaning.{FactSet, has_fact, is_full, is_within, no_facts}
@@ -51,8 +50,7 @@ positive zero m i h = absurd (omega arith)
 positive (suc n) m i h = omega arith
 
 session_below : (n m i : ℕ) → i < m * n → i / n + 1 ≤ m
-session_below n m i h = dite (dec_le (i / n + 1) m) (λ y. y)
-    (λ no. let high = lt_of_not-le no in let d = div-add-mod' i n in let most : m * n ≤ i / n * n = mul-le-mul_right n (omega (arith, high)) in absurd (omega (arith, d, most, h)))
+session_below n m i h = omega (arith, div_below i n m (positive n m i h) h)
 
 -- the sets that an area ends with, as they were read off its words
 module _ (plan : PlanView) (words : List ℕ) (finals : FinalsView) (places : finals.places ≡ length plan.places) (size : length finals.sets ≡ plan.sessions * length plan.places) (read : AreSets plan words finals.sets) where

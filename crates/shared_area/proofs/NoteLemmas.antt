@@ -2,6 +2,8 @@
 use Rattle.std.proofs.Common.{◌≡◌, ◌⊎◌, ℕ, ◌+◌, ◌*◌, ◌%◌, ◌≤◌, Bool, true, false, not, ◌&&◌, ◌||◌, nat_eq, if◌then◌else◌, List, [], ◌∷◌, ◌++◌, max, unwrap_or, sym, refl, ap, ◌∙◌, subst, inl, inr, ⊎_elim, arith, eqb-true, eq-eqb}
 use mathlib.Core.Path.{fun_ext}
 use Rattle.std.proofs.lemmas.List.{map-append}
+use Rattle.std.proofs.Math.Bool.{and_comm, or_assoc, or_comm, or-false}
+use Rattle.std.specs.Cmp.{nat_eq_equiv}
 use Rattle.cov_base.specs.declared.facts.Fact.{Fact}
 use Rattle.cov_base.specs.Meaning.{FactSet, same_fact, is_full, with_fact}
 use Rattle.cov_base.proofs.Laws.{same_fact-self, same_fact-true}
@@ -125,13 +127,9 @@ lifted_tests b s q p t = same_tests _ _
     (λ h. let at = and_left (nat_eq q p) _ h in let r = and_right (nat_eq q p) _ h in let x = session_odd s t (eqb-true _ _ (and_right b _ r)) in
     and_both (b && nat_eq (t % 2) 1) _ (and_both b _ (and_left b _ r) (eq-eqb _ _ x.0)) (and_both (nat_eq s (tag_session t)) _ (eq-eqb _ _ x.1) at))
 
-or_none : (b : Bool) → b ≡ (b || false)
-or_none true = refl
-or_none false = refl
-
 pair_add_if : (c : Bool) (s q t p : ℕ) (xs : List (ℕ × ℕ)) → has_pair s q (add_if c (t, p) xs) ≡ (has_pair s q xs || (c && (nat_eq s t && nat_eq q p)))
 pair_add_if true s q t p xs = refl
-pair_add_if false s q t p xs = or_none (has_pair s q xs)
+pair_add_if false s q t p xs = sym (or-false (has_pair s q xs))
 
 fetch_pairs : (plan : PlanView) (p : ℕ) (c : Cell) (xs : List (ℕ × ℕ)) → ◌≡◌ {A = ℕ → ℕ → Bool} (λ s q. has_pair s q (add_if (is_lifted plan p c) (tag_session c.tag, p) xs)) (λ s q. has_pair s q xs || (nat_eq q p && is_free_under plan p c s))
 fetch_pairs plan p c xs = fun_ext (λ s. fun_ext (λ q. pair_add_if (is_lifted plan p c) s q (tag_session c.tag) p xs
@@ -143,27 +141,16 @@ fetch_notes plan p c v tally h = let full = fetch_pairs plan p c v.full in let f
     λ i. record (after_fetch plan (notes_in v tally) p c) { full = full i; free = free i; seen = seen i }
 
 -- ---- Mark, Lift, Plant
-full_tests : (a b c : Bool) → (c && (a && b)) ≡ ((a && b) && c)
-full_tests true true true = refl
-full_tests true true false = refl
-full_tests true false true = refl
-full_tests true false false = refl
-full_tests false b true = refl
-full_tests false b false = refl
-
 pub mark_notes : (plan : PlanView) (s p : ℕ) (f : Fact) (found : FactSet) (v : View) (tally : Tally)
     → notes_in (marking plan s p f found v) (record tally { marks = tally.marks + 1 }) ≡ after_mark plan (notes_in v tally) s p f found
 mark_notes plan s p f found v tally = let b : Bool = is_full (kind_at plan p) (with_fact found f) in
     let full : (λ t q. has_pair t q (add_if (is_full (kind_at plan p) (with_fact found f)) (s, p) v.full)) ≡ (λ t q. has_pair t q v.full || (nat_eq t s && nat_eq q p && is_full (kind_at plan p) (with_fact found f))) =
-    fun_ext (λ t. fun_ext (λ q. pair_add_if b t q s p v.full ∙ ap (λ x. has_pair t q v.full || x) (full_tests (nat_eq t s) (nat_eq q p) b))) in
+    fun_ext (λ t. fun_ext (λ q. pair_add_if b t q s p v.full ∙ ap (λ x. has_pair t q v.full || x) (and_comm b (nat_eq t s && nat_eq q p)))) in
     λ i. record (after_mark plan (notes_in v tally) s p f found) { full = full i }
-
-eqb_turned : (a b : ℕ) → nat_eq a b ≡ nat_eq b a
-eqb_turned a b = same_tests (nat_eq a b) (nat_eq b a) (λ h. eq-eqb b a (sym (eqb-true a b h))) (λ h. eq-eqb a b (sym (eqb-true b a h)))
 
 -- the last tags after one more
 last_now : (p t : ℕ) (xs : List (ℕ × ℕ)) → ◌≡◌ {A = ℕ → ℕ} (λ q. last_tag q ((p, t) ∷ xs)) (λ q. if nat_eq q p then t else last_tag q xs)
-last_now p t xs = fun_ext (λ q. ap (λ b. if b then t else last_tag q xs) (eqb_turned p q))
+last_now p t xs = fun_ext (λ q. ap (λ b. if b then t else last_tag q xs) (nat_eq_equiv.symm p q))
 
 pub plant_notes : (s p : ℕ) (v : View) (tally : Tally) → seen_at p v.seen ≤ window_tag s → notes_in (planting s p v) (record tally { plants = tally.plants + 1 }) ≡ after_plant (notes_in v tally) s p
 plant_notes s p v tally h = let seen = seen_now p (window_tag s) v.seen h in let last = last_now p (window_tag s) v.planted in λ i. record (after_plant (notes_in v tally) s p) { seen = seen i; last = last i }
@@ -181,7 +168,7 @@ bound_notes t w ended v tally bears own = let k : ℕ = if ended then 1 else 2 i
 
 settled_add_if : (c : Bool) (t q : ℕ) (x : FactSet) (s p : ℕ) (found : FactSet) (ys : List (ℕ × ℕ × FactSet)) → has_settled t q x (add_if c (s, p, found) ys) ≡ (has_settled t q x ys || (c && (nat_eq t s && nat_eq q p && same_set found x)))
 settled_add_if true t q x s p found ys = refl
-settled_add_if false t q x s p found ys = or_none (has_settled t q x ys)
+settled_add_if false t q x s p found ys = sym (or-false (has_settled t q x ys))
 
 settled_now : (c : Bool) (s p : ℕ) (found : FactSet) (ys : List (ℕ × ℕ × FactSet)) →
     ◌≡◌ {A = ℕ → ℕ → FactSet → Bool} (λ t q x. has_settled t q x (add_if c (s, p, found) ys)) (λ t q x. has_settled t q x ys || (c && (nat_eq t s && nat_eq q p && same_set found x)))
@@ -232,27 +219,17 @@ taken_by : (f : ℕ → Bool) (p : ℕ) (xs ys : List (ℕ × ℕ)) (b : Bool) �
 taken_by f p xs ys true e = first_tag p (chosen f xs) (chosen (λ q. not (f q)) ys) (no_tag (λ q. not (f q)) p ys (ap not e)) ∙ kept_tag f p xs e
 taken_by f p xs ys false e = dropped_tag f p xs (chosen (λ q. not (f q)) ys) e ∙ kept_tag (λ q. not (f q)) p ys (ap not e)
 
-or_swap : (a b : Bool) → (a || b) ≡ (b || a)
-or_swap true true = refl
-or_swap true false = refl
-or_swap false true = refl
-or_swap false false = refl
-
-or_again : (a b c : Bool) → ((a || b) || c) ≡ (a || (b || c))
-or_again true b c = refl
-or_again false b c = refl
-
 pair-append : (s p : ℕ) (xs ys : List (ℕ × ℕ)) → has_pair s p (xs ++ ys) ≡ (has_pair s p ys || has_pair s p xs)
-pair-append s p [] ys = or_swap false (has_pair s p ys)
-pair-append s p (x ∷ xs) ys = ap (λ b. b || (nat_eq s x.0 && nat_eq p x.1)) (pair-append s p xs ys) ∙ or_again (has_pair s p ys) (has_pair s p xs) (nat_eq s x.0 && nat_eq p x.1)
+pair-append s p [] ys = or_comm false (has_pair s p ys)
+pair-append s p (x ∷ xs) ys = ap (λ b. b || (nat_eq s x.0 && nat_eq p x.1)) (pair-append s p xs ys) ∙ or_assoc (has_pair s p ys) (has_pair s p xs) (nat_eq s x.0 && nat_eq p x.1)
 
 mark-append : (s p : ℕ) (f : Fact) (xs ys : List (ℕ × ℕ × Fact)) → has_mark s p f (xs ++ ys) ≡ (has_mark s p f ys || has_mark s p f xs)
-mark-append s p f [] ys = or_swap false (has_mark s p f ys)
-mark-append s p f (x ∷ xs) ys = ap (λ b. b || (nat_eq s x.0 && nat_eq p x.1 && same_fact f x.2)) (mark-append s p f xs ys) ∙ or_again (has_mark s p f ys) (has_mark s p f xs) (nat_eq s x.0 && nat_eq p x.1 && same_fact f x.2)
+mark-append s p f [] ys = or_comm false (has_mark s p f ys)
+mark-append s p f (x ∷ xs) ys = ap (λ b. b || (nat_eq s x.0 && nat_eq p x.1 && same_fact f x.2)) (mark-append s p f xs ys) ∙ or_assoc (has_mark s p f ys) (has_mark s p f xs) (nat_eq s x.0 && nat_eq p x.1 && same_fact f x.2)
 
 settled-append : (s p : ℕ) (x : FactSet) (ys zs : List (ℕ × ℕ × FactSet)) → has_settled s p x (ys ++ zs) ≡ (has_settled s p x zs || has_settled s p x ys)
-settled-append s p x [] zs = or_swap false (has_settled s p x zs)
-settled-append s p x (y ∷ ys) zs = ap (λ b. b || (nat_eq s y.0 && nat_eq p y.1 && same_set y.2 x)) (settled-append s p x ys zs) ∙ or_again (has_settled s p x zs) (has_settled s p x ys) (nat_eq s y.0 && nat_eq p y.1 && same_set y.2 x)
+settled-append s p x [] zs = or_comm false (has_settled s p x zs)
+settled-append s p x (y ∷ ys) zs = ap (λ b. b || (nat_eq s y.0 && nat_eq p y.1 && same_set y.2 x)) (settled-append s p x ys zs) ∙ or_assoc (has_settled s p x zs) (has_settled s p x ys) (nat_eq s y.0 && nat_eq p y.1 && same_set y.2 x)
 
 and_nor : (g j e : Bool) → (g && not (j || e)) ≡ ((g && not j) && not e)
 and_nor true true e = refl

@@ -1,8 +1,9 @@
 -- What a pass's notes say of tasks past a session holds by the rule, and so a set that they call final stays.
 use Rattle.std.proofs.Common.{◌≡◌, ◌≢◌, ◌⊎◌, ℕ, zero, suc, ◌*◌, ◌%◌, ◌<◌, ◌≤◌, Bool, true, false, not, ◌&&◌, ◌||◌, nat_eq, nat_lt, nat_le, if◌then◌else◌, Some, None, Option, List, [], ◌∷◌, length, get_or, map, max, sym, refl, ap, ◌∙◌, subst, inl, inr, ⊎_elim, arith, eqb-true, eq-eqb, ltb-true}
 use Rattle.std.specs.List.{list_any, list_all}
-use Rattle.std.proofs.lemmas.Bool.{leb-true}
+use Rattle.std.proofs.lemmas.Bool.{leb-true, not-true}
 use Rattle.std.proofs.lemmas.List.{get_or-map, length-map}
+use Rattle.std.proofs.lemmas.List.Sums.{AllPass-from_list_all}
 use mathlib.Core.Option.{some}
 use mathlib.Core.Logic.{dite}
 use native.Mathlib.Decide.{dec_le}
@@ -33,12 +34,6 @@ has_at (x ∷ xs) (suc k) d l = inr (has_at xs k d (omega arith))
 abbrev pub no_note : Noted
 no_note = (0, 0, [])
 
--- each passes
-all_at : {X : Type 0} (f : X → Bool) (xs : List X) (k : ℕ) (d : X) → list_all f xs ≡ true → k < length xs → f (get_or xs k d) ≡ true
-all_at f [] k d h l = absurd (omega arith)
-all_at f (x ∷ xs) zero d h l = and_left (f x) (list_all f xs) h
-all_at f (x ∷ xs) (suc k) d h l = all_at f xs k d (and_right (f x) (list_all f xs) h) (omega arith)
-
 -- a highest tag that isn't 0 was seen
 top_step : (p : ℕ) (x : ℕ × ℕ) (xs : List (ℕ × ℕ)) (b : Bool) → nat_eq p x.0 ≡ b → ((seen_at p xs ≡ 0) ⊎ Has (p, seen_at p xs) xs)
     → ((if b then max x.1 (seen_at p xs) else seen_at p xs) ≡ 0) ⊎ Has (p, (if b then max x.1 (seen_at p xs) else seen_at p xs)) (x ∷ xs)
@@ -63,14 +58,14 @@ at_pending (Some x) p t h e = let same : x ≡ (p, t) = cc in let hit = and_both
 module _ (plan : PlanView) (s : ℕ) (pos : 0 < s) where
   over_by : (seen : List (ℕ × ℕ)) (c : ControlledView) (p : ℕ) (b : Bool) → nat_eq c.session s ≡ b → c.session ≡ s → (not b || list_all (λ (q : PlaceNo). nat_le (2 * s) (seen_at q.0 seen)) c.places) ≡ true
       → (k : ℕ) → k < length c.places → get_or c.places k (number p) ≡ number p → IsOverAt seen s p
-  over_by seen c p true e same h k l at = let le : nat_le (2 * s) (seen_at (get_or c.places k (number p)).0 seen) ≡ true = all_at (λ (q : PlaceNo). nat_le (2 * s) (seen_at q.0 seen)) c.places k (number p) h l in
+  over_by seen c p true e same h k l at = let le : nat_le (2 * s) (seen_at (get_or c.places k (number p)).0 seen) ≡ true = AllPass-from_list_all (λ (q : PlaceNo). nat_le (2 * s) (seen_at q.0 seen)) c.places h k (number p) l in
       let top : 2 * s ≤ seen_at p seen = leb-true (2 * s) (seen_at p seen) (ap (λ (q : PlaceNo). nat_le (2 * s) (seen_at q.0 seen)) (sym at) ∙ le) in
       ⊎_elim (λ z. absurd (omega (arith, z, top, pos))) (λ has. (seen_at p seen, has, top)) (top_seen p seen)
   over_by seen c p false e same h k l at = let x = eq-eqb c.session s same in absurd cc
 
   closed_there : (seen : List (ℕ × ℕ)) → is_closed plan (λ p. seen_at p seen) s ≡ true → IsClosed plan seen s
   closed_there seen h p its = let a = controlled_at plan s p its in let c : ControlledView = get_or plan.controlled a.0 no_session in
-      over_by seen c p (nat_eq c.session s) refl a.2 (all_at (λ (c : ControlledView). not (nat_eq c.session s) || list_all (λ (q : PlaceNo). nat_le (2 * s) (seen_at q.0 seen)) c.places) plan.controlled a.0 no_session h a.1)
+      over_by seen c p (nat_eq c.session s) refl a.2 (AllPass-from_list_all (λ (c : ControlledView). not (nat_eq c.session s) || list_all (λ (q : PlaceNo). nat_le (2 * s) (seen_at q.0 seen)) c.places) plan.controlled h a.0 no_session a.1)
       a.3.0 a.3.1 a.3.2
 
   -- a note of the list of notes, as the rule has it
@@ -95,7 +90,7 @@ module _ (plan : PlanView) (s : ℕ) (pos : 0 < s) where
   drained_there : (v : View) → is_drained plan (notes_in v no_tally) s ≡ true → (t : ℕ) → has_task plan.tasks t ≡ true → (v.role ≡ Task t → ⊥) → IsPast plan v s t
   drained_there v h t task other = let a = position_at plan.tasks t task in let u : TaskNo = get_or plan.tasks (position plan.tasks t) no_task in
       let F : ℕ → Bool = λ k. is_own (bears_as v.role) k || is_past plan (map told_note v.noted) s k in
-      let here : F t ≡ true = ap F (sym a.1) ∙ all_at (λ (u : TaskNo). F u.0) plan.tasks (position plan.tasks t) no_task h a.0 in
+      let here : F t ≡ true = ap F (sym a.1) ∙ AllPass-from_list_all (λ (u : TaskNo). F u.0) plan.tasks h (position plan.tasks t) no_task a.0 in
       ⊎_elim (λ own. absurd (other (own_role v.role t own))) (λ past. past_there v t past) (or_cases (is_own (bears_as v.role) t) _ here)
 
   module _ (cell : ℕ → Cell) (sets : ℕ → ℕ → FactSet) (word : ℕ → ℕ) (views : List View) (h : Held plan cell sets views) (r : Drained plan cell sets word views) (id : ℕ) (v : View) (at : get_elem? views id ≡ some v) where
@@ -109,7 +104,7 @@ module _ (plan : PlanView) (s : ℕ) (pos : 0 < s) where
           l,
           pos,
           omega (arith, over, high),
-          all_past plan cell sets word views h r id v at s p pos its (at_pending v.pending p (window_tag s) (not_is (is_at v.pending p (window_tag s)) mine)) (drained_there v drained),
+          all_past plan cell sets word views h r id v at s p pos its (at_pending v.pending p (window_tag s) (not-true (is_at v.pending p (window_tag s)) mine)) (drained_there v drained),
         )
       where
         not_is : (b : Bool) → not b ≡ true → b ≡ false
