@@ -4,6 +4,7 @@ use Rattle.std.specs.List.{list_any}
 use Rattle.std.proofs.lemmas.List.Kept.{AllPairs-cons}
 use Rattle.std.proofs.lemmas.List.Elements.{All-cons, All-weaker}
 use Rattle.std.proofs.lemmas.List.Folds.{Any-from_list_any}
+use Rattle.std.proofs.lemmas.Bool.{and_parts}
 use Rattle.cov_base.specs.declared.numbers.PlaceNo.{PlaceNo}
 use Rattle.module_area.specs.Meaning.{ControlledView, place_of}
 use Rattle.module_area.specs.declared.places.Place.{Place}
@@ -17,14 +18,6 @@ session_at ss k = get_or ss k no_session
 
 abbrev has : List ℕ → ℕ → Bool
 has modules m = list_any (nat_eq m) modules
-
-first_of_both : (a b : Bool) → (a && b) ≡ true → a ≡ true
-first_of_both true b e = refl
-first_of_both false b e = absurd cc
-
-second_of_both : (a b : Bool) → (a && b) ≡ true → b ≡ true
-second_of_both true b e = e
-second_of_both false b e = absurd cc
 
 -- the places of some modules, counted on from n
 
@@ -128,14 +121,14 @@ window_later n s ss phase m w a = record { at = suc a.at; exists = let l = a.exi
 
 window_first : (n : ℕ) (s : SessionView) (ss : List SessionView) (phase m : ℕ) (q : Bool) → (is_whole s && observes phase m s) ≡ q
     → Windows (n + 1) ss phase m (window_from (n + 1) ss phase m) → Windows n (s ∷ ss) phase m (window_from n (s ∷ ss) phase m)
-window_first n s ss phase m true e h = let o = second_of_both (is_whole s) (observes phase m s) e in
+window_first n s ss phase m true e h = let both = and_parts (is_whole s) (observes phase m s) e in let o = and_parts (nat_eq s.phase phase) (has s.modules m) both.1 in
     rw e (inr (record {
       at = 0;
       exists = omega arith;
       number = omega arith;
-      whole = first_of_both (is_whole s) (observes phase m s) e;
-      of_phase = eqb-true _ _ (first_of_both (nat_eq s.phase phase) (has s.modules m) o);
-      over = second_of_both (nat_eq s.phase phase) (has s.modules m) o;
+      whole = both.0;
+      of_phase = eqb-true _ _ o.0;
+      over = o.1;
     }))
 window_first n s ss phase m false e h = rw e (⊎_elim (λ z. inl z) (λ a. inr (window_later n s ss phase m (window_from (n + 1) ss phase m) a)) h)
 

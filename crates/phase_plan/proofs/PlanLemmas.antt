@@ -1,11 +1,13 @@
 -- The plan of a phase is one that an area takes.
-use Rattle.std.proofs.Common.{◌≡◌, ◌≢◌, ◌⊎◌, ℕ, ◌+◌, ◌<◌, ◌≤◌, zero, suc, Bool, true, false, ◌||◌, Option, Some, None, is_some, IfSome, List, [], ◌∷◌, length, get_or, map, All, AllPairs, Contains, refl, sym, ap, subst, ◌∙◌, ⊎_elim, arith, nat_eq, eqb-true, eq-eqb, lt_trans, lt_of_not-le}
+use Rattle.std.proofs.Common.{◌≡◌, ◌≢◌, ◌⊎◌, ℕ, ◌+◌, ◌<◌, ◌≤◌, zero, suc, Bool, true, false, Option, Some, None, IfSome, List, [], ◌∷◌, length, get_or, map, All, AllPairs, Contains, refl, sym, ap, subst, ◌∙◌, ⊎_elim, arith, nat_eq, eqb-true, eq-eqb, lt_trans, lt_of_not-le}
 use Rattle.std.specs.List.{list_any}
 use mathlib.Core.Logic.{dite}
 use native.Mathlib.Decide.{dec_le}
 use Rattle.std.proofs.lemmas.List.{length-map, get_or-map}
 use Rattle.std.proofs.lemmas.List.Kept.{AllPairs-cons}
 use Rattle.std.proofs.lemmas.List.Elements.{All-get_or, All-cons, All-same, All-contains}
+use Rattle.std.proofs.lemmas.Bool.{or_right, true_from_ne_false}
+use Rattle.std.proofs.lemmas.Option.{none-some}
 use Rattle.cov_base.specs.declared.numbers.TaskNo.{TaskNo}
 use Rattle.cov_base.specs.declared.numbers.PlaceNo.{PlaceNo}
 use Rattle.module_area.specs.Meaning.{ControlledView, no_place, place_of}
@@ -54,11 +56,7 @@ tasks_differ n [] phase = λ i j d l m. absurd (omega arith)
 tasks_differ n (t ∷ ts) phase = differing_first n t ts phase (nat_eq t.phase phase) refl (tasks_differ (n + 1) ts phase)
 
 task_more : (n : ℕ) (t : TaskView) (ts : List TaskView) (phase u : ℕ) (q : Bool) → nat_eq t.phase phase ≡ q → has_task (tasks_from (n + 1) ts phase) u ≡ true → has_task (tasks_from n (t ∷ ts) phase) u ≡ true
-task_more n t ts phase u true e h = rw e (or_true (nat_eq n u) (has_task (tasks_from (n + 1) ts phase) u) h)
-  where
-    or_true : (a b : Bool) → b ≡ true → (a || b) ≡ true
-    or_true true b e = refl
-    or_true false b e = e
+task_more n t ts phase u true e h = rw e (or_right (nat_eq n u) (has_task (tasks_from (n + 1) ts phase) u) h)
 task_more n t ts phase u false e h = rw e h
 
 -- a task of the phase is one of the plan's
@@ -78,9 +76,6 @@ same_as_none : (o : Option ℕ) → is_same_controller o None ≡ false
 same_as_none None = refl
 same_as_none (Some t) = refl
 
-not_none : (o : Option ℕ) (t : ℕ) → o ≡ Some t → o ≡ None → ⊥
-not_none o t e h = let z : true ≡ false = ap is_some (sym e ∙ h) in absurd cc
-
 -- no whole session is over a module of a controlled one
 free_of : (ss : List SessionView) (phase m w k t : ℕ) → AllPairs AreParted ss → k < length ss → (session_at ss k).phase ≡ phase → (session_at ss k).by ≡ Some t
     → list_any (nat_eq m) (session_at ss k).modules ≡ true → IsWindow 1 ss phase m w → ⊥
@@ -89,7 +84,7 @@ free_of ss phase m w k t parted l of by has a = let none : (session_at ss a.at).
     (λ lt. share_none (session_at ss a.at) (session_at ss k) m (parted a.at k no_session lt l) (a.of_phase ∙ sym of) (rw none refl) a.over has)
     (λ n. dite (dec_le (suc k) a.at)
     (λ lt. share_none (session_at ss k) (session_at ss a.at) m (parted k a.at no_session lt a.exists) (of ∙ sym a.of_phase) (rw none (same_as_none (session_at ss k).by)) has a.over)
-    (λ i. let x = lt_of_not-le n in let y = lt_of_not-le i in let same : a.at ≡ k = omega arith in not_none (session_at ss k).by t by (ap (λ z. (session_at ss z).by) (sym same) ∙ none)))
+    (λ i. let x = lt_of_not-le n in let y = lt_of_not-le i in let same : a.at ≡ k = omega arith in none-some t (sym (ap (λ z. (session_at ss z).by) (sym same) ∙ none) ∙ by)))
 
 numbers_of_it : (n : ℕ) (ss : List SessionView) (places : List Place) (phase : ℕ) (c : ControlledView) (a : IsAt n ss places phase c) → All (IsNumber 0 places (session_at ss a.at).modules) c.places
 numbers_of_it n ss places phase c a = All-same (IsNumber 0 places (session_at ss a.at).modules) c.places (places_from 0 places (session_at ss a.at).modules) a.over (numbers_at 0 places (session_at ss a.at).modules)
@@ -118,10 +113,6 @@ is_controlled j places phase job c a =
       rising = rw a.over (numbers_rise 0 places (session_at j.sessions a.at).modules);
     }
 
-same_task : (t u : ℕ) (q : Bool) → nat_eq t u ≡ q → (nat_eq t u ≡ false → ⊥) → t ≡ u
-same_task t u true e h = eqb-true _ _ e
-same_task t u false e h = absurd (h e)
-
 -- a place of two controlled sessions has one controller
 one_controller : (j : JobView) (places : List Place) (phase : ℕ) → IsJob j → (c d : ControlledView) → IsAt 1 j.sessions places phase c → IsAt 1 j.sessions places phase d → c.session < d.session
     → (p : PlaceNo) → Contains c.places p → Contains d.places p → c.by ≡ d.by
@@ -129,15 +120,15 @@ one_controller j places phase job c d a b lt p hc hd =
     let m = module_of_it places (session_at j.sessions a.at).modules p (All-contains (IsNumber 0 places (session_at j.sessions a.at).modules) c.places p (numbers_of_it 1 j.sessions places phase c a) hc) in
     let n = module_of_it places (session_at j.sessions b.at).modules p (All-contains (IsNumber 0 places (session_at j.sessions b.at).modules) d.places p (numbers_of_it 1 j.sessions places phase d b) hd) in
     let e = a.number in let f = b.number in let before : a.at < b.at = omega arith in
-    same_task c.by d.by (nat_eq c.by d.by) refl (λ off. share_none (session_at j.sessions a.at) (session_at j.sessions b.at) (place_of places p.0).module
-    (job.parted a.at b.at no_session before b.exists) (a.of_phase ∙ sym b.of_phase) (rw (a.by_task, b.by_task) off) m.1 n.1)
+    eqb-true c.by d.by (true_from_ne_false _ (λ off. share_none (session_at j.sessions a.at) (session_at j.sessions b.at) (place_of places p.0).module
+    (job.parted a.at b.at no_session before b.exists) (a.of_phase ∙ sym b.of_phase) (rw (a.by_task, b.by_task) off) m.1 n.1))
 
 -- no place has the number of a controlled session for its window
 no_window : (j : JobView) (places : List Place) (phase : ℕ) (c : ControlledView) → IsAt 1 j.sessions places phase c → (p : ℕ) → p < length places → get_or (map (window_of j phase) places) p 0 ≢ c.session
 no_window j places phase c a p l = λ same. ⊎_elim
     (λ z. let e = a.number in let w = sym (window_there j phase places p l ∙ z) ∙ same in absurd (omega arith))
     (λ w. let e = a.number in let f = w.number in let g = sym (window_there j phase places p l) ∙ same in let at : w.at ≡ a.at = omega arith in
-    not_none (session_at j.sessions a.at).by c.by a.by_task (ap (λ k. (session_at j.sessions k).by) (sym at) ∙ by_none (session_at j.sessions w.at) (session_at j.sessions w.at).by refl w.whole))
+    none-some c.by (sym (ap (λ k. (session_at j.sessions k).by) (sym at) ∙ by_none (session_at j.sessions w.at) (session_at j.sessions w.at).by refl w.whole) ∙ a.by_task))
     (window_is 1 j.sessions phase (place_of places p).module)
 
 pub is_plan : (j : JobView) (places : List Place) (phase : ℕ) → IsJob j → ArePlaces places → IsPlan (plan_view j places phase)
