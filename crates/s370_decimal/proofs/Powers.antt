@@ -2,8 +2,6 @@
 use Rattle.std.proofs.Common.{◌≡◌, ℕ, ◌+◌, ◌*◌, ◌%◌, ◌^◌, ◌<◌, ◌≤◌, arith, lit<}
 use Rattle.std.proofs.Math.Nat.{pow-le-pow_right, one-le-pow, mod-eq_of_lt}
 use Rattle.std.proofs.lemmas.Nat.{pow-add, mul-lt}
--- by these names a line of the source gives them
-pub use Rattle.s370_state.proofs.Laws.{store_prefix as store_left, store_part as store_right}
 
 pub power_above : (k : ℕ) → 0 < 10 ^ k
 power_above k = one-le-pow k 10 (lit< tt)

@@ -3,7 +3,7 @@ use Rattle.std.proofs.Common.{◌≡◌, ℕ, ◌+◌, ◌-◌, ◌*◌, ◌%◌
 use Rattle.std.proofs.Math.Nat.{zero-mul, mul_assoc, pow-le-pow_right, mul-mod_left, mul-div_cancel, mod-one, pow-zero, lt_of_mul-lt-mul_right, mul-lt-mul_of_pos_right}
 use Rattle.std.proofs.Math.Arith.{mod-mul}
 use Rattle.std.proofs.lemmas.Nat.{pow-add, mod_below}
-use Rattle.std.proofs.lemmas.Bool.{cases_lt}
+use Rattle.std.proofs.lemmas.Bool.{cases_lt, lt-ltb, ltb-true, ltb_from_iff}
 use Rattle.std.proofs.lemmas.Bool.Decides.{nat_tests}
 use Rattle.s370_decimal.specs.Meaning.{kept}
 use Rattle.s370_decimal.proofs.Powers.{power_above, power_most}
@@ -25,11 +25,7 @@ left_digits k v n =
     ]
 
 same_test : (a b c d : ℕ) → (a < b → c < d) → (c < d → a < b) → nat_lt a b ≡ nat_lt c d
-same_test a b c d f g =
-    elim (cases_lt a b) [
-      | inl l ↦ let h = f l in grind (arith, nat_tests)
-      | inr l ↦ elim (cases_lt c d) [ inl h ↦ let k = g h in absurd (omega arith) | inr h ↦ grind (arith, nat_tests) ]
-    ]
+same_test a b c d f g = ltb_from_iff ((λ t. f (ltb-true a b t)), (λ l. lt-ltb a b (g l)))
 
 -- whether they are all of its digits
 pub left_fits : (k v n : ℕ) → nat_lt (v * 10 ^ n) (10 ^ k) ≡ nat_lt v (10 ^ (k - n))

@@ -1,5 +1,5 @@
 -- The working of one pattern byte more, and what it keeps.
-use Rattle.std.proofs.Common.{◌≡◌, ℕ, ◌+◌, ◌<◌, ◌≤◌, zero, suc, Bool, true, false, if◌then◌else◌, ◌==◌, Option, Some, None, List, [], ◌∷◌, ◌++◌, refl, add-one, arith, ◌⊎◌, inl, inr}
+use Rattle.std.proofs.Common.{◌≡◌, ℕ, ◌+◌, ◌<◌, ◌≤◌, zero, suc, Bool, true, false, if◌then◌else◌, ◌==◌, Option, Some, None, List, [], ◌∷◌, ◌++◌, refl, add-one, arith, inl, inr, eq-or-lt_of_le}
 use Rattle.std.proofs.lemmas.Bool.{and_left}
 use Rattle.cov_base.specs.Meaning.{Memory, can_reach}
 use Rattle.s370_decimal.specs.Meaning.{fresh, digit_of, next_digit, digit_selected, pattern_stepped, step_at, worked, formed}
@@ -22,14 +22,11 @@ pub formed_more : (m : Memory) (bytes : List ℕ) (a b n : ℕ) → formed m byt
 unfolding formed
 formed_more m bytes a b n = rw add-one refl
 
-le_or : (k n : ℕ) → k ≤ suc n → (k ≡ suc n) ⊎ (k ≤ n)
-le_or k n h = grind arith
-
 -- where some bytes of a source are not all reached, neither are more
 more_lost : (m : Memory) (b k n : ℕ) → k ≤ n → can_reach m b k ≡ false → can_reach m b n ≡ false
 unfolding can_reach
 more_lost m b k zero l h = let e : k ≡ 0 = omega arith in rw e at h
-more_lost m b k (suc n) l h = elim (le_or k n l) [ inl e ↦ rw e at h | inr z ↦ and_left _ _ (more_lost m b k n z h) ]
+more_lost m b k (suc n) l h = elim (eq-or-lt_of_le l) [ inl e ↦ rw e at h | inr z ↦ and_left _ _ (more_lost m b k n (omega arith) h) ]
 
 either_grows : (k : ℕ) (c : Bool) (x y : PatternStep) → k ≤ x.working.taken → k ≤ y.working.taken → k ≤ (if c then x else y).working.taken
 either_grows k true x y h l = h
@@ -48,15 +45,12 @@ taken_grows m bytes b fill p at w =
     either_grows w.taken (p == 33) _ _ d (
     either_grows w.taken (p == 34) _ _ (omega arith) (omega arith))))
 
-last_or_less : (i n : ℕ) → i < suc n → (i ≡ n) ⊎ (i < n)
-last_or_less i n h = grind arith
-
 -- a source byte that is inaccessible is among those that the whole working reads
 pub stays_lost : (m : Memory) (bytes : List ℕ) (a b i n : ℕ) → i < n → can_reach m b (step_at m bytes a b i (worked m bytes a b i)).working.taken ≡ false → can_reach m b (worked m bytes a b n).taken ≡ false
 unfolding worked
 stays_lost m bytes a b i zero l h = absurd (omega arith)
 stays_lost m bytes a b i (suc n) l h =
-    elim (last_or_less i n l) [
+    elim (eq-or-lt_of_le {n = i} {m = n} (omega arith)) [
       | inl e ↦ rw e at h
       | inr z ↦ more_lost m b _ _ (taken_grows m bytes b _ _ _ (worked m bytes a b n)) (stays_lost m bytes a b i n z h)
     ]
