@@ -1,18 +1,15 @@
 -- The recursions over an operand's bytes, one byte on, and a doubleword by its words.
-use Rattle.std.proofs.Common.{◌≡◌, ℕ, ◌+◌, ◌∙◌, ◌≤◌, ◌*◌, ◌/◌, ◌%◌, ◌<◌, zero, suc, true, false, ◌&&◌, ◌==◌, List, slice_index, slice_set, refl, sym, add-one, add-zero, add_assoc, arith, ◌⊎◌, inl, inr}
+use Rattle.std.proofs.Common.{◌≡◌, ℕ, ◌+◌, ◌∙◌, ◌≤◌, ◌*◌, ◌/◌, ◌%◌, ◌<◌, zero, suc, true, false, ◌&&◌, ◌==◌, List, slice_index, slice_set, refl, sym, add-one, add-zero, add_assoc, arith, inl, inr, ne_of_gt}
 use Rattle.std.proofs.Math.Nat.{eq-or-lt_of_le}
-use Rattle.std.proofs.lemmas.Bool.Decides.{nat_tests}
 use Rattle.std.specs.Ordering.{nat_cmp}
 use Rattle.std.specs.Cmp.{nat_cmp_is}
 use Rattle.std.specs.declared.cmp.Ordering.TheVariants.{Less, Equal, Greater}
+use Rattle.std.proofs.lemmas.Bool.{cases_lt, cases_order, ne_eqb}
 use Rattle.cov_base.specs.Meaning.{Memory, byte_at, wrap}
 use Rattle.s370_state.specs.Meaning.{number_at, store_number, order_code}
 use Rattle.s370_state.specs.Fields.{AreBytes}
 use Rattle.s370_logic.specs.Rows.{number_in}
 use Rattle.s370_logic.specs.Meaning.{bytes_joined, joined_byte, are_zero, compared}
-
-is_not_zero : (n : ℕ) → 0 < n → (n == 0) ≡ false
-is_not_zero n h = grind (arith, nat_tests)
 
 pub joined_none : (f : ℕ → ℕ → ℕ) (m : Memory) (bytes : List ℕ) (a b : ℕ) → bytes_joined f m bytes a b 0 ≡ bytes
 unfolding bytes_joined
@@ -38,16 +35,13 @@ pub compared_more : (m : Memory) (bytes : List ℕ) (a b n : ℕ) → compared m
 unfolding compared
 compared_more m bytes a b n h = rw (add-one, h) refl
 
-parted : (x y : ℕ) → (x ≡ y → ⊥) → (x < y) ⊎ (y < x)
-parted x y h = grind arith
-
 pub equal_code : (x y : ℕ) → x ≡ y → order_code (nat_cmp x y) ≡ 0
 equal_code x y e = rw (← nat_cmp_is x y Equal e) refl
 
 pub unequal_code : (x y : ℕ) → (x ≡ y → ⊥) → 0 < order_code (nat_cmp x y)
-unequal_code x y h = elim (parted x y h) [
+unequal_code x y h = elim (cases_lt x y) [
   | inl l ↦ rw (← nat_cmp_is x y Less l) (omega arith)
-  | inr g ↦ rw (← nat_cmp_is x y Greater g) (omega arith)
+  | inr g ↦ rw (← nat_cmp_is x y Greater (omega arith)) (omega arith)
 ]
 
 -- an unequal pair decides, whatever follows it
@@ -57,14 +51,14 @@ compared_decided m bytes a b zero i code l e h k = absurd (omega arith)
 compared_decided m bytes a b (suc n) i code l e h k = elim (eq-or-lt_of_le {n = i} {m = n} (omega arith)) [
   | inl q ↦ rw (← q, e) h
   | inr z ↦ let d : code ≡ compared m bytes a b n = compared_decided m bytes a b n i code z e h k in
-      let p : (compared m bytes a b n == 0) ≡ false = is_not_zero _ (rw d at k) in
+      let p : (compared m bytes a b n == 0) ≡ false = ne_eqb _ 0 (ne_of_gt (rw d at k)) in
       rw p d
 ]
 
 -- an unequal pair that was found stays the first
 compared_kept : (m : Memory) (bytes : List ℕ) (a b n : ℕ) → 0 < compared m bytes a b n → compared m bytes a b (n + 1) ≡ compared m bytes a b n
 unfolding compared
-compared_kept m bytes a b n h = let p : (compared m bytes a b n == 0) ≡ false = is_not_zero _ h in rw (add-one, p) refl
+compared_kept m bytes a b n h = let p : (compared m bytes a b n == 0) ≡ false = ne_eqb _ 0 (ne_of_gt h) in rw (add-one, p) refl
 
 pub compared_far : (m : Memory) (bytes : List ℕ) (a b i n : ℕ) → 0 < compared m bytes a b i → i ≤ n → compared m bytes a b n ≡ compared m bytes a b i
 compared_far m bytes a b i zero h l = let e : i ≡ 0 = omega arith in rw e refl
@@ -77,16 +71,13 @@ compared_far m bytes a b i (suc n) h l = elim (eq-or-lt_of_le {n = i} {m = suc n
 
 -- the order of two numbers and one byte more of each
 code_high : (v w p q : ℕ) → (v ≡ w → ⊥) → p < 256 → q < 256 → order_code (nat_cmp (v * 256 + p) (w * 256 + q)) ≡ order_code (nat_cmp v w)
-code_high v w p q h k l = elim (parted v w h) [
+code_high v w p q h k l = elim (cases_lt v w) [
   | inl z ↦ rw (← nat_cmp_is v w Less z, ← nat_cmp_is (v * 256 + p) (w * 256 + q) Less (omega (arith, z))) refl
-  | inr z ↦ rw (← nat_cmp_is v w Greater z, ← nat_cmp_is (v * 256 + p) (w * 256 + q) Greater (omega (arith, z))) refl
+  | inr n ↦ let z : w < v = omega arith in rw (← nat_cmp_is v w Greater z, ← nat_cmp_is (v * 256 + p) (w * 256 + q) Greater (omega (arith, z))) refl
 ]
 
-three : (p q : ℕ) → (p ≡ q) ⊎ ((p < q) ⊎ (q < p))
-three p q = grind arith
-
 code_low : (v w p q : ℕ) → v ≡ w → order_code (nat_cmp (v * 256 + p) (w * 256 + q)) ≡ order_code (nat_cmp p q)
-code_low v w p q e = elim (three p q) [
+code_low v w p q e = elim (cases_order p q) [
   | inl z ↦ rw (← nat_cmp_is p q Equal z, ← nat_cmp_is (v * 256 + p) (w * 256 + q) Equal (omega (arith, z, e))) refl
   | inr u ↦ elim u [
     | inl z ↦ rw (← nat_cmp_is p q Less z, ← nat_cmp_is (v * 256 + p) (w * 256 + q) Less (omega (arith, z, e))) refl
@@ -103,7 +94,7 @@ row_compared m bytes x y a b n k zero f g l s t z = rw add-zero (z ∙ sym (equa
 row_compared m bytes x y a b n k (suc j) f g l s t z =
     let one : k + suc j ≡ k + j + 1 = omega arith in
     let so_far : compared m bytes a b (k + j) ≡ order_code (nat_cmp (number_in x k j) (number_in y k j)) = row_compared m bytes x y a b n k j f g (omega arith) (λ i h. s i (omega arith)) (λ i h. t i (omega arith)) z in
-    rw one (elim (three (number_in x k j) (number_in y k j)) [
+    rw one (elim (cases_order (number_in x k j) (number_in y k j)) [
       | inl e ↦ compared_more m bytes a b (k + j) (so_far ∙ equal_code _ _ e)
           ∙ rw (← f.each (k + j) (omega arith), ← g.each (k + j) (omega arith)) (sym (code_low _ _ _ _ e))
       | inr u ↦ let apart : number_in x k j ≡ number_in y k j → ⊥ = λ e. elim u [ inl z ↦ omega (arith, z, e) | inr z ↦ omega (arith, z, e) ] in
