@@ -1,5 +1,5 @@
 -- Lines that run begin a job: for each controller that is missing a task can still come.
-use Rattle.std.proofs.Common.{◌≡◌, ◌⊎◌, ℕ, suc, Bool, true, false, nat_eq, Option, Some, None, IfSome, List, [], ◌∷◌, ◌++◌, length, get_or, All, refl, ap, subst, sym, ◌∙◌, arith, codes, option_and_then, inl, inr, ⊎_elim}
+use Rattle.std.proofs.Common.{◌≡◌, ◌⊎◌, ℕ, suc, Bool, true, false, nat_eq, Option, Some, None, IfSome, List, [], ◌∷◌, ◌++◌, length, get_or, All, refl, ap, subst, sym, ◌∙◌, arith, codes, option_and_then, inl, inr, ⊎_elim, eq-eqb}
 use Rattle.std.proofs.lemmas.Bool.Decides.{nat_tests}
 use Rattle.std.proofs.lemmas.List.Elements.{All-cons, All-nil, All-append}
 use Rattle.std.proofs.lemmas.List.Folds.{list_any-append}
@@ -36,9 +36,6 @@ IsWanted j phase (Some n) = IsName n × ((list_any (is_controller phase n) j.tas
 abbrev Wants : DraftView → Type 0
 Wants j = All (λ (s : SessionDraft). IsWanted j s.phase s.by) j.sessions
 
-same_number : (a b : ℕ) → a ≡ b → nat_eq b a ≡ true
-same_number a b e = grind (arith, nat_tests)
-
 -- a task more
 
 still_met : (j : DraftView) (t : TaskView) (phase : ℕ) (n : List ℕ) → list_any (is_controller phase n) j.tasks ≡ true → list_any (is_controller phase n) (with_task j t).tasks ≡ true
@@ -46,7 +43,7 @@ still_met j t phase n e = list_any-append (is_controller phase n) j.tasks (recor
 
 now_met : (j : DraftView) (t : TaskView) (phase : ℕ) (n : List ℕ) → bytes_eq t.name n ≡ true → phase ≡ this_phase j → list_any (is_controller phase n) (with_task j t).tasks ≡ true
 now_met j t phase n e here =
-    list_any-append (is_controller phase n) j.tasks (record t { phase = this_phase j } ∷ []) ∙ or_right (list_any (is_controller phase n) j.tasks) _ (rw (e, same_number phase (this_phase j) here) refl)
+    list_any-append (is_controller phase n) j.tasks (record t { phase = this_phase j } ∷ []) ∙ or_right (list_any (is_controller phase n) j.tasks) _ (rw (e, eq-eqb (this_phase j) phase (sym here)) refl)
 
 still_none : (j : DraftView) (t : TaskView) (n : List ℕ) → has_task j n ≡ false → bytes_eq t.name n ≡ false → has_task (with_task j t) n ≡ false
 still_none j t n e f = list_any-append (λ (u : TaskView). bytes_eq u.name n) j.tasks (record t { phase = this_phase j } ∷ []) ∙ (rw (e, f) refl)

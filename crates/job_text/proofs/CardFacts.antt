@@ -1,6 +1,5 @@
 -- What a card that was read keeps.
-use Rattle.std.proofs.Common.{◌≡◌, ℕ, ◌+◌, ◌*◌, ◌<◌, ◌≤◌, Bool, true, false, ◌&&◌, nat_le, cond, Option, Some, None, Result, Ok, Err, List, [], ◌∷◌, ◌++◌, length, refl, sym, ◌∙◌, subst, option_map, arith, codes, slice_index, IfSome}
-use Rattle.std.proofs.lemmas.Bool.Decides.{nat_tests}
+use Rattle.std.proofs.Common.{◌≡◌, ℕ, ◌+◌, ◌*◌, ◌<◌, ◌≤◌, Bool, true, false, ◌&&◌, nat_le, cond, Option, Some, None, Result, Ok, Err, List, [], ◌∷◌, ◌++◌, length, refl, sym, ◌∙◌, subst, option_map, arith, codes, slice_index, IfSome, leb-true}
 use Rattle.std.proofs.lemmas.List.{length-append}
 use Rattle.std.specs.Str.{bytes_eq}
 use Rattle.std.proofs.lemmas.Option.{same_Some, cond_some}
@@ -83,11 +82,8 @@ names_some w ws ms e = by (put_name [] (name_at w)) refl e
     by (Some next) f g = omega (arith, name_put [] next (name_at w) f, names_least ws next ms g)
     by None f g = absurd (no_names ws ms g)
 
-some_budget : (b : ℕ) → nat_le 1 b ≡ true → 1 ≤ b
-some_budget b e = grind (arith, nat_tests)
-
 task_good : (n : Option (List ℕ)) (e p b r : Option ℕ) (c : CardView) → ((k : ℕ) → e ≡ Some k → k < 16777216) → as_task n e p b r ≡ Some c → Good c
-task_good (Some n) (Some e) (Some p) (Some b) (Some r) c is h = let g = cond_some (nat_le 1 b) (Task n e p b r) c h in subst Good g.1 (is e refl, some_budget b g.0)
+task_good (Some n) (Some e) (Some p) (Some b) (Some r) c is h = let g = cond_some (nat_le 1 b) (Task n e p b r) c h in subst Good g.1 (is e refl, leb-true 1 b g.0)
 task_good (Some n) (Some e) (Some p) (Some b) None c is h = absurd cc
 task_good (Some n) (Some e) (Some p) None r c is h = absurd cc
 task_good (Some n) (Some e) None b r c is h = absurd cc

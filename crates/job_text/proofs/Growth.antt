@@ -1,5 +1,6 @@
 -- What lines pass they have passed for good: each line only adds, and of the limits that it passes the first is told.
 use Rattle.std.proofs.Common.{◌≡◌, ℕ, ◌+◌, ◌-◌, ◌<◌, ◌≤◌, zero, suc, Bool, true, false, ◌&&◌, nat_eq, nat_le, cond, Option, Some, None, List, [], ◌∷◌, ◌++◌, length, replicate, refl, ap, subst, sym, ◌∙◌, arith, append-nil, length-append, option_and_then, inl, inr}
+use Rattle.std.proofs.Math.Bool.{and-true}
 use Rattle.std.proofs.lemmas.Bool.Decides.{nat_tests}
 use Rattle.std.proofs.lemmas.List.{length-replicate, length-map}
 use Rattle.std.proofs.lemmas.List.Folds.{list_all-append}
@@ -76,17 +77,8 @@ from_closed ask p j k b over e g = subst (λ (x : DraftView). More x b over) (cl
 
 -- lists with one more
 
-and_last : (a b c d : Bool) → b ≡ (c && d) → (a && b) ≡ ((a && c) && d)
-and_last true b c d e = e
-and_last false b c d e = refl
-
-and_true : (a : Bool) → (a && true) ≡ a
-and_true true = refl
-and_true false = refl
-
 last_all : {X : Type 0} (p : X → Bool) (xs : List X) (x : X) → list_all p (xs ++ x ∷ []) ≡ (list_all p xs && p x)
-last_all p [] x = and_true (p x)
-last_all p (y ∷ ys) x = and_last (p y) (list_all p (ys ++ x ∷ [])) (list_all p ys) (p x) (last_all p ys x)
+last_all p xs x = list_all-append p xs (x ∷ []) ∙ ap (λ (b : Bool). list_all p xs && b) (and-true (p x))
 
 first_of : {X : Type 0} (p : X → Bool) (xs : List X) (x : X) → list_all p (xs ++ x ∷ []) ≡ true → list_all p xs ≡ true
 first_of p xs x e = (and_parts (list_all p xs) (p x) (sym (last_all p xs x) ∙ e)).0
@@ -179,7 +171,7 @@ empty_short zero = refl
 empty_short (suc n) = empty_short n
 
 listed_short : (texts : List (List ℕ)) (n : ℕ) → are_short (Some (texts ++ replicate n [])) ≡ list_all is_short texts
-listed_short texts n = list_all-append is_short texts (replicate n []) ∙ (ap (λ (b : Bool). list_all is_short texts && b) (empty_short n) ∙ and_true (list_all is_short texts))
+listed_short texts n = list_all-append is_short texts (replicate n []) ∙ (ap (λ (b : Bool). list_all is_short texts && b) (empty_short n) ∙ and-true (list_all is_short texts))
 
 listing_grown : (j : DraftView) (i : ImageView) (left n : ℕ) → left ≡ 0 → More (with_module j (with_bytes i (replicate left 0)) None) (with_module j i (Some ([] ++ replicate n []))) None
 listing_grown j i left n e =

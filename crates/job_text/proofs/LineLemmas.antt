@@ -1,10 +1,11 @@
 -- The first line of a text, and the others.
 use Rattle.std.proofs.Common.{◌≡◌, ℕ, ◌+◌, ◌-◌, ◌<◌, ◌≤◌, Bool, true, false, not, cond, nat_eq, nat_lt, Some, None, List, [], ◌∷◌, length, take, drop, arith, suc, refl}
+use Rattle.std.proofs.lemmas.List.{take_rest}
 use Rattle.std.proofs.lemmas.Bool.Decides.{nat_tests}
 use Rattle.std.specs.List.{position, position_or_len}
 use Rattle.std.proofs.lemmas.Option.{cond_some}
 use Rattle.job_text.specs.Meaning.{LineView, lines_of, put_on}
-use Rattle.job_text.proofs.WordLemmas.{drop_one, none_is, tail_whole}
+use Rattle.job_text.proofs.WordLemmas.{drop_one, none_is}
 
 abbrev pub end_of : List ℕ → ℕ
 end_of s = position_or_len (λ b. nat_eq b 10) s
@@ -55,7 +56,7 @@ pub first_ends : (s front back : List ℕ) (k : ℕ) → position (λ b. nat_eq 
 first_ends s front back k e f b =
     let p = cond_some (nat_lt (end_of s) (length s)) (end_of s) k e in
     let inside : end_of s < length s = grind (arith, nat_tests, p.0) in
-    rw (tail_whole back, f, b, ← p.1, drop_one) (line_ends s inside)
+    rw (take_rest back 1, f, b, ← p.1, drop_one) (line_ends s inside)
 
 -- no LF stands there
 pub first_open : (s : List ℕ) → 0 < length s → position (λ b. nat_eq b 10) s ≡ None → lines_of s ≡ open_line s ∷ lines_of (take (length s - length s) (drop (length s) s))

@@ -1,7 +1,7 @@
 -- What the lines say that a reader has taken.
-use Rattle.std.proofs.Common.{◌≡◌, ℕ, ◌+◌, ◌-◌, ◌<◌, ◌≤◌, Bool, true, false, Some, Ok, Err, List, [], ◌∷◌, ◌++◌, length, take, drop, refl, ap, subst, sym, ◌∙◌, arith, append_assoc, append-nil, length-append, length-take, inl, inr}
+use Rattle.std.proofs.Common.{◌≡◌, ℕ, ◌+◌, ◌-◌, ◌<◌, ◌≤◌, true, false, Some, Ok, Err, List, [], ◌∷◌, ◌++◌, length, take, drop, refl, ap, subst, sym, ◌∙◌, arith, append_assoc, append-nil, length-append, length-take, inl, inr}
 use Rattle.std.proofs.Math.Seq.{take-length, drop-length}
-use Rattle.std.proofs.lemmas.Bool.{cases_lt, true_from_ne_false}
+use Rattle.std.proofs.lemmas.Bool.{cases_lt, true_from_ne_false, false_from_ne_true}
 use Rattle.std.proofs.lemmas.List.{take-take}
 use Rattle.std.proofs.lemmas.Option.{same_Some}
 use Rattle.session_book.specs.Meaning.{JobView}
@@ -263,13 +263,9 @@ last_refuted bytes p e some h reading f =
 
 pub last_refused : (bytes : List ℕ) (p : Pieces) (e : JobFault) → 0 < length p.cut.items → HasTaken bytes p → IsFaultOf (step Present p.taken.reader (open_line p.cut.items)) (p.taken.lines + 1) e → IsRefused p.taken.grammar (lines_of bytes) e
 last_refused bytes p e some h f =
-    let x : Refuted p.taken.grammar (lines_of bytes) e (length (lines_of bytes)) = last_refuted bytes p e some h (not_true (is_done p.taken.reader.part) (λ done. some_cut p.cut.items some (h.end done))) f in
+    let x : Refuted p.taken.grammar (lines_of bytes) e (length (lines_of bytes)) = last_refuted bytes p e some h (false_from_ne_true (is_done p.taken.reader.part) (λ done. some_cut p.cut.items some (h.end done))) f in
     record { refusal = x.refusal; only = x.only }
   where
-    not_true : (b : Bool) → (b ≡ true → ⊥) → b ≡ false
-    not_true true h = absurd (h refl)
-    not_true false h = refl
-
     some_cut : (s : List ℕ) → 0 < length s → s ≡ [] → ⊥
     some_cut [] h e = omega arith
     some_cut (x ∷ xs) h e = absurd cc

@@ -1,5 +1,5 @@
 -- Lines that run to the end spell the job that was read.
-use Rattle.std.proofs.Common.{◌≡◌, ℕ, ◌-◌, ◌<◌, ◌≤◌, true, false, nat_eq, nat_le, cond, Option, Some, None, List, [], ◌∷◌, ◌++◌, length, map, refl, ap, subst, option_and_then, sym, arith, append_assoc, append-nil, length-append, inl, inr}
+use Rattle.std.proofs.Common.{◌≡◌, ℕ, ◌-◌, ◌<◌, ◌≤◌, true, false, nat_eq, nat_le, cond, Option, Some, None, List, [], ◌∷◌, ◌++◌, length, map, refl, ap, subst, option_and_then, sym, arith, append_assoc, append-nil, length-append, inl, inr, eqb-true}
 use Rattle.std.proofs.lemmas.Bool.Decides.{nat_tests}
 use Rattle.std.proofs.lemmas.Option.{same_Some, cond_some}
 use Rattle.std.specs.List.{concat}
@@ -103,9 +103,6 @@ RestOf ask st ls d = Rest ask st.part st.job ls d
 was : (ask : Controllers) (ls : List LineView) (d : DraftView) (x s : State) → x ≡ s → RestOf ask s ls d → RestOf ask x ls d
 was ask ls d x s e r = subst (λ (t : State). RestOf ask t ls d) (sym e) r
 
-zero_of : (n : ℕ) → nat_eq n 0 ≡ true → 0 ≡ n
-zero_of n e = grind (arith, nat_tests)
-
 no_tasks : (ask : Controllers) (j : DraftView) (ls : List LineView) (d : DraftView) → are_met ask j ≡ true → RestEnd ask j ls d → RestTasks ask j ls d
 no_tasks ask j ls d met r = record { blocks = []; rest = ls; mid = j; whole = refl; are = refl; met = met; after = r }
 
@@ -134,7 +131,7 @@ texts_whole ask i left j k ls d e r =
       listed = None;
       whole = refl;
       are = refl;
-      size = zero_of left g.0;
+      size = sym (eqb-true left 0 g.0);
       is = refl;
       after = rw (append-nil {A = ℕ}, g.1) r;
     }
@@ -143,7 +140,7 @@ listed_whole : (ask : Controllers) (i : ImageView) (left : ℕ) (texts : List (L
     RestModules ask k ls d → RestListed ask i left texts j ls d
 listed_whole ask i left texts j k ls d e r =
     let g = cond_some (nat_eq left 0) (with_module j i (Some texts)) k e in
-    record { lines = []; rest = ls; whole = refl; size = zero_of left g.0; after = rw (append-nil {A = List ℕ}, g.1) r }
+    record { lines = []; rest = ls; whole = refl; size = sym (eqb-true left 0 g.0); after = rw (append-nil {A = List ℕ}, g.1) r }
 
 module_closes : (ask : Controllers) (p : Part) (j k : DraftView) (ls : List LineView) (d : DraftView) → closed_module p j ≡ Some k → RestModules ask k ls d → Rest ask p j ls d
 module_closes ask part.Modules j k ls d e r = same_job ask j k ls d e r
@@ -217,7 +214,7 @@ listing_back ask (part.Texts i left) j n l ls d s card e r =
       listed = Some (map listing_text a.lines);
       whole = ap (λ (x : List LineView). l ∷ x) a.whole;
       are = refl;
-      size = zero_of left g.0;
+      size = sym (eqb-true left 0 g.0);
       is = (rw a.size card, refl);
       after = rw (append-nil {A = ℕ}) a.after;
     }

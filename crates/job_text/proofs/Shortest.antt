@@ -1,5 +1,5 @@
 -- Each state can be brought to the end, where controllers may be missing, by lines that add no more than what was announced.
-use Rattle.std.proofs.Common.{◌≡◌, ℕ, ◌-◌, zero, suc, true, false, nat_eq, nat_le, cond, Option, Some, None, List, [], ◌∷◌, ◌++◌, replicate, refl, ap, subst, sym, ◌∙◌, arith, append_assoc, append-nil, codes}
+use Rattle.std.proofs.Common.{◌≡◌, ℕ, ◌-◌, zero, suc, true, false, nat_eq, nat_le, cond, Option, Some, None, List, [], ◌∷◌, ◌++◌, replicate, refl, ap, subst, sym, ◌∙◌, arith, append_assoc, append-nil, codes, eqb-true}
 use Rattle.std.proofs.lemmas.Bool.Decides.{nat_tests}
 use Rattle.std.proofs.lemmas.Option.{same_Some, cond_some}
 use Rattle.hex.proofs.OnLiterals.{hex_on_literals}
@@ -29,19 +29,16 @@ draft_sofar st = sofar_at st.part st.job
 abbrev pub sofar : State → JobView
 sofar st = bound (draft_sofar st)
 
-zero_is : (n : ℕ) → nat_eq n 0 ≡ true → n ≡ 0
-zero_is n e = grind (arith, nat_tests)
-
 texts_sofar : (i : ImageView) (left : ℕ) (j k : DraftView) → cond (nat_eq left 0) (Some (with_module j i None)) None ≡ Some k → k ≡ with_module j (with_bytes i (replicate left 0)) None
 texts_sofar i left j k e =
     let g = cond_some (nat_eq left 0) (with_module j i None) k e in
-    let none : left ≡ 0 = zero_is left g.0 in
+    let none : left ≡ 0 = eqb-true left 0 g.0 in
     rw (none, append-nil {A = ℕ}) (sym g.1)
 
 listed_sofar : (i : ImageView) (left : ℕ) (texts : List (List ℕ)) (j k : DraftView) → cond (nat_eq left 0) (Some (with_module j i (Some texts))) None ≡ Some k → k ≡ with_module j i (Some (texts ++ replicate left []))
 listed_sofar i left texts j k e =
     let g = cond_some (nat_eq left 0) (with_module j i (Some texts)) k e in
-    let none : left ≡ 0 = zero_is left g.0 in
+    let none : left ≡ 0 = eqb-true left 0 g.0 in
     rw (none, append-nil {A = List ℕ}) (sym g.1)
 
 module_sofar : (p : Part) (j k : DraftView) → closed_module p j ≡ Some k → k ≡ sofar_at p j

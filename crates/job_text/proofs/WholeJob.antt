@@ -1,15 +1,17 @@
 -- A job that lines spell within the limits keeps the rules of jobs.
-use Rattle.std.proofs.Common.{◌≡◌, ◌≢◌, ℕ, ◌+◌, ◌%◌, ◌<◌, ◌≤◌, Bool, true, false, not, ◌&&◌, ◌||◌, nat_eq, nat_le, Option, Some, None, List, [], ◌∷◌, ◌++◌, length, map, refl, ap, sym, ◌∙◌, arith, nat_lt, cond, All, AllPairs, inl, inr, slice_set, get_or, option_and_then, subst, IfSome, suc, eqb-true, eq-eqb}
+use Rattle.std.proofs.Common.{◌≡◌, ◌≢◌, ℕ, ◌+◌, ◌%◌, ◌<◌, ◌≤◌, Bool, true, false, not, ◌&&◌, ◌||◌, nat_eq, nat_le, Option, Some, None, List, [], ◌∷◌, ◌++◌, length, map, refl, ap, sym, ◌∙◌, arith, All, AllPairs, inl, inr, slice_set, get_or, option_and_then, subst, IfSome, eqb-true, eq-eqb, map-id, ltb-false, position}
+use Rattle.job_text.proofs.WordLemmas.{none_is}
+use Rattle.std.proofs.lemmas.Simd.{map-map}
 use Rattle.std.proofs.lemmas.Bool.Decides.{nat_tests}
 use Rattle.std.specs.Str.{bytes_eq}
-use Rattle.std.specs.List.{list_any, list_all, prefix_len}
+use Rattle.std.specs.List.{list_any, list_all, position_or_len}
 use Rattle.std.proofs.lemmas.Slice.Eq.{bytes_eq-Decides}
 use Rattle.std.proofs.lemmas.List.{length-set, length-map, get_or-map, map-append, length_push}
 use Rattle.std.proofs.lemmas.List.Elements.{All-cons, All-nil, All-map, All-push}
 use Rattle.std.proofs.lemmas.List.Folds.{list_any_none}
 use Rattle.std.proofs.lemmas.List.Quantifiers.{all_pairs_push, position-Some}
-use Rattle.std.proofs.lemmas.List.Sums.{AllPass-from_list_all}
-use Rattle.std.proofs.lemmas.Bool.{and_parts, leb-true, or_parts, not-true, or_cases}
+use Rattle.std.proofs.lemmas.List.Sums.{AllPass-from_list_all, fails_before_first}
+use Rattle.std.proofs.lemmas.Bool.{and_parts, leb-true, or_parts, not-true, or_cases, eqb-false}
 use Rattle.std.proofs.lemmas.Option.{cond_some}
 use Rattle.cov_base.specs.Lists.{Differ}
 use Rattle.cov_base.specs.Meaning.{ImageView}
@@ -173,15 +175,11 @@ services_so_far (l ∷ ls) j after are s = services_so_far ls are.mid after are.
 
 -- phases
 
-map_same : (xs : List (List ℕ)) → map (λ x. x) xs ≡ xs
-map_same [] = refl
-map_same (x ∷ xs) = ap (λ (y : List (List ℕ)). x ∷ y) (map_same xs)
-
 phase_so_far : (j after : DraftView) (name : List ℕ) → with_phase j name ≡ Some after → SoFar j → SoFar after
 phase_so_far j after name e s =
     let g = guard_none (list_any (λ p. bytes_eq p name) j.phases) (record j { phases = j.phases ++ name ∷ [] }) after e in
     let one : length (j.phases ++ name ∷ []) ≡ length j.phases + 1 = length_push j.phases name in
-    let names : Differ (map (λ x. x) (j.phases ++ name ∷ [])) = names_differ (λ x. x) j.phases name (rw (map_same j.phases) s.phase_names) (none_of (λ p. bytes_eq p name) j.phases g.0) in
+    let names : Differ (map (λ x. x) (j.phases ++ name ∷ [])) = names_differ (λ x. x) j.phases name (rw (map-id j.phases) s.phase_names) (none_of (λ p. bytes_eq p name) j.phases g.0) in
     rw (← g.1) (record {
       listings = s.listings;
       each = s.each;
@@ -190,7 +188,7 @@ phase_so_far j after name e s =
       parted = s.parted;
       are_tasks = λ k d l. more_task (length j.phases) (length (j.phases ++ name ∷ [])) (get_or j.tasks k d) (omega (arith, one)) (s.are_tasks k d l);
       module_names = s.module_names;
-      phase_names = rw (map_same (j.phases ++ name ∷ [])) at names;
+      phase_names = rw (map-id (j.phases ++ name ∷ [])) at names;
       session_names = s.session_names;
       task_names = s.task_names;
     })
@@ -207,16 +205,13 @@ record AreUsed (j : DraftView) (by : Option (List ℕ)) (used : List ℕ) : Type
   differ : Differ used
   free : All (λ m. list_any (bars (this_phase j) by m) j.sessions ≡ false) used
 
-differ_of : (m n : ℕ) → nat_eq m n ≡ false → n ≢ m
-differ_of m n e same = let is : nat_eq m n ≡ true = grind (arith, nat_tests) in absurd cc
-
 put_used : (j : DraftView) (by : Option (List ℕ)) (used : List ℕ) (m : ℕ) → m < length j.images → is_free j by used m ≡ true → AreUsed j by used → AreUsed j by (used ++ m ∷ [])
 put_used j by used m h e u =
     let p = and_parts (not (list_any (nat_eq m) used)) (not (list_any (bars (this_phase j) by m) j.sessions)) e in
     let others : All (λ n. nat_eq m n ≡ false) used = none_of (nat_eq m) used (not-true _ p.0) in
     record {
       exist = All-push (λ n. n < length j.images) used m u.exist h;
-      differ = pairs_push (λ a b. a ≢ b) used m u.differ (λ k d l. differ_of m (get_or used k d) (others k d l));
+      differ = pairs_push (λ a b. a ≢ b) used m u.differ (λ k d l e. eqb-false m (get_or used k d) (others k d l) (sym e));
       free = All-push (λ n. list_any (bars (this_phase j) by n) j.sessions ≡ false) used m u.free (not-true _ p.1);
     }
 
@@ -350,10 +345,6 @@ short_listing None e = tt
 
 -- the sessions as the job has them
 
-map_map : {X Y Z : Type 0} (f : Y → Z) (g : X → Y) (xs : List X) → map f (map g xs) ≡ map (λ x. f (g x)) xs
-map_map f g [] = refl
-map_map f g (x ∷ xs) = ap (λ ys. f (g x) ∷ ys) (map_map f g xs)
-
 is_session : (a b : ℕ) (tasks : List TaskView) (s : SessionDraft) → IsSessionSoFar a b s → IsSession a b (bound_session tasks s)
 is_session a b tasks s i = record { phase = i.phase; some = i.some; modules = i.modules; differ = i.differ }
 
@@ -367,31 +358,13 @@ has_controller : (tasks : List TaskView) (phase : ℕ) (by : Option (List ℕ)) 
 has_controller tasks phase None = tt
 has_controller tasks phase (Some n) = found_controller tasks phase n (controller_named tasks phase n) refl
 
-not_least : (n most : ℕ) → cond (nat_lt n most) (Some n) None ≡ None → nat_lt n most ≡ false
-not_least n most e = by_test (nat_lt n most) refl e
-  where
-    by_test : (q : Bool) → nat_lt n most ≡ q → cond q (Some n) None ≡ None → nat_lt n most ≡ false
-    by_test true f g = absurd cc
-    by_test false f g = f
-
-one_more : (n most : ℕ) → nat_lt (1 + n) (suc most) ≡ false → nat_lt n most ≡ false
-one_more n most e = grind (arith, nat_tests, e)
-
-never_least : (most : ℕ) → nat_lt 0 (suc most) ≡ false → ⊥
-never_least most e = let is : nat_lt 0 (suc most) ≡ true = grind (arith, nat_tests) in absurd cc
-
 -- where no element is the first that passes, none does
-none_pass : {X : Type 0} (p : X → Bool) (xs : List X) → nat_lt (prefix_len (λ x. not (p x)) xs) (length xs) ≡ false → list_any p xs ≡ false
-none_pass p [] e = refl
-none_pass p (x ∷ xs) e = by_test (none_pass p xs) (p x) refl e
-  where
-    by_test : (nat_lt (prefix_len (λ y. not (p y)) xs) (length xs) ≡ false → list_any p xs ≡ false) → (q : Bool) → p x ≡ q → nat_lt (cond (not q) (1 + prefix_len (λ y. not (p y)) xs) 0) (suc (length xs)) ≡ false → (p x || list_any p xs) ≡ false
-    by_test more true f g = absurd (never_least (length xs) g)
-    by_test more false f g = rw f (more (one_more _ _ g))
+none_pass : {X : Type 0} (p : X → Bool) (xs : List X) → position p xs ≡ None → list_any p xs ≡ false
+none_pass p xs e = list_any_none p xs (λ k d l. fails_before_first p xs k d (omega (arith, l, ltb-false (position_or_len p xs) (length xs) (none_is _ _ e))))
 
 same_indices : (tasks : List TaskView) (p q : ℕ) (m n : List ℕ) (o : Option ℕ) → controller_named tasks p m ≡ o → list_any (is_controller p m) tasks ≡ true → p ≡ q → m ≡ n → book.is_same_controller (controller_named tasks p m) (controller_named tasks q n) ≡ true
 same_indices tasks p q m n (Some t) e met same name = rw (← same, ← name, e) (eq-eqb t t refl)
-same_indices tasks p q m n None e met same name = let none : list_any (is_controller p m) tasks ≡ false = none_pass (is_controller p m) tasks (not_least _ _ e) in absurd cc
+same_indices tasks p q m n None e met same name = let none : list_any (is_controller p m) tasks ≡ false = none_pass (is_controller p m) tasks e in absurd cc
 
 -- sessions whose controllers are there share a controller in the job where the cards name the same one
 same_by : (tasks : List TaskView) (p q : ℕ) (a b : Option (List ℕ)) (r : Bool) → is_same_controller a b ≡ r → is_met_by tasks p a ≡ true → p ≡ q
@@ -465,7 +438,7 @@ job_keeps {cards} ls job p within =
           };
       module_names = s.module_names;
       phase_names = s.phase_names;
-      session_names = rw (map_map (λ (x : SessionView). x.name) (bound_session j.tasks) j.sessions) s.session_names;
+      session_names = rw (map-map (λ (x : SessionView). x.name) (bound_session j.tasks) j.sessions) s.session_names;
       task_names = s.task_names;
     })
 

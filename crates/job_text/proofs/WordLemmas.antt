@@ -1,6 +1,6 @@
 -- The first word of a line, and the others.
-use Rattle.std.proofs.Common.{◌≡◌, ℕ, ◌+◌, ◌<◌, ◌≤◌, Bool, true, false, not, cond, if◌then◌else◌, Option, nat_eq, nat_lt, Some, None, List, [], ◌∷◌, length, take, drop, get_or, arith, suc, zero, refl, map, ◌++◌, ◌-◌, append_assoc, sym, ap, ◌∙◌, drop-cons, add-one}
-use Rattle.std.proofs.lemmas.List.{map-append}
+use Rattle.std.proofs.Common.{◌≡◌, ℕ, ◌+◌, ◌<◌, ◌≤◌, Bool, true, false, not, cond, if◌then◌else◌, Option, nat_eq, nat_lt, Some, None, List, [], ◌∷◌, length, take, drop, get_or, arith, suc, refl, map, ◌++◌, ◌-◌, append_assoc, sym, ap, ◌∙◌, drop-cons, add-one, drop-drop}
+use Rattle.std.proofs.lemmas.List.{map-append, take_rest}
 use Rattle.std.proofs.Math.Seq.{take-length}
 use Rattle.std.proofs.lemmas.Bool.Decides.{nat_tests}
 use Rattle.std.specs.List.{position, position_or_len}
@@ -40,9 +40,7 @@ words_whole [] h = refl
 words_whole (b ∷ bs) h = whole_first b bs (nat_eq b 32) refl (words_whole bs) h
 
 pub drop_one : (k : ℕ) (s : List ℕ) → drop 1 (drop k s) ≡ drop (suc k) s
-drop_one zero s = refl
-drop_one (suc k) [] = refl
-drop_one (suc k) (x ∷ xs) = drop_one k xs
+drop_one k s = let on : k + 1 ≡ suc k = omega arith in drop-drop 1 k s ∙ ap (λ n. drop n s) on
 
 pub record Cut (s : List ℕ) (k : ℕ) : Type 0 where
   pub inside : k < length s
@@ -63,15 +61,11 @@ no_cut s e =
     let p = none_is (nat_lt (end_of s) (length s)) (end_of s) e in
     words_whole s (grind (arith, nat_tests, p))
 
-pub tail_whole : (s : List ℕ) → take (length s - 1) (drop 1 s) ≡ drop 1 s
-tail_whole [] = refl
-tail_whole (x ∷ xs) = let e : suc (length xs) - 1 ≡ length xs = omega arith in rw (e, take-length xs) refl
-
 -- one word more is read
 pub advance : {A : Type 0} (f : A → List ℕ) (old new : List A) (w : A) (s more line : List ℕ) (k : ℕ) → new ≡ old ++ w ∷ [] → f w ≡ take k s → more ≡ drop k s → Cut s k →
     map f old ++ words s ≡ words line → map f new ++ words (take (length more - 1) (drop 1 more)) ≡ words line
 advance f old new w s more line k e word rest cut was =
-    rw (tail_whole more, e, map-append, append_assoc, word, rest, ← cut.is) was
+    rw (take_rest more 1, e, map-append, append_assoc, word, rest, ← cut.is) was
 
 pub names_none : (ws : List (List ℕ)) → names_on None ws ≡ None
 names_none [] = refl
