@@ -1,5 +1,5 @@
 -- What the reader finds in a generated line: its location, its object code and a mnemonic.
-use Rattle.std.proofs.Common.{◌≡◌, ℕ, zero, suc, ◌+◌, ◌-◌, ◌*◌, ◌/◌, ◌%◌, ◌^◌, ◌<◌, ◌≤◌, true, false, Option, Some, None, List, [], ◌∷◌, ◌++◌, length, get_or, drop, replicate, map, decimal, refl, sym, ap, ◌∙◌, subst, arith, add-one, append_assoc, length-append}
+use Rattle.std.proofs.Common.{◌≡◌, ℕ, zero, suc, ◌+◌, ◌-◌, ◌*◌, ◌/◌, ◌%◌, ◌^◌, ◌<◌, ◌≤◌, true, false, Option, Some, None, List, [], ◌∷◌, ◌++◌, length, get_or, drop, replicate, map, decimal, refl, sym, ap, ◌∙◌, subst, arith, add-one, append_assoc, length-append, div-add-mod'}
 use Rattle.std.specs.Prelude.{IfSome}
 use Rattle.std.specs.Char.{to_ascii_uppercase}
 use Rattle.std.specs.Option.{option_map_or}
@@ -166,9 +166,6 @@ pub record IsSound (i : Instruction) : Type 0 where
   pub second : IfSome i.second (λ half. half < 65536)
   pub size : length_of i.first ≡ length (object i)
 
-pub halves : (half : ℕ) → half / 256 * 256 + half % 256 ≡ half
-halves half = omega arith
-
 high_of : (half : ℕ) → half < 65536 → 16 * (16 * 0 + half / 16 / 16 / 16 % 16) + half / 16 / 16 % 16 ≡ half / 256
 high_of half h = omega arith
 
@@ -219,11 +216,11 @@ module _ (at n first : ℕ) (o : Operation) where
 
 object_one : (at n first : ℕ) (o : Operation) → IsSound (plain o first None) → object_of narrow (plain_line at n (plain o first None)) 0 ≡ Some (code_of (plain o first None))
 unfolding object_of
-object_one at n first o p = rw (one_group at n first o, code_one at n first o p.first, halves first, p.size) refl
+object_one at n first o p = rw (one_group at n first o, code_one at n first o p.first, div-add-mod' first 256, p.size) refl
 
 object_two : (at n first half : ℕ) (o : Operation) → IsSound (plain o first (Some half)) → object_of narrow (plain_line at n (plain o first (Some half))) 0 ≡ Some (code_of (plain o first (Some half)))
 unfolding object_of
-object_two at n first half o p = rw (not_one_group at n first o half, two_groups at n first o half, code_two at n first o half p.first p.second, halves first, p.size) refl
+object_two at n first half o p = rw (not_one_group at n first o half, two_groups at n first o half, code_two at n first o half p.first p.second, div-add-mod' first 256, p.size) refl
 
 line_with : (at n : ℕ) (i : Instruction) → at < 16777216 → n < 100000 → object_of narrow (plain_line at n i) 0 ≡ Some (code_of i) → line_of narrow 0 (plain_line at n i) ≡ Some (says.Code at (code_of i))
 unfolding line_of

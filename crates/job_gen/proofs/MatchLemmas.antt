@@ -1,5 +1,6 @@
 -- The generated listing matches its module: it has a heading, each of its lines is one of an instruction, and none has a fault.
-use Rattle.std.proofs.Common.{◌≡◌, ◌≢◌, ℕ, zero, suc, ◌+◌, ◌*◌, ◌%◌, ◌<◌, ◌≤◌, true, false, nat_eq, nat_le, nat_lt, ◌==◌, Option, Some, None, List, [], ◌∷◌, ◌++◌, length, refl, sym, ap, ◌∙◌, subst, arith, append_assoc, append-nil, length-append}
+use Rattle.std.proofs.Common.{◌≡◌, ◌≢◌, ℕ, zero, suc, ◌+◌, ◌*◌, ◌%◌, ◌<◌, ◌≤◌, true, false, nat_eq, nat_le, nat_lt, ◌==◌, Option, Some, None, List, [], ◌∷◌, ◌++◌, length, refl, sym, ap, ◌∙◌, subst, arith, append_assoc, append-nil, length-append, div-add-mod'}
+use Rattle.std.proofs.lemmas.Slice.Eq.{bytes_eq-Decides}
 use Rattle.std.specs.Prelude.{slice_index, count_by}
 use Rattle.std.specs.List.{list_any}
 use Rattle.std.specs.Str.{bytes_eq}
@@ -22,7 +23,7 @@ use Rattle.job_gen.specs.declared.instruction.Instruction.{Instruction}
 use Rattle.job_gen.specs.declared.instruction.Operation.{Operation}
 use Rattle.job_gen.specs.declared.instruction.Operation.TheVariants.{La, Ar, Ltr, Bc, Lcr, St, Bct, Br}
 use Rattle.job_gen.proofs.CodeLemmas.{code_more, code_end, code_size, block_size}
-use Rattle.job_gen.proofs.LineLemmas.{IsSound, code_of, narrow, plain, halves, line_is}
+use Rattle.job_gen.proofs.LineLemmas.{IsSound, code_of, narrow, plain, line_is}
 
 -- ---- the instructions
 
@@ -122,12 +123,6 @@ none_shared at code (says.Code loc other ∷ lines) p =
     let past : nat_lt at (loc + other.len) ≡ false = grind (arith, nat_tests) in
     rw past (none_shared at code lines p.1)
 
-bytes_same : (bytes : List ℕ) → bytes_eq bytes bytes ≡ true
-bytes_same [] = refl
-bytes_same (b ∷ bytes) =
-    let one : nat_eq b b ≡ true = grind (arith, nat_tests) in
-    rw (one, bytes_same bytes) refl
-
 no_fault : (bytes : List ℕ) (room before n loc : ℕ) (code : Code) → loc % 2 ≡ 0 → loc + code.len ≤ length bytes → before < room → first_half code ≢ breakpoint → code.bytes ≡ (module_code bytes loc code.len).bytes →
     fault_by bytes room false before n loc code ≡ None
 unfolding fault_by
@@ -136,7 +131,7 @@ no_fault bytes room before n loc code even inside fits other same =
     let b : nat_lt (length bytes) (loc + code.len) ≡ false = grind (arith, nat_tests) in
     let c : nat_le room before ≡ false = grind (arith, nat_tests) in
     let d : (first_half code == breakpoint) ≡ false = grind (arith, nat_tests) in
-    let e : bytes_eq code.bytes (module_code bytes loc code.len).bytes ≡ true = subst (λ ys. bytes_eq code.bytes ys ≡ true) same (bytes_same code.bytes) in
+    let e : bytes_eq code.bytes (module_code bytes loc code.len).bytes ≡ true = (bytes_eq-Decides code.bytes (module_code bytes loc code.len).bytes).1 same in
     rw (a, b, c, d, e) refl
 
 -- the module has the code's bytes
@@ -159,7 +154,7 @@ even_size i = by_second i.second
     by_second (Some half) = refl
 
 code_free : (i : Instruction) → i.first ≢ breakpoint → first_half (code_of i) ≢ breakpoint
-code_free i h = λ e. h (sym (halves i.first) ∙ e)
+code_free i h = λ e. h (sym (div-add-mod' i.first 256) ∙ e)
 
 -- code behind other code, whose lines came before
 none_first : (is : List Instruction) (room : ℕ) (before : List ℕ) (earlier : List Line) → AreFree is → AreBefore (length before) earlier → length before % 2 ≡ 0 → length earlier + length is ≤ room →
