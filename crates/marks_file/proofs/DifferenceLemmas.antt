@@ -11,14 +11,11 @@ use Rattle.marks_file.specs.Marks.{HasRow}
 use Rattle.marks_file.specs.declared.marks.MarkedPlace.{MarkedPlace}
 use Rattle.marks_file.specs.Combine.{first_row, SamePlaces, SameTables}
 
-same_test : (x y : List ℕ) → x ≡ y → bytes_eq x y ≡ true
-same_test x y h = grind (arith, bytes_eq-Decides)
-
 picks : (c : Bool) (x y : Option Difference) → c ≡ true → (if c then x else y) ≡ x
 picks c x y e = rw e refl
 
 pub row_same : (n : ℕ) (x y : List ℕ) (xs ys : List (List ℕ)) → x ≡ y → first_difference n (x ∷ xs) (y ∷ ys) ≡ first_difference (n + 1) xs ys
-row_same n x y xs ys e = picks (bytes_eq x y) (first_difference (n + 1) xs ys) (Some (record { row = n; left = Some x; right = Some y })) (same_test x y e)
+row_same n x y xs ys e = picks (bytes_eq x y) (first_difference (n + 1) xs ys) (Some (record { row = n; left = Some x; right = Some y })) ((bytes_eq-Decides x y).1 e)
 
 -- the same rows have no difference
 pub none_differs : (n : ℕ) (xs : List (List ℕ)) → first_difference n xs xs ≡ None

@@ -1,10 +1,9 @@
 -- The first bad field of fields one after another, and the tests of one record's fields.
-use Rattle.std.proofs.Common.{◌≡◌, ℕ, ◌+◌, ◌≤◌, Bool, true, false, ◌&&◌, nat_le, if◌then◌else◌, Option, Some, None, List, [], ◌∷◌, ◌++◌, length, take, drop, slice_index, refl, sym, ◌∙◌, arith}
+use Rattle.std.proofs.Common.{◌≡◌, ℕ, ◌+◌, ◌≤◌, Bool, true, false, ◌&&◌, nat_le, if◌then◌else◌, Option, Some, None, List, [], ◌∷◌, ◌++◌, length, take, drop, slice_index, refl, sym, ◌∙◌, arith, leb-true}
 use Rattle.std.specs.List.{list_all}
-use Rattle.std.proofs.lemmas.Bool.{le-leb}
+use Rattle.std.proofs.lemmas.Bool.{le-leb, and_parts, and_from}
 use Rattle.byteorder.specs.Endian.{big_number}
 use Rattle.marks_file.specs.Meaning.{MarkedView, kind_of_number, is_location, is_length, is_original, is_set, is_new_name, is_base, is_size, is_count, place_total, FieldAt, first_bad, place_fields, header_fields, place_count_at}
-use Rattle.marks_file.proofs.MarksLemmas.{both-left, both-right, le_of_test}
 
 goes : (g : Bool) (a : ℕ) (x y z : Option ℕ) → (x ≡ None → y ≡ z) → (if g then x else Some a) ≡ None → (if g then y else Some a) ≡ z
 goes true a x y z k h = k h
@@ -45,8 +44,8 @@ all_good [] h = refl
 all_good (f ∷ fs) h = all_here f.good f.at (first_bad fs) (list_all (λ (g : FieldAt). g.good) fs) (all_good fs) h
 
 -- a field that is whole and keeps its rule
-whole : (k n : ℕ) (b : Bool) → k ≤ n → b ≡ true → (nat_le k n && b) ≡ true
-whole k n b h e = rw (le-leb k n h, e) refl
+pub whole : (k n : ℕ) (b : Bool) → k ≤ n → b ≡ true → (nat_le k n && b) ≡ true
+whole k n b h e = and_from (nat_le k n) b (le-leb k n h) e
 
 -- the bytes begin with a place's record
 pub record IsPlaceRecord (size end : ℕ) (bs : List ℕ) : Type 0 where
@@ -66,17 +65,17 @@ place_record at size end bs h =
     let t4 = nat_le 8 (length bs) && is_original (slice_index bs 4) (kind_of_number (slice_index bs 5)) (big_number 2 (drop 6 bs)) in
     let t5 = nat_le 9 (length bs) && is_set (kind_of_number (slice_index bs 5)) (slice_index bs 8) in
     let h1 : (t1 && (t2 && (t3 && (t4 && (t5 && true))))) ≡ true = all_good (place_fields at size end bs) h in
-    let h2 = both-right t1 (t2 && (t3 && (t4 && (t5 && true)))) h1 in
-    let h3 = both-right t2 (t3 && (t4 && (t5 && true))) h2 in
-    let h4 = both-right t3 (t4 && (t5 && true)) h3 in
-    let h5 = both-left t5 true (both-right t4 (t5 && true) h4) in
+    let h2 = (and_parts t1 (t2 && (t3 && (t4 && (t5 && true)))) h1).1 in
+    let h3 = (and_parts t2 (t3 && (t4 && (t5 && true))) h2).1 in
+    let h4 = (and_parts t3 (t4 && (t5 && true)) h3).1 in
+    let h5 = (and_parts t5 true (and_parts t4 (t5 && true) h4).1).0 in
     record {
-      room = le_of_test 9 (length bs) (both-left (nat_le 9 (length bs)) _ h5);
-      location = both-right (nat_le 4 (length bs)) _ (both-left t1 (t2 && (t3 && (t4 && (t5 && true)))) h1);
-      long = both-right (nat_le 5 (length bs)) _ (both-left t2 (t3 && (t4 && (t5 && true))) h2);
-      kind = le_of_test (slice_index bs 5) 1 (both-right (nat_le 6 (length bs)) _ (both-left t3 (t4 && (t5 && true)) h3));
-      original = both-right (nat_le 8 (length bs)) _ (both-left t4 (t5 && true) h4);
-      set = both-right (nat_le 9 (length bs)) _ h5;
+      room = leb-true 9 (length bs) (and_parts (nat_le 9 (length bs)) _ h5).0;
+      location = (and_parts (nat_le 4 (length bs)) _ (and_parts t1 (t2 && (t3 && (t4 && (t5 && true)))) h1).0).1;
+      long = (and_parts (nat_le 5 (length bs)) _ (and_parts t2 (t3 && (t4 && (t5 && true))) h2).0).1;
+      kind = leb-true (slice_index bs 5) 1 (and_parts (nat_le 6 (length bs)) _ (and_parts t3 (t4 && (t5 && true)) h3).0).1;
+      original = (and_parts (nat_le 8 (length bs)) _ (and_parts t4 (t5 && true) h4).0).1;
+      set = (and_parts (nat_le 9 (length bs)) _ h5).1;
     }
 
 pub place_none : (at size end : ℕ) (bs : List ℕ) → IsPlaceRecord size end bs → first_bad (place_fields at size end bs) ≡ None
@@ -101,15 +100,15 @@ module_record at earlier bs h =
     let t3 = nat_le 16 (length bs) && is_size earlier (big_number 4 (drop 8 bs)) (big_number 4 (drop 12 bs)) in
     let t4 = nat_le 20 (length bs) && is_count earlier (place_count_at bs) in
     let h1 : (t1 && (t2 && (t3 && (t4 && true)))) ≡ true = all_good (header_fields at earlier bs) h in
-    let h2 = both-right t1 (t2 && (t3 && (t4 && true))) h1 in
-    let h3 = both-right t2 (t3 && (t4 && true)) h2 in
-    let h4 = both-left t4 true (both-right t3 (t4 && true) h3) in
+    let h2 = (and_parts t1 (t2 && (t3 && (t4 && true))) h1).1 in
+    let h3 = (and_parts t2 (t3 && (t4 && true)) h2).1 in
+    let h4 = (and_parts t4 true (and_parts t3 (t4 && true) h3).1).0 in
     record {
-      room = le_of_test 20 (length bs) (both-left (nat_le 20 (length bs)) _ h4);
-      name = both-right (nat_le 8 (length bs)) _ (both-left t1 (t2 && (t3 && (t4 && true))) h1);
-      base = both-right (nat_le 12 (length bs)) _ (both-left t2 (t3 && (t4 && true)) h2);
-      size = both-right (nat_le 16 (length bs)) _ (both-left t3 (t4 && true) h3);
-      count = both-right (nat_le 20 (length bs)) _ h4;
+      room = leb-true 20 (length bs) (and_parts (nat_le 20 (length bs)) _ h4).0;
+      name = (and_parts (nat_le 8 (length bs)) _ (and_parts t1 (t2 && (t3 && (t4 && true))) h1).0).1;
+      base = (and_parts (nat_le 12 (length bs)) _ (and_parts t2 (t3 && (t4 && true)) h2).0).1;
+      size = (and_parts (nat_le 16 (length bs)) _ (and_parts t3 (t4 && true) h3).0).1;
+      count = (and_parts (nat_le 20 (length bs)) _ h4).1;
     }
 
 pub header_none : (at : ℕ) (earlier : List MarkedView) (bs : List ℕ) → IsModuleRecord earlier bs → first_bad (header_fields at earlier bs) ≡ None
@@ -129,9 +128,9 @@ pub header_read : (at : ℕ) (earlier : List MarkedView) (bs : List ℕ) (before
 unfolding is_count
 header_read at earlier bs before base b s c e f name bt bh st sh ct ch =
     header_none at earlier bs (record {
-      room = le_of_test 20 (length bs) (both-left _ _ (sym ct ∙ ch));
-      name = both-right (nat_le 8 (length bs)) _ name;
-      base = both-right (nat_le 12 (length bs)) _ (sym bt ∙ bh);
-      size = rw (← f) (both-right (nat_le 16 (length bs)) _ (sym st ∙ sh));
-      count = rw (← e) (both-right (nat_le 20 (length bs)) _ (sym ct ∙ ch));
+      room = leb-true 20 (length bs) (and_parts _ _ (sym ct ∙ ch)).0;
+      name = (and_parts (nat_le 8 (length bs)) _ name).1;
+      base = (and_parts (nat_le 12 (length bs)) _ (sym bt ∙ bh)).1;
+      size = rw (← f) (and_parts (nat_le 16 (length bs)) _ (sym st ∙ sh)).1;
+      count = rw (← e) (and_parts (nat_le 20 (length bs)) _ (sym ct ∙ ch)).1;
     })

@@ -1,10 +1,10 @@
 -- Whole files: what was spelled is read back, and no spelling begins another.
-use Rattle.std.proofs.Common.{◌≡◌, ℕ, ◌+◌, ◌*◌, ◌≤◌, ◌<◌, ◌^◌, suc, Option, None, Some, Result, Ok, Err, IfOk, true, ◌&&◌, nat_le, List, [], ◌∷◌, ◌++◌, length, take, drop, slice_index, refl, ap, sym, ◌∙◌, subst, arith, append_assoc, length-append}
+use Rattle.std.proofs.Common.{◌≡◌, ℕ, ◌+◌, ◌*◌, ◌≤◌, ◌<◌, ◌^◌, suc, Option, None, Some, Result, Ok, Err, IfOk, true, ◌&&◌, nat_le, List, [], ◌∷◌, ◌++◌, length, take, drop, slice_index, refl, ap, sym, ◌∙◌, subst, arith, append_assoc, length-append, leb-true}
 use Rattle.std.specs.List.{flat_map}
 use Rattle.std.specs.Io.{StartsWith}
 use Rattle.std.proofs.lemmas.List.{drop-drop, take-append-drop}
 use Rattle.std.proofs.Math.Seq.{drop-append_seam, take-append_seam, take-length}
-use Rattle.std.proofs.lemmas.Bool.{le-leb}
+use Rattle.std.proofs.lemmas.Bool.{le-leb, and_from, and_parts}
 use Rattle.byteorder.specs.Endian.{big_number, big_bytes}
 use Rattle.byteorder.specs.Numbers.{big_number-reads_back}
 use Rattle.cov_base.specs.Meaning.{is_filled}
@@ -16,7 +16,7 @@ use Rattle.marks_file.specs.declared.fault.MarksFault.TheVariants.{BadMarks, NoM
 use Rattle.marks_file.specs.declared.version.Version.{Version}
 use Rattle.marks_file.specs.declared.version.Version.TheVariants.{First, Second}
 use Rattle.marks_file.proofs.Parts.{is_module, is_session_name, module_size}
-use Rattle.marks_file.proofs.MarksLemmas.{both-left, both-right, both, le_of_test, marks_count}
+use Rattle.marks_file.proofs.MarksLemmas.{marks_count}
 use Rattle.marks_file.proofs.FieldLemmas.{header_none, first_none}
 use Rattle.marks_file.proofs.SpellLemmas.{AreBytes, bytes_later, ArePlacesRead, places_read}
 use Rattle.marks_file.proofs.ModuleLemmas.{IsHeaderRead, header_read_back, length-filled, table_spelled}
@@ -32,19 +32,19 @@ same_module name base size places m e1 e2 e3 e4 = rw (e1, e2, e3, e4) refl
 -- numbers that the rules keep below the width of their fields
 base_small : (base : ℕ) → is_base base ≡ true → base < 256 ^ 4
 unfolding is_base
-base_small base h = let small = le_of_test base 16773112 (both-right (nat_le 1048576 base) _ (both-right _ (nat_le 1048576 base && nat_le base 16773112) h)) in omega arith
+base_small base h = let small = leb-true base 16773112 (and_parts (nat_le 1048576 base) _ (and_parts _ (nat_le 1048576 base && nat_le base 16773112) h).1).1 in omega arith
 
 pub size_few : (earlier : List MarkedView) (base size : ℕ) → is_size earlier base size ≡ true → size ≤ 262144
 unfolding is_size
-size_few earlier base size h = le_of_test size 262144 (both-left (nat_le size 262144) _ (both-right (nat_le 2 size) _ (both-right _ _ h)))
+size_few earlier base size h = leb-true size 262144 (and_parts (nat_le size 262144) _ (and_parts (nat_le 2 size) _ (and_parts _ _ h).1).1).0
 
 count_small : (earlier : List MarkedView) (n : ℕ) → is_count earlier n ≡ true → n ≤ 65536
 unfolding is_count
-count_small earlier n h = let small = le_of_test (place_total earlier + n) 65536 h in omega arith
+count_small earlier n h = let small = leb-true (place_total earlier + n) 65536 h in omega arith
 
 name_long : (earlier : List MarkedView) (name : List ℕ) → is_new_name earlier name ≡ true → length name ≡ 8
 unfolding is_new_name
-name_long earlier name h = length-filled name (both-left (is_filled name) _ h)
+name_long earlier name h = length-filled name (and_parts (is_filled name) _ h).0
 
 -- a module is read back, and the bytes behind it are left
 pub record IsModuleRead (at : ℕ) (earlier : List MarkedView) (m : MarkedView) (rest bs : List ℕ) : Type 0 where
@@ -55,13 +55,13 @@ pub record IsModuleRead (at : ℕ) (earlier : List MarkedView) (m : MarkedView) 
 pub module_read : (at : ℕ) (earlier : List MarkedView) (m : MarkedView) (rest : List ℕ) → is_module earlier m ≡ true → IsModuleRead at earlier m rest (module_bytes m ++ rest)
 unfolding module_at
 module_read at earlier m rest h =
-    let h2 = both-right (is_new_name earlier m.name) _ h in
-    let h3 = both-right (is_base m.base) _ h2 in
-    let h4 = both-right (is_size earlier m.base m.size) _ h3 in
-    let name = both-left (is_new_name earlier m.name) _ h in
-    let base = both-left (is_base m.base) _ h2 in
-    let size = both-left (is_size earlier m.base m.size) _ h3 in
-    let count = both-left (is_count earlier (length m.places)) _ h4 in
+    let h2 = (and_parts (is_new_name earlier m.name) _ h).1 in
+    let h3 = (and_parts (is_base m.base) _ h2).1 in
+    let h4 = (and_parts (is_size earlier m.base m.size) _ h3).1 in
+    let name = (and_parts (is_new_name earlier m.name) _ h).0 in
+    let base = (and_parts (is_base m.base) _ h2).0 in
+    let size = (and_parts (is_size earlier m.base m.size) _ h3).0 in
+    let count = (and_parts (is_count earlier (length m.places)) _ h4).0 in
     let few = size_few earlier m.base m.size size in
     let n = length m.places in
     let many = count_small earlier n count in
@@ -69,7 +69,7 @@ module_read at earlier m rest h =
     let after = flat ++ rest in
     let bs = module_row m ++ after in
     let hr : IsHeaderRead m.name m.base m.size n after bs = header_read_back m.name m.base m.size n after (name_long earlier m.name name) (base_small m.base base) (omega arith) (omega arith) in
-    let ps : ArePlacesRead (at + 20) m.size 0 m.places after = places_read (at + 20) m.size 0 m.places rest few (both-right (is_count earlier n) _ h4) in
+    let ps : ArePlacesRead (at + 20) m.size 0 m.places after = places_read (at + 20) m.size 0 m.places rest few (and_parts (is_count earlier n) _ h4).1 in
     let places : places_at (place_count_at bs) (drop 20 bs) ≡ m.places = ap (λ k. places_at k (drop 20 bs)) hr.count_is ∙ (ap (λ t. places_at n t) hr.rest_is ∙ ps.value) in
     let record_none = header_none at earlier bs (record {
       room = hr.room;
@@ -105,8 +105,8 @@ modules_read at earlier (m ∷ ms) rest h =
     let bs = module_bytes m ++ after in
     let size = module_size (place_count_at bs) in
     let n = length ms in
-    let one : IsModuleRead at earlier m after bs = module_read at earlier m after (both-left (is_module earlier m) (are_modules (earlier ++ m ∷ []) ms) h) in
-    let more = modules_read (at + size) (earlier ++ m ∷ []) ms rest (both-right (is_module earlier m) _ h) in
+    let one : IsModuleRead at earlier m after bs = module_read at earlier m after (and_parts (is_module earlier m) (are_modules (earlier ++ m ∷ []) ms) h).0 in
+    let more = modules_read (at + size) (earlier ++ m ∷ []) ms rest (and_parts (is_module earlier m) _ h).1 in
     let joined : (module_bytes m ++ flat_map module_bytes ms) ++ rest ≡ bs = append_assoc (module_bytes m) (flat_map module_bytes ms) rest in
     record {
       value = ap (λ t. modules_at (suc n) t) joined ∙ joined_modules (module_at bs) m (modules_at n (drop size bs)) ms one.value (ap (λ t. modules_at n t) one.rest_is ∙ more.value);
@@ -125,7 +125,7 @@ pub record IsTableRead (at : ℕ) (ms : List MarkedView) (bs : List ℕ) : Type 
 
 table_found : (at : ℕ) (ms : List MarkedView) (bs after : List ℕ) → 2 ≤ length bs → big_number 2 bs ≡ length ms → drop 2 bs ≡ after → is_module_count (length ms) ≡ true → AreModulesRead (at + 2) [] ms after → IsTableRead at ms bs
 table_found at ms bs after room count rest few read =
-    let t : (nat_le 2 (length bs) && is_module_count (big_number 2 bs)) ≡ true = both (nat_le 2 (length bs)) (is_module_count (big_number 2 bs)) (le-leb 2 (length bs) room) (ap is_module_count count ∙ few) in
+    let t : (nat_le 2 (length bs) && is_module_count (big_number 2 bs)) ≡ true = and_from (nat_le 2 (length bs)) (is_module_count (big_number 2 bs)) (le-leb 2 (length bs) room) (ap is_module_count count ∙ few) in
     record {
       value = ap (λ k. modules_at k (drop 2 bs)) count ∙ (ap (λ t. modules_at (length ms) t) rest ∙ read.value);
       good = count_good at bs t
@@ -136,8 +136,8 @@ table_found at ms bs after room count rest few read =
 pub table_read : (at : ℕ) (ms : List MarkedView) (rest : List ℕ) → are_marks ms ≡ true → IsTableRead at ms (modules_bytes ms ++ rest)
 table_read at ms rest h =
     let few = marks_count ms h in
-    let read : AreModulesRead (at + 2) [] ms (flat_map module_bytes ms ++ rest) = modules_read (at + 2) [] ms rest (both-right (is_module_count (length ms)) _ h) in
-    table_found at ms (modules_bytes ms ++ rest) (flat_map module_bytes ms ++ rest) (omega arith) (big_number-reads_back 2 (length ms) [] (omega arith)) refl (both-left (is_module_count (length ms)) (are_modules [] ms) h) read
+    let read : AreModulesRead (at + 2) [] ms (flat_map module_bytes ms ++ rest) = modules_read (at + 2) [] ms rest (and_parts (is_module_count (length ms)) _ h).1 in
+    table_found at ms (modules_bytes ms ++ rest) (flat_map module_bytes ms ++ rest) (omega arith) (big_number-reads_back 2 (length ms) [] (omega arith)) refl (and_parts (is_module_count (length ms)) (are_modules [] ms) h).0 read
 
 -- modules that are spelled alike are the same
 pub one_table : (ms ns : List MarkedView) → are_marks ms ≡ true → are_marks ns ≡ true → modules_bytes ms ≡ modules_bytes ns → ms ≡ ns
@@ -173,9 +173,9 @@ file_joined a b c rest = append_assoc a (b ++ c) rest ∙ ap (λ t. a ++ t) (app
 pub file_read : (v : Version) (at : ℕ) (m : MarksView) (rest : List ℕ) → keeps_rules m ≡ true → IsFileRead v at m (file_bytes v m ++ rest)
 file_read v at m rest h =
     let after = modules_bytes m.modules ++ rest in
-    let later = both-right (is_session_name m.name) _ h in
-    let head = heading_read v at m after (both-left (is_session_name m.name) _ h) (both-left (is_runs m.runs) _ later) in
-    let table = table_read (at + table_from v) m.modules rest (both-right (is_runs m.runs) _ later) in
+    let later = (and_parts (is_session_name m.name) _ h).1 in
+    let head = heading_read v at m after (and_parts (is_session_name m.name) _ h).0 (and_parts (is_runs m.runs) _ later).0 in
+    let table = table_read (at + table_from v) m.modules rest (and_parts (is_runs m.runs) _ later).1 in
     subst (IsFileRead v at m) (sym (file_joined (magic v) (session_bytes v m) (modules_bytes m.modules) rest)) (file_head v at m after (magic v ++ (session_bytes v m ++ after)) head table)
 
 pub file_found : (v : Version) (at : ℕ) (m : MarksView) (bs : List ℕ) → keeps_rules m ≡ true → StartsWith bs (file_bytes v m) → IsFileRead v at m bs
@@ -256,7 +256,7 @@ file_spelled at bs u good more =
     let table = table_spelled (at + table_from v) (drop (table_from v) bs) (bytes_later (table_from v) bs u) more in
     let joined : file_bytes v m ++ table.rest ≡ bs = file_joined (magic v) (session_bytes v m) (modules_bytes m.modules) table.rest ∙ (ap (λ t. magic v ++ (session_bytes v m ++ t)) table.spelled ∙ head.spelled) in
     record {
-      rules = both _ _ head.name (both _ _ head.runs table.are);
+      rules = and_from _ _ head.name (and_from _ _ head.runs table.are);
       file = record {
         version = v;
         tells = head.tells;

@@ -1,18 +1,17 @@
 -- Files one after another: what the loop over them keeps.
-use Rattle.std.proofs.Common.{◌≡◌, ℕ, ◌+◌, ◌≤◌, true, nat_le, Some, List, [], ◌∷◌, ◌++◌, length, drop, map, fold, refl, ap, sym, ◌∙◌, arith, append_assoc, append-nil, length-append, length-drop}
+use Rattle.std.proofs.Common.{◌≡◌, ℕ, ◌+◌, ◌≤◌, true, nat_le, Some, List, [], ◌∷◌, ◌++◌, length, drop, map, fold, refl, ap, sym, ◌∙◌, arith, append_assoc, append-nil, length-append, length-drop, leb-true}
 use Rattle.std.specs.Io.{StartsWith}
 use Rattle.std.specs.List.{sum_by}
 use Rattle.std.proofs.lemmas.List.{take-append-drop, drop-drop, length-take, map-append}
 use Rattle.std.proofs.lemmas.List.Elements.{All-push}
 use Rattle.std.proofs.lemmas.List.Sums.{fold-append, sum_by-append}
 use Rattle.std.proofs.lemmas.Grind.{flat_map-append}
-use Rattle.std.proofs.lemmas.Bool.{le-leb}
+use Rattle.std.proofs.lemmas.Bool.{le-leb, and_from, and_parts}
 use Rattle.byteorder.specs.Endian.{big_bytes}
 use Rattle.marks_file.specs.Meaning.{MarkedView, MarksView, most_runs, is_runs, keeps_rules, place_row, module_row, module_rows, rows, HasFile, Difference, first_difference, unite, unite_places, unite_module, File, IsFile, file_text, modules_of, held, united, AreOfOneTable, IsOtherTable, spelling}
 use Rattle.marks_file.specs.declared.marks.MarkedPlace.{MarkedPlace}
 use Rattle.marks_file.specs.declared.version.Version.{Version}
 use Rattle.marks_file.proofs.Parts.{is_session_name}
-use Rattle.marks_file.proofs.MarksLemmas.{both-left, both-right, both, le_of_test}
 use Rattle.marks_file.proofs.FileLemmas.{same_marks}
 use Rattle.marks_file.proofs.UnionLemmas.{length-unite_places, same_rows, joined_rows}
 
@@ -60,7 +59,7 @@ file_of_is at bs m end f h = record { rules = h; tells = f.tells }
 
 runs_within : (m : MarksView) → keeps_rules m ≡ true → m.runs ≤ most_runs
 unfolding is_runs
-runs_within m h = le_of_test m.runs most_runs (both-right (nat_le 1 m.runs) _ (both-left (is_runs m.runs) _ (both-right (is_session_name m.name) _ h)))
+runs_within m h = leb-true m.runs most_runs (and_parts (nat_le 1 m.runs) _ (and_parts (is_runs m.runs) _ (and_parts (is_session_name m.name) _ h).1).0).1
 
 alone : (m : MarksView) (v : Version) → keeps_rules m ≡ true → m ≡ united (record { version = v; marks = m }) []
 alone m v h =
@@ -148,5 +147,5 @@ other_fault bytes at end all next d s h f found =
 pub held_runs : (a b : ℕ) → is_runs a ≡ true → is_runs b ≡ true → is_runs (held (a + b)) ≡ true
 unfolding is_runs
 held_runs a b h g =
-    let some = le_of_test 1 a (both-left (nat_le 1 a) _ h) in
-    both (nat_le 1 (held (a + b))) _ (le-leb 1 (held (a + b)) (omega (arith, some))) (le-leb (held (a + b)) most_runs (omega arith))
+    let some = leb-true 1 a (and_parts (nat_le 1 a) _ h).0 in
+    and_from (nat_le 1 (held (a + b))) _ (le-leb 1 (held (a + b)) (omega (arith, some))) (le-leb (held (a + b)) most_runs (omega arith))

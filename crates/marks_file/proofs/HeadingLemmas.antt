@@ -1,8 +1,9 @@
 -- What stands before a file's modules: it spells the bytes that it was read from, and what was spelled is read back.
-use Rattle.std.proofs.Common.{◌≡◌, ℕ, ◌≤◌, ◌<◌, ◌^◌, Bool, true, false, ◌&&◌, ◌||◌, nat_le, if◌then◌else◌, Option, Some, None, List, [], ◌∷◌, ◌++◌, length, take, drop, refl, ap, sym, ◌∙◌, arith, append_assoc, length-append}
+use Rattle.std.proofs.Common.{◌≡◌, ℕ, ◌≤◌, ◌<◌, ◌^◌, Bool, true, false, ◌&&◌, ◌||◌, nat_le, if◌then◌else◌, Option, Some, None, List, [], ◌∷◌, ◌++◌, length, take, drop, refl, ap, sym, ◌∙◌, arith, append_assoc, length-append, leb-true}
+use Rattle.std.proofs.lemmas.Slice.Eq.{bytes_eq-Decides}
 use Rattle.std.specs.Str.{bytes_eq}
 use Rattle.std.proofs.lemmas.List.{drop-drop, take-append-drop}
-use Rattle.std.proofs.lemmas.Bool.{le-leb}
+use Rattle.std.proofs.lemmas.Bool.{le-leb, and_from, and_parts}
 use Rattle.byteorder.specs.Endian.{big_number, big_bytes}
 use Rattle.byteorder.specs.Numbers.{big_number-reads_back, big_from-lt}
 use Rattle.cov_base.specs.Meaning.{is_filled}
@@ -11,7 +12,6 @@ use Rattle.marks_file.specs.Reading.{named, name_at, runs_at, marks_of}
 use Rattle.marks_file.specs.declared.version.Version.{Version}
 use Rattle.marks_file.specs.declared.version.Version.TheVariants.{First, Second}
 use Rattle.marks_file.proofs.Parts.{is_session_name}
-use Rattle.marks_file.proofs.MarksLemmas.{both-left, both-right, both, le_of_test, same_bytes}
 use Rattle.marks_file.proofs.FieldLemmas.{all_good}
 use Rattle.marks_file.proofs.SpellLemmas.{AreBytes, bytes_later}
 use Rattle.marks_file.proofs.ModuleLemmas.{word_at, length-filled}
@@ -36,7 +36,7 @@ named_good false f h = refl
 named_spelled : (c : Bool) (f : List ℕ) → (c || bytes_eq f (name_field None)) ≡ true → name_field (named_if c f) ≡ f
 unfolding named_if
 named_spelled true f h = refl
-named_spelled false f h = sym (same_bytes f (name_field None) h)
+named_spelled false f h = sym ((bytes_eq-Decides f (name_field None)).0 h)
 
 pub name_long : (name : Option (List ℕ)) → is_session_name name ≡ true → length (name_field name) ≡ 8
 name_long None h = refl
@@ -64,29 +64,29 @@ unfolding heading_fields
 heading_parts v at bs e h = ap (λ w. first_bad (field at bs 0 8 (is_magic (take 8 bs)) ∷ session_fields w at bs)) (sym e) ∙ h
 
 magic_is : (v : Version) (bs : List ℕ) → version_of bs ≡ v → is_magic (take 8 bs) ≡ true → take 8 bs ≡ magic v
-magic_is First bs e h = same_bytes (take 8 bs) (magic First) (first_test (bytes_eq (take 8 bs) (magic First)) e)
-magic_is Second bs e h = same_bytes (take 8 bs) (magic Second) (second_test (bytes_eq (take 8 bs) (magic First)) (bytes_eq (take 8 bs) (magic Second)) e h)
+magic_is First bs e h = (bytes_eq-Decides (take 8 bs) (magic First)).0 (first_test (bytes_eq (take 8 bs) (magic First)) e)
+magic_is Second bs e h = (bytes_eq-Decides (take 8 bs) (magic Second)).0 (second_test (bytes_eq (take 8 bs) (magic First)) (bytes_eq (take 8 bs) (magic Second)) e h)
 
 begins : (v : Version) (bs : List ℕ) → take 8 bs ≡ magic v → magic v ++ drop 8 bs ≡ bs
 begins v bs e = ap (λ t. t ++ drop 8 bs) (sym e) ∙ take-append-drop 8 bs
 
 runs_good : (bs : List ℕ) → AreBytes bs → nat_le 1 (big_number 4 bs) ≡ true → is_runs (big_number 4 bs) ≡ true
 unfolding is_runs
-runs_good bs u h = let small = big_from-lt 0 4 bs u in both (nat_le 1 (big_number 4 bs)) _ h (le-leb (big_number 4 bs) most_runs (omega arith))
+runs_good bs u h = let small = big_from-lt 0 4 bs u in and_from (nat_le 1 (big_number 4 bs)) _ h (le-leb (big_number 4 bs) most_runs (omega arith))
 
 pub heading_is : (v : Version) (at : ℕ) (bs : List ℕ) → AreBytes bs → version_of bs ≡ v → first_bad (heading_fields at bs) ≡ None → IsHeading v bs
 unfolding is_runs named_if
 heading_is First at bs u e h =
     let t = nat_le 8 (length bs) && is_magic (take 8 bs) in
     let all : (t && true) ≡ true = all_good (field at bs 0 8 (is_magic (take 8 bs)) ∷ []) (heading_parts First at bs e h) in
-    let good = both-left t true all in
+    let good = (and_parts t true all).0 in
     record {
-      room = le_of_test 8 (length bs) (both-left (nat_le 8 (length bs)) _ good);
+      room = leb-true 8 (length bs) (and_parts (nat_le 8 (length bs)) _ good).0;
       name = refl;
       runs = refl;
       tells = (refl, refl);
       long = refl;
-      spelled = begins First bs (magic_is First bs e (both-right (nat_le 8 (length bs)) _ good));
+      spelled = begins First bs (magic_is First bs e (and_parts (nat_le 8 (length bs)) _ good).1);
     }
 heading_is Second at bs u e h =
     let name = take 8 (drop 8 bs) in
@@ -95,19 +95,19 @@ heading_is Second at bs u e h =
     let t1 = nat_le 16 (length bs) && is_name_field name in
     let t2 = nat_le 20 (length bs) && nat_le 1 runs in
     let all : (t && (t1 && (t2 && true))) ≡ true = all_good (field at bs 0 8 (is_magic (take 8 bs)) ∷ field at bs 8 8 (is_name_field name) ∷ field at bs 16 4 (nat_le 1 runs) ∷ []) (heading_parts Second at bs e h) in
-    let later = both-right t (t1 && (t2 && true)) all in
-    let h1 = both-left t1 (t2 && true) later in
-    let h2 = both-left t2 true (both-right t1 (t2 && true) later) in
-    let room = le_of_test 20 (length bs) (both-left (nat_le 20 (length bs)) _ h2) in
-    let field_is : name_field (named name) ≡ name = named_spelled (is_filled name) name (both-right (nat_le 16 (length bs)) _ h1) in
+    let later = (and_parts t (t1 && (t2 && true)) all).1 in
+    let h1 = (and_parts t1 (t2 && true) later).0 in
+    let h2 = (and_parts t2 true (and_parts t1 (t2 && true) later).1).0 in
+    let room = leb-true 20 (length bs) (and_parts (nat_le 20 (length bs)) _ h2).0 in
+    let field_is : name_field (named name) ≡ name = named_spelled (is_filled name) name (and_parts (nat_le 16 (length bs)) _ h1).1 in
     let is_name : is_session_name (named name) ≡ true = named_good (is_filled name) name refl in
     let tail : big_bytes 4 runs ++ drop 20 bs ≡ drop 16 bs = word_at 16 20 bs refl room u in
     let past : drop 16 bs ≡ drop 8 (drop 8 bs) = sym (drop-drop 8 8 bs) in
-    let head = magic_is Second bs e (both-right (nat_le 8 (length bs)) _ (both-left t (t1 && (t2 && true)) all)) in
+    let head = magic_is Second bs e (and_parts (nat_le 8 (length bs)) _ (and_parts t (t1 && (t2 && true)) all).0).1 in
     record {
       room = room;
       name = is_name;
-      runs = runs_good (drop 16 bs) (bytes_later 16 bs u) (both-right (nat_le 20 (length bs)) _ h2);
+      runs = runs_good (drop 16 bs) (bytes_later 16 bs u) (and_parts (nat_le 20 (length bs)) _ h2).1;
       tells = tt;
       long = let long = name_long (named name) is_name in omega (arith, long, length-append (name_field (named name)) (big_bytes 4 runs));
       spelled = ap (λ t. magic Second ++ t) (append_assoc (name_field (named name)) (big_bytes 4 runs) (drop 20 bs)
@@ -162,23 +162,23 @@ pub record IsHeadingRead (v : Version) (at : ℕ) (m : MarksView) (rest bs : Lis
 
 runs_small : (n : ℕ) → is_runs n ≡ true → n < 256 ^ 4
 unfolding is_runs
-runs_small n h = let small = le_of_test n most_runs (both-right (nat_le 1 n) _ h) in omega arith
+runs_small n h = let small = leb-true n most_runs (and_parts (nat_le 1 n) _ h).1 in omega arith
 
 runs_some : (n : ℕ) → is_runs n ≡ true → nat_le 1 n ≡ true
 unfolding is_runs
-runs_some n h = both-left (nat_le 1 n) _ h
+runs_some n h = (and_parts (nat_le 1 n) _ h).0
 
 session_good : (at : ℕ) (bs : List ℕ) → version_of bs ≡ Second → is_magic (take 8 bs) ≡ true → is_name_field (take 8 (drop 8 bs)) ≡ true → nat_le 1 (big_number 4 (drop 16 bs)) ≡ true → 20 ≤ length bs → first_bad (heading_fields at bs) ≡ None
 unfolding heading_fields
 session_good at bs e head name runs room =
     ap (λ w. first_bad (field at bs 0 8 (is_magic (take 8 bs)) ∷ session_fields w at bs)) e
-    ∙ rw (both _ _ (le-leb 8 (length bs) (omega arith)) head, both _ _ (le-leb 16 (length bs) (omega arith)) name, both _ _ (le-leb 20 (length bs) room) runs) refl
+    ∙ rw (and_from _ _ (le-leb 8 (length bs) (omega arith)) head, and_from _ _ (le-leb 16 (length bs) (omega arith)) name, and_from _ _ (le-leb 20 (length bs) room) runs) refl
 
 first_good : (at : ℕ) (bs : List ℕ) → version_of bs ≡ First → is_magic (take 8 bs) ≡ true → 8 ≤ length bs → first_bad (heading_fields at bs) ≡ None
 unfolding heading_fields
 first_good at bs e head room =
     ap (λ w. first_bad (field at bs 0 8 (is_magic (take 8 bs)) ∷ session_fields w at bs)) e
-    ∙ rw (both _ _ (le-leb 8 (length bs) room) head) refl
+    ∙ rw (and_from _ _ (le-leb 8 (length bs) room) head) refl
 
 pub heading_read : (v : Version) (at : ℕ) (m : MarksView) (rest : List ℕ) → is_session_name m.name ≡ true → is_runs m.runs ≡ true → IsHeadingRead v at m rest (magic v ++ (session_bytes v m ++ rest))
 heading_read First at m rest name runs = record {

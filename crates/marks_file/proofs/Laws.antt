@@ -1,8 +1,7 @@
 -- What crates above may cite of this crate's lemmas: the others are its own.
 pub use Rattle.marks_file.proofs.Parts.{is_place, is_module, is_session_name}
-pub use Rattle.marks_file.proofs.MarksLemmas.{both-left, both-right, both, le_of_test, same_bytes, marks_have_rows, marks_count}
-pub use Rattle.marks_file.proofs.MarksLemmas.{kept_modules}
-pub use Rattle.marks_file.proofs.FieldLemmas.{first_none, first_some, none_left, none_right, all_good}
+pub use Rattle.marks_file.proofs.MarksLemmas.{marks_have_rows, marks_count, kept_modules}
+pub use Rattle.marks_file.proofs.FieldLemmas.{first_none, first_some, none_left, none_right, all_good, whole}
 pub use Rattle.marks_file.proofs.SpellLemmas.{set_read}
 pub use Rattle.marks_file.proofs.FileLemmas.{one_table, same_marks, file_found, one_modules, marks_found, one_end}
 pub use Rattle.marks_file.proofs.AnswerLemmas.{one_answer}

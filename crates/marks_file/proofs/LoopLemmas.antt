@@ -1,5 +1,6 @@
 -- What the loops of the reader keep.
-use Rattle.std.proofs.Common.{◌≡◌, ℕ, ◌+◌, ◌-◌, ◌≤◌, ◌<◌, suc, nat_le, slice_index, None, Some, List, [], ◌∷◌, ◌++◌, length, take, drop, refl, ap, sym, ◌∙◌, arith, append_assoc, append-nil, length-drop}
+use Rattle.std.proofs.Common.{◌≡◌, ℕ, ◌+◌, ◌-◌, ◌≤◌, ◌<◌, suc, nat_le, slice_index, None, Some, List, [], ◌∷◌, ◌++◌, length, take, drop, refl, ap, sym, ◌∙◌, arith, append_assoc, append-nil, length-drop, leb-true}
+use Rattle.std.proofs.lemmas.Bool.{and_parts}
 use Rattle.std.proofs.lemmas.List.{drop-drop}
 use Rattle.byteorder.specs.Endian.{big_number}
 use Rattle.marks_file.specs.Meaning.{MarkedView, end_location, is_length, FieldAt, first_bad, marked_place_at, place_fields, places_at, places_fields, header_fields, module_fields, place_count_at, module_at}
@@ -7,7 +8,6 @@ use Rattle.marks_file.specs.Reading.{IsFault}
 use Rattle.marks_file.specs.declared.fault.MarksFault.{MarksFault}
 use Rattle.marks_file.specs.declared.fault.MarksFault.TheVariants.{BadMarks, NoMemory}
 use Rattle.marks_file.specs.declared.marks.MarkedPlace.{MarkedPlace}
-use Rattle.marks_file.proofs.MarksLemmas.{both-right, le_of_test}
 use Rattle.marks_file.proofs.FieldLemmas.{place_record, first_none, first_some}
 
 -- i places were read, and the others begin at `at`, behind one that ends at `end`
@@ -29,8 +29,8 @@ places_start input from size count h =
 pub place_end : (at size end : ℕ) (bs : List ℕ) (p : MarkedPlace) → first_bad (place_fields at size end bs) ≡ None → p ≡ marked_place_at bs → end_location p ≤ size
 unfolding marked_place_at is_length
 place_end at size end bs p good is =
-    let long = both-right _ (nat_le (big_number 4 bs + slice_index bs 4) size) (place_record at size end bs good).long in
-    rw is (le_of_test (big_number 4 bs + slice_index bs 4) size long)
+    let long = (and_parts _ (nat_le (big_number 4 bs + slice_index bs 4) size) (place_record at size end bs good).long).1 in
+    rw is (leb-true (big_number 4 bs + slice_index bs 4) size long)
 
 pub places_step : (input : List ℕ) (from size count at end i : ℕ) (places : List MarkedPlace) (p : MarkedPlace) → PlacesSoFar input from size count at end i places → i < count
     → first_bad (place_fields at size end (drop at input)) ≡ None → p ≡ marked_place_at (drop at input)

@@ -1,5 +1,6 @@
 -- Modules that are read spell the bytes that they were read from, and what was spelled is read back.
-use Rattle.std.proofs.Common.{◌≡◌, ℕ, ◌+◌, ◌-◌, ◌*◌, ◌≤◌, ◌<◌, ◌^◌, zero, suc, None, true, ◌&&◌, nat_le, List, [], ◌∷◌, ◌++◌, length, take, drop, replicate, slice_index, refl, ap, sym, ◌∙◌, arith, append_assoc, length-append, length-drop}
+use Rattle.std.proofs.Common.{◌≡◌, ℕ, ◌+◌, ◌-◌, ◌*◌, ◌≤◌, ◌<◌, ◌^◌, zero, suc, None, true, ◌&&◌, nat_le, List, [], ◌∷◌, ◌++◌, length, take, drop, replicate, slice_index, refl, ap, sym, ◌∙◌, arith, append_assoc, length-append, length-drop, leb-true}
+use Rattle.std.proofs.lemmas.Bool.{and_from, and_parts}
 use Rattle.std.specs.Str.{bytes_eq}
 use Rattle.std.specs.List.{flat_map, list_all}
 use Rattle.std.proofs.lemmas.List.{drop-drop, take-append-drop, length-replicate}
@@ -9,7 +10,7 @@ use Rattle.cov_base.specs.Meaning.{is_name, is_letter, is_name_byte, padded, unp
 use Rattle.marks_file.specs.Meaning.{modules_bytes, MarkedView, is_count, are_modules, is_module_count, are_marks, place_total, place_bytes, module_row, module_bytes, first_bad, field, places_at, places_fields, header_fields, module_fields, module_at, modules_fields, place_count_at, table_fields}
 use Rattle.marks_file.specs.Reading.{modules_at, table_at}
 use Rattle.marks_file.proofs.Parts.{is_module, module_size}
-use Rattle.marks_file.proofs.MarksLemmas.{both-left, both-right, both, le_of_test, filled_name}
+use Rattle.marks_file.proofs.MarksLemmas.{filled_name}
 use Rattle.marks_file.proofs.FieldLemmas.{module_record, all_good, none_left, none_right}
 use Rattle.marks_file.proofs.SpellLemmas.{AreBytes, bytes_later, word_of, half_of, length-places_at, ArePlaceRecords, places_spelled}
 
@@ -56,8 +57,8 @@ module_spelled at earlier bs u h =
     let row : module_row (module_at bs) ≡ take 8 bs ++ (big_bytes 4 (big_number 4 (drop 8 bs)) ++ (big_bytes 4 size ++ big_bytes 4 n)) = ap (λ k. take 8 bs ++ (big_bytes 4 (big_number 4 (drop 8 bs)) ++ (big_bytes 4 size ++ big_bytes 4 k))) many in
     record {
       room = omega (arith, length-drop 20 bs, left, room);
-      is = both _ _ r.name (both _ _ r.base (both _ _ r.size (both _ _ (ap (λ k. is_count earlier k) many ∙ r.count) ps.are)));
-      count = le_of_test (place_total earlier + n) 65536 r.count;
+      is = and_from _ _ r.name (and_from _ _ r.base (and_from _ _ r.size (and_from _ _ (ap (λ k. is_count earlier k) many ∙ r.count) ps.are)));
+      count = leb-true (place_total earlier + n) 65536 r.count;
       spelled = append_assoc (module_row (module_at bs)) (flat_map place_bytes (places_at n (drop 20 bs))) (drop (module_size n) bs)
           ∙ (ap (λ t. module_row (module_at bs) ++ (flat_map place_bytes (places_at n (drop 20 bs)) ++ t)) (sym past)
           ∙ (ap (λ t. module_row (module_at bs) ++ t) ps.spelled
@@ -83,7 +84,7 @@ modules_spelled at earlier (suc n) bs u h =
     let one = module_spelled at earlier bs u (none_left first others h) in
     let more = modules_spelled (at + size) (earlier ++ module_at bs ∷ []) n (drop size bs) (bytes_later size bs u) (none_right first others h) in
     record {
-      are = both _ _ one.is more.are;
+      are = and_from _ _ one.is more.are;
       rest = more.rest;
       spelled = append_assoc (module_bytes (module_at bs)) (flat_map module_bytes (modules_at n (drop size bs))) more.rest
           ∙ (ap (λ t. module_bytes (module_at bs) ++ t) more.spelled ∙ one.spelled);
@@ -101,10 +102,10 @@ counted at bs h =
     let others = modules_fields (at + 2) [] (big_number 2 bs) (drop 2 bs) in
     let t = nat_le 2 (length bs) && is_module_count (big_number 2 bs) in
     let all : (t && true) ≡ true = all_good (f ∷ []) (none_left (f ∷ []) others h) in
-    let one : t ≡ true = both-left t true all in
+    let one : t ≡ true = (and_parts t true all).0 in
     record {
-      room = le_of_test 2 (length bs) (both-left (nat_le 2 (length bs)) _ one);
-      count = both-right (nat_le 2 (length bs)) _ one;
+      room = leb-true 2 (length bs) (and_parts (nat_le 2 (length bs)) _ one).0;
+      count = (and_parts (nat_le 2 (length bs)) _ one).1;
       good = none_right (f ∷ []) others h;
     }
 
@@ -122,7 +123,7 @@ table_spelled at bs u h =
     let ms = modules_spelled (at + 2) [] n (drop 2 bs) (bytes_later 2 bs u) head.good in
     let many : length table ≡ n = length-modules_at n (drop 2 bs) in
     record {
-      are = both _ _ (ap is_module_count many ∙ head.count) ms.are;
+      are = and_from _ _ (ap is_module_count many ∙ head.count) ms.are;
       rest = ms.rest;
       spelled = append_assoc (big_bytes 2 (length table)) (flat_map module_bytes table) ms.rest
           ∙ (ap (λ t. big_bytes 2 (length table) ++ t) ms.spelled
@@ -134,14 +135,14 @@ short_name word h =
     let t1 = nat_le 1 (length word) in
     let t2 = nat_le (length word) 8 in
     let t3 = is_letter (slice_index word 0) in
-    both-right t1 t2 (both-left (t1 && t2) t3 (both-left ((t1 && t2) && t3) (list_all is_name_byte word) h))
+    (and_parts t1 t2 (and_parts (t1 && t2) t3 (and_parts ((t1 && t2) && t3) (list_all is_name_byte word) h).0).0).1
 
 -- a name filled with blanks has 8 bytes
 pub length-filled : (name : List ℕ) → is_filled name ≡ true → length name ≡ 8
 length-filled name h =
     let whole = filled_name name h in
     let word = unpadded name in
-    let short : length word ≤ 8 = le_of_test (length word) 8 (short_name word (both-left (is_name word) (bytes_eq (padded word) name) h)) in
+    let short : length word ≤ 8 = leb-true (length word) 8 (short_name word (and_parts (is_name word) (bytes_eq (padded word) name) h).0) in
     omega (arith, ap length whole, length-append word (replicate (8 - length word) 32), length-replicate {A = ℕ} (8 - length word) 32)
 
 -- a module's record is read back

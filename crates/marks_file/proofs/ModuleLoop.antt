@@ -1,5 +1,6 @@
 -- What the loop over modules keeps.
 use Rattle.std.proofs.Common.{◌≡◌, ℕ, ◌+◌, ◌-◌, ◌*◌, ◌≤◌, ◌<◌, suc, None, true, List, [], ◌∷◌, ◌++◌, length, drop, ap, sym, ◌∙◌, arith, append_assoc, length-append, length-drop}
+use Rattle.std.proofs.lemmas.Bool.{and_parts}
 use Rattle.std.specs.List.{flat_map}
 use Rattle.std.proofs.lemmas.List.{drop-drop}
 use Rattle.std.proofs.lemmas.Grind.{flat_map-append}
@@ -10,7 +11,7 @@ use Rattle.marks_file.specs.declared.fault.MarksFault.TheVariants.{BadMarks, NoM
 use Rattle.marks_file.proofs.Parts.{module_size}
 use Rattle.marks_file.proofs.FieldLemmas.{first_none, first_some}
 use Rattle.marks_file.proofs.SpellLemmas.{AreBytes, bytes_later, length-places_at}
-use Rattle.marks_file.proofs.MarksLemmas.{both-left, place_total-append}
+use Rattle.marks_file.proofs.MarksLemmas.{place_total-append}
 use Rattle.marks_file.proofs.ModuleLemmas.{module_spelled}
 
 -- i modules with so many places were read, and the others begin at `at`
@@ -64,7 +65,7 @@ modules_step input from count at i before n modules m u s h good is many =
 pub next_new : (input : List ℕ) (at : ℕ) (modules : List MarkedView) (m : MarkedView) → AreBytes input → first_bad (module_fields at modules (drop at input)) ≡ None → m ≡ module_at (drop at input) → is_new_name modules m.name ≡ true
 next_new input at modules m u good is =
     let one = module_spelled at modules (drop at input) (bytes_later at input u) good in
-    rw is (both-left (is_new_name modules (module_at (drop at input)).name) _ one.is)
+    rw is (and_parts (is_new_name modules (module_at (drop at input)).name) _ one.is).0
 
 pub modules_stop : (input : List ℕ) (from count at i before : ℕ) (modules : List MarkedView) (fault : MarksFault) → ModulesSoFar input from count at i before modules → i < count
     → IsFault (module_fields at modules (drop at input)) fault → IsFault (modules_fields from [] count (drop from input)) fault

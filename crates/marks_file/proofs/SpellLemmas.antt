@@ -1,8 +1,8 @@
 -- Records that are read spell the bytes that they were read from, and what was spelled is read back.
-use Rattle.std.proofs.Common.{◌≡◌, ℕ, ◌+◌, ◌*◌, ◌/◌, ◌%◌, ◌≤◌, ◌<◌, ◌^◌, zero, suc, Bool, None, true, false, nat_lt, nat_le, List, [], ◌∷◌, ◌++◌, length, drop, slice_index, refl, ap, sym, ◌∙◌, arith, append_assoc, length-drop}
+use Rattle.std.proofs.Common.{◌≡◌, ℕ, ◌+◌, ◌*◌, ◌/◌, ◌%◌, ◌≤◌, ◌<◌, ◌^◌, zero, suc, Bool, None, true, false, nat_lt, nat_le, List, [], ◌∷◌, ◌++◌, length, drop, slice_index, refl, ap, sym, ◌∙◌, arith, append_assoc, length-drop, leb-true}
 use Rattle.std.proofs.lemmas.List.{drop-drop, get_or-drop}
 use Rattle.std.specs.List.{flat_map}
-use Rattle.std.proofs.lemmas.Bool.{ltb-true}
+use Rattle.std.proofs.lemmas.Bool.{ltb-true, and_from, and_parts}
 use Rattle.byteorder.specs.Endian.{big_number, big_bytes}
 use Rattle.byteorder.specs.Numbers.{big_number-reads_back}
 use Rattle.cov_base.specs.Meaning.{FactSet, facts_of_number, number_of_facts}
@@ -12,7 +12,6 @@ use Rattle.cov_base.specs.declared.facts.Kind.TheVariants.{Straight, Conditional
 use Rattle.marks_file.specs.Meaning.{kind_number, kind_of_number, is_location, is_length, is_original, is_set, are_places, end_location, place_bytes, first_bad, marked_place_at, place_fields, places_at, places_fields}
 use Rattle.marks_file.specs.declared.marks.MarkedPlace.{MarkedPlace}
 use Rattle.marks_file.proofs.Parts.{is_place}
-use Rattle.marks_file.proofs.MarksLemmas.{both-left, both-right, both, le_of_test}
 use Rattle.marks_file.proofs.FieldLemmas.{IsPlaceRecord, place_record, place_none, first_none, none_left, none_right}
 
 -- each of these is a byte
@@ -84,7 +83,7 @@ joined_place w h e k s a b c d f g i j rest ew ek eh es = rw (ew, ek, eh, es) re
 
 set_small : (k : Kind) (n : ℕ) → is_set k n ≡ true → n < 8
 unfolding is_set
-set_small k n h = ltb-true n 8 (both-left (nat_lt n 8) _ h)
+set_small k n h = ltb-true n 8 (and_parts (nat_lt n 8) _ h).0
 
 pub place_spelled : (size end : ℕ) (bs : List ℕ) → AreBytes bs → IsPlaceRecord size end bs → place_bytes (marked_place_at bs) ++ drop 9 bs ≡ bs
 unfolding marked_place_at
@@ -109,16 +108,16 @@ unfolding marked_place_at
 place_is size end bs r =
     let set : number_of_facts (facts_of_number (slice_index bs 8)) ≡ slice_index bs 8 = number_of_facts-facts_of_number (slice_index bs 8) (set_small _ _ r.set) in
     let same : is_set (kind_of_number (slice_index bs 5)) (number_of_facts (facts_of_number (slice_index bs 8))) ≡ true = ap (is_set (kind_of_number (slice_index bs 5))) set ∙ r.set in
-    both _ _ r.location (both _ _ r.long (both _ _ r.original same))
+    and_from _ _ r.location (and_from _ _ r.long (and_from _ _ r.original same))
 
 -- numbers that the rules keep below the width of their fields
 location_small : (size end at len : ℕ) → size ≤ 262144 → is_length size at len ≡ true → at < 256 ^ 4
 unfolding is_length
-location_small size end at len few h = let inside = le_of_test (at + len) size (both-right _ (nat_le (at + len) size) h) in omega arith
+location_small size end at len few h = let inside = leb-true (at + len) size (and_parts _ (nat_le (at + len) size) h).1 in omega arith
 
 half_small : (len : ℕ) (k : Kind) (half : ℕ) → is_original len k half ≡ true → half < 256 ^ 2
 unfolding is_original
-half_small len k half h = let small = ltb-true half 65536 (both-left (nat_lt half 65536) _ h) in omega arith
+half_small len k half h = let small = ltb-true half 65536 (and_parts (nat_lt half 65536) _ h).0 in omega arith
 
 same_place : (l o : ℕ) (k : Kind) (s : FactSet) (p : MarkedPlace) → l ≡ p.location → o ≡ p.original → k ≡ p.kind → s ≡ p.set → ◌≡◌ {A = MarkedPlace} (record { location = l; len = p.len; kind = k; original = o; set = s }) p
 same_place l o k s p e1 e2 e3 e4 = rw (e1, e2, e3, e4) refl
@@ -126,8 +125,8 @@ same_place l o k s p e1 e2 e3 e4 = rw (e1, e2, e3, e4) refl
 pub place_read : (size end : ℕ) (p : MarkedPlace) (rest : List ℕ) → size ≤ 262144 → is_place size end p ≡ true → marked_place_at (place_bytes p ++ rest) ≡ p
 unfolding marked_place_at
 place_read size end p rest few h =
-    let long = both-left (is_length size p.location p.len) _ (both-right (is_location size end p.location) _ h) in
-    let original = both-left (is_original p.len p.kind p.original) _ (both-right (is_length size p.location p.len) _ (both-right (is_location size end p.location) _ h)) in
+    let long = (and_parts (is_length size p.location p.len) _ (and_parts (is_location size end p.location) _ h).1).0 in
+    let original = (and_parts (is_original p.len p.kind p.original) _ (and_parts (is_length size p.location p.len) _ (and_parts (is_location size end p.location) _ h).1).1).0 in
     let e1 : big_number 4 (big_bytes 4 p.location ++ []) ≡ p.location = big_number-reads_back 4 p.location [] (location_small size end p.location p.len few long) in
     let e2 : big_number 2 (big_bytes 2 p.original ++ []) ≡ p.original = big_number-reads_back 2 p.original [] (half_small p.len p.kind p.original original) in
     let e3 : kind_of_number (kind_number p.kind) ≡ p.kind = kind_read p.kind in
@@ -140,12 +139,12 @@ room_of p rest = omega arith
 -- the record that a place's bytes are
 pub place_is_record : (size end : ℕ) (p : MarkedPlace) (rest : List ℕ) → size ≤ 262144 → is_place size end p ≡ true → IsPlaceRecord size end (place_bytes p ++ rest)
 place_is_record size end p rest few h =
-    let h2 = both-right (is_location size end p.location) _ h in
-    let h3 = both-right (is_length size p.location p.len) _ h2 in
-    let location = both-left (is_location size end p.location) _ h in
-    let long = both-left (is_length size p.location p.len) _ h2 in
-    let original = both-left (is_original p.len p.kind p.original) _ h3 in
-    let set = both-right (is_original p.len p.kind p.original) _ h3 in
+    let h2 = (and_parts (is_location size end p.location) _ h).1 in
+    let h3 = (and_parts (is_length size p.location p.len) _ h2).1 in
+    let location = (and_parts (is_location size end p.location) _ h).0 in
+    let long = (and_parts (is_length size p.location p.len) _ h2).0 in
+    let original = (and_parts (is_original p.len p.kind p.original) _ h3).0 in
+    let set = (and_parts (is_original p.len p.kind p.original) _ h3).1 in
     let e1 : big_number 4 (big_bytes 4 p.location ++ []) ≡ p.location = big_number-reads_back 4 p.location [] (location_small size end p.location p.len few long) in
     let e2 : big_number 2 (big_bytes 2 p.original ++ []) ≡ p.original = big_number-reads_back 2 p.original [] (half_small p.len p.kind p.original original) in
     let e3 = kind_read p.kind in
@@ -184,7 +183,7 @@ places_spelled at size end (suc n) bs u h =
     let past : drop (9 * n) (drop 9 bs) ≡ drop (9 * suc n) bs = drop-drop (9 * n) 9 bs ∙ ap (λ k. drop k bs) (omega arith) in
     record {
       room = omega (arith, length-drop 9 bs, left);
-      are = both _ _ (place_is size end bs r) more.are;
+      are = and_from _ _ (place_is size end bs r) more.are;
       spelled = append_assoc (place_bytes (marked_place_at bs)) (flat_map place_bytes (places_at n (drop 9 bs))) (drop (9 * suc n) bs)
           ∙ (ap (λ t. place_bytes (marked_place_at bs) ++ (flat_map place_bytes (places_at n (drop 9 bs)) ++ t)) (sym past)
           ∙ (ap (λ t. place_bytes (marked_place_at bs) ++ t) more.spelled ∙ one));
@@ -199,9 +198,9 @@ pub places_read : (at size end : ℕ) (ps : List MarkedPlace) (rest : List ℕ) 
 places_read at size end [] rest few h = record { value = refl; good = refl }
 places_read at size end (p ∷ ps) rest few h =
     let after = flat_map place_bytes ps ++ rest in
-    let is = both-left (is_place size end p) (are_places size (end_location p) ps) h in
+    let is = (and_parts (is_place size end p) (are_places size (end_location p) ps) h).0 in
     let one = place_read size end p after few is in
-    let more = places_read (at + 9) size (end_location p) ps rest few (both-right (is_place size end p) _ h) in
+    let more = places_read (at + 9) size (end_location p) ps rest few (and_parts (is_place size end p) _ h).1 in
     let joined : (place_bytes p ++ flat_map place_bytes ps) ++ rest ≡ place_bytes p ++ after = append_assoc (place_bytes p) (flat_map place_bytes ps) rest in
     let first = place_fields at size end (place_bytes p ++ after) in
     let none = place_none at size end (place_bytes p ++ after) (place_is_record size end p after few is) in

@@ -1,8 +1,8 @@
 -- The union of files of one table keeps the rules of marks files, and their rows.
-use Rattle.std.proofs.Common.{◌≡◌, ℕ, ◌+◌, ◌≤◌, ◌%◌, suc, Bool, true, false, ◌&&◌, ◌||◌, not, nat_eq, nat_lt, nat_le, List, [], ◌∷◌, ◌++◌, length, take, drop, map, slice_index, slice_index_or, All, refl, ap, sym, ◌∙◌, arith, min, length-drop}
+use Rattle.std.proofs.Common.{◌≡◌, ℕ, ◌+◌, ◌≤◌, ◌%◌, suc, Bool, true, false, ◌&&◌, ◌||◌, not, nat_eq, nat_lt, nat_le, List, [], ◌∷◌, ◌++◌, length, take, drop, map, slice_index, slice_index_or, All, refl, ap, sym, ◌∙◌, arith, min, length-drop, leb-true}
 use Rattle.std.specs.Str.{bytes_eq}
 use Rattle.std.specs.List.{list_any, list_all}
-use Rattle.std.proofs.lemmas.Bool.{false≢true}
+use Rattle.std.proofs.lemmas.Bool.{false≢true, and_from, and_parts}
 use Rattle.std.proofs.lemmas.List.{take-append-drop}
 use Rattle.cov_base.specs.Meaning.{union, is_within, FactSet, facts_of_number, number_of_facts, is_filled}
 use Rattle.cov_base.specs.declared.facts.Kind.{Kind}
@@ -10,7 +10,7 @@ use Rattle.cov_base.specs.declared.facts.Kind.TheVariants.{Straight, Conditional
 use Rattle.marks_file.specs.Meaning.{MarkedView, kind_number, is_location, is_length, is_original, is_set, are_places, end_location, is_new_name, is_base, is_clear, is_size, is_count, place_total, are_modules, is_module_count, are_marks, place_row, module_row, module_rows, rows, unite_place, unite_places, unite_module, unite}
 use Rattle.marks_file.specs.declared.marks.MarkedPlace.{MarkedPlace}
 use Rattle.marks_file.proofs.Parts.{is_place, is_module}
-use Rattle.marks_file.proofs.MarksLemmas.{both-left, both-right, both, le_of_test, place_total-append}
+use Rattle.marks_file.proofs.MarksLemmas.{place_total-append}
 use Rattle.marks_file.proofs.SpellLemmas.{set_read}
 use Rattle.marks_file.specs.Combine.{SamePlaces, SameTables}
 use Rattle.marks_file.specs.Marks.{HasRow}
@@ -93,28 +93,28 @@ small_number true true true = refl
 set_both : (k : Kind) (s t : FactSet) → is_set k (number_of_facts s) ≡ true → is_set k (number_of_facts t) ≡ true → is_set k (number_of_facts (union s t)) ≡ true
 unfolding is_set
 set_both k s t h g =
-    let hs : is_within k s ≡ true = ap (is_within k) (sym (set_read s)) ∙ both-right (nat_lt (number_of_facts s) 8) (is_within k (facts_of_number (number_of_facts s))) h in
-    let ht : is_within k t ≡ true = ap (is_within k) (sym (set_read t)) ∙ both-right (nat_lt (number_of_facts t) 8) (is_within k (facts_of_number (number_of_facts t))) g in
+    let hs : is_within k s ≡ true = ap (is_within k) (sym (set_read s)) ∙ (and_parts (nat_lt (number_of_facts s) 8) (is_within k (facts_of_number (number_of_facts s))) h).1 in
+    let ht : is_within k t ≡ true = ap (is_within k) (sym (set_read t)) ∙ (and_parts (nat_lt (number_of_facts t) 8) (is_within k (facts_of_number (number_of_facts t))) g).1 in
     let u = union s t in
-    both (nat_lt (number_of_facts u) 8) (is_within k (facts_of_number (number_of_facts u))) (small_number u.ran u.went u.stayed) (ap (is_within k) (set_read u) ∙ within_both k s t hs ht)
+    and_from (nat_lt (number_of_facts u) 8) (is_within k (facts_of_number (number_of_facts u))) (small_number u.ran u.went u.stayed) (ap (is_within k) (set_read u) ∙ within_both k s t hs ht)
 
 place_both : (size end size2 end2 : ℕ) (p q : MarkedPlace) → is_place size end p ≡ true → is_place size2 end2 q ≡ true → place_row p ≡ place_row q → is_place size end (unite_place p q) ≡ true
 place_both size end size2 end2 p q h g e =
-    let h2 = both-right (is_location size end p.location) _ h in
-    let h3 = both-right (is_length size p.location p.len) _ h2 in
-    let g3 = both-right (is_length size2 q.location q.len) _ (both-right (is_location size2 end2 q.location) _ g) in
-    let ps = both-right (is_original p.len p.kind p.original) _ h3 in
-    let qs = both-right (is_original q.len q.kind q.original) _ g3 in
-    both _ _ (both-left (is_location size end p.location) _ h) (both _ _ (both-left (is_length size p.location p.len) _ h2) (both _ _ (both-left (is_original p.len p.kind p.original) _ h3) (set_both p.kind p.set q.set ps (ap (λ k. is_set k (number_of_facts q.set)) (row_kind p q e) ∙ qs))))
+    let h2 = (and_parts (is_location size end p.location) _ h).1 in
+    let h3 = (and_parts (is_length size p.location p.len) _ h2).1 in
+    let g3 = (and_parts (is_length size2 q.location q.len) _ (and_parts (is_location size2 end2 q.location) _ g).1).1 in
+    let ps = (and_parts (is_original p.len p.kind p.original) _ h3).1 in
+    let qs = (and_parts (is_original q.len q.kind q.original) _ g3).1 in
+    and_from _ _ (and_parts (is_location size end p.location) _ h).0 (and_from _ _ (and_parts (is_length size p.location p.len) _ h2).0 (and_from _ _ (and_parts (is_original p.len p.kind p.original) _ h3).0 (set_both p.kind p.set q.set ps (ap (λ k. is_set k (number_of_facts q.set)) (row_kind p q e) ∙ qs))))
 
 places_both : (size end size2 end2 : ℕ) (ps qs : List MarkedPlace) → are_places size end ps ≡ true → are_places size2 end2 qs ≡ true → SamePlaces ps qs → are_places size end (unite_places ps qs) ≡ true
 places_both size end size2 end2 [] [] h g s = refl
 places_both size end size2 end2 [] (q ∷ qs) h g s = absurd s
 places_both size end size2 end2 (p ∷ ps) [] h g s = absurd s
 places_both size end size2 end2 (p ∷ ps) (q ∷ qs) h g s =
-    both (is_place size end (unite_place p q)) (are_places size (end_location p) (unite_places ps qs))
-    (place_both size end size2 end2 p q (both-left (is_place size end p) _ h) (both-left (is_place size2 end2 q) _ g) s.0)
-    (places_both size (end_location p) size2 (end_location q) ps qs (both-right (is_place size end p) _ h) (both-right (is_place size2 end2 q) _ g) s.1)
+    and_from (is_place size end (unite_place p q)) (are_places size (end_location p) (unite_places ps qs))
+    (place_both size end size2 end2 p q (and_parts (is_place size end p) _ h).0 (and_parts (is_place size2 end2 q) _ g).0 s.0)
+    (places_both size (end_location p) size2 (end_location q) ps qs (and_parts (is_place size end p) _ h).1 (and_parts (is_place size2 end2 q) _ g).1 s.1)
 
 pub length-unite_places : (ps qs : List MarkedPlace) → length (unite_places ps qs) ≡ length ps
 length-unite_places [] qs = refl
@@ -185,28 +185,28 @@ modules_both earlier before other [] [] h g s e = refl
 modules_both earlier before other [] (n ∷ ns) h g s e = absurd s
 modules_both earlier before other (m ∷ ms) [] h g s e = absurd s
 modules_both earlier before other (m ∷ ms) (n ∷ ns) h g s e =
-    let one = both-left (is_module earlier m) (are_modules (earlier ++ m ∷ []) ms) h in
-    let two = both-left (is_module other n) (are_modules (other ++ n ∷ []) ns) g in
-    let h2 = both-right (is_new_name earlier m.name) _ one in
-    let h3 = both-right (is_base m.base) _ h2 in
-    let h4 = both-right (is_size earlier m.base m.size) _ h3 in
-    let g4 = both-right (is_size other n.base n.size) _ (both-right (is_base n.base) _ (both-right (is_new_name other n.name) _ two)) in
+    let one = (and_parts (is_module earlier m) (are_modules (earlier ++ m ∷ []) ms) h).0 in
+    let two = (and_parts (is_module other n) (are_modules (other ++ n ∷ []) ns) g).0 in
+    let h2 = (and_parts (is_new_name earlier m.name) _ one).1 in
+    let h3 = (and_parts (is_base m.base) _ h2).1 in
+    let h4 = (and_parts (is_size earlier m.base m.size) _ h3).1 in
+    let g4 = (and_parts (is_size other n.base n.size) _ (and_parts (is_base n.base) _ (and_parts (is_new_name other n.name) _ two).1).1).1 in
     let u = unite_module m n in
     let many : length u.places ≡ length m.places = length-unite_places m.places n.places in
     let is : is_module before u ≡ true =
-    both _ _ (new_name_kept before earlier m.name e ∙ both-left (is_new_name earlier m.name) _ one)
-    (both _ _ (both-left (is_base m.base) _ h2)
-    (both _ _ (size_kept before earlier m.base m.size e ∙ both-left (is_size earlier m.base m.size) _ h3)
-    (both _ _ (ap (is_count before) many ∙ (count_kept before earlier (length m.places) e ∙ both-left (is_count earlier (length m.places)) _ h4))
-    (places_both m.size 0 n.size 0 m.places n.places (both-right (is_count earlier (length m.places)) _ h4) (both-right (is_count other (length n.places)) _ g4) s.0.1)))) in
-    both (is_module before u) (are_modules (before ++ u ∷ []) (unite ms ns)) is
-    (modules_both (earlier ++ m ∷ []) (before ++ u ∷ []) (other ++ n ∷ []) ms ns (both-right (is_module earlier m) _ h) (both-right (is_module other n) _ g) s.1 (heads_more before earlier u m e (record { name = refl; base = refl; size = refl; count = many })))
+    and_from _ _ (new_name_kept before earlier m.name e ∙ (and_parts (is_new_name earlier m.name) _ one).0)
+    (and_from _ _ (and_parts (is_base m.base) _ h2).0
+    (and_from _ _ (size_kept before earlier m.base m.size e ∙ (and_parts (is_size earlier m.base m.size) _ h3).0)
+    (and_from _ _ (ap (is_count before) many ∙ (count_kept before earlier (length m.places) e ∙ (and_parts (is_count earlier (length m.places)) _ h4).0))
+    (places_both m.size 0 n.size 0 m.places n.places (and_parts (is_count earlier (length m.places)) _ h4).1 (and_parts (is_count other (length n.places)) _ g4).1 s.0.1)))) in
+    and_from (is_module before u) (are_modules (before ++ u ∷ []) (unite ms ns)) is
+    (modules_both (earlier ++ m ∷ []) (before ++ u ∷ []) (other ++ n ∷ []) ms ns (and_parts (is_module earlier m) _ h).1 (and_parts (is_module other n) _ g).1 s.1 (heads_more before earlier u m e (record { name = refl; base = refl; size = refl; count = many })))
 
 pub union_is_marks : (ms ns : List MarkedView) → are_marks ms ≡ true → are_marks ns ≡ true → SameTables ms ns → are_marks (unite ms ns) ≡ true
 union_is_marks ms ns h g s =
-    both (is_module_count (length (unite ms ns))) (are_modules [] (unite ms ns))
-    (ap is_module_count (length-unite ms ns) ∙ both-left (is_module_count (length ms)) (are_modules [] ms) h)
-    (modules_both [] [] [] ms ns (both-right (is_module_count (length ms)) _ h) (both-right (is_module_count (length ns)) _ g) s tt)
+    and_from (is_module_count (length (unite ms ns))) (are_modules [] (unite ms ns))
+    (ap is_module_count (length-unite ms ns) ∙ (and_parts (is_module_count (length ms)) (are_modules [] ms) h).0)
+    (modules_both [] [] [] ms ns (and_parts (is_module_count (length ms)) _ h).1 (and_parts (is_module_count (length ns)) _ g).1 s tt)
 
 -- behind the end of one file nothing is united
 none_united : (xs ys : List MarkedPlace) → min (length xs) (length ys) ≡ 0 → unite_places xs ys ≡ xs
@@ -232,17 +232,17 @@ modules_united a b i all h e =
 -- the places of a file's modules
 few_places : (earlier : List MarkedView) (n : ℕ) → is_count earlier n ≡ true → place_total earlier + n ≤ 65536
 unfolding is_count
-few_places earlier n h = le_of_test (place_total earlier + n) 65536 h
+few_places earlier n h = leb-true (place_total earlier + n) 65536 h
 
 modules_places : (earlier ms : List MarkedView) → place_total earlier ≤ 65536 → are_modules earlier ms ≡ true → place_total earlier + place_total ms ≤ 65536
 modules_places earlier [] few h = omega arith
 modules_places earlier (m ∷ ms) few h =
-    let one = both-left (is_module earlier m) (are_modules (earlier ++ m ∷ []) ms) h in
-    let h4 = both-right (is_size earlier m.base m.size) _ (both-right (is_base m.base) _ (both-right (is_new_name earlier m.name) _ one)) in
-    let here = few_places earlier (length m.places) (both-left (is_count earlier (length m.places)) _ h4) in
+    let one = (and_parts (is_module earlier m) (are_modules (earlier ++ m ∷ []) ms) h).0 in
+    let h4 = (and_parts (is_size earlier m.base m.size) _ (and_parts (is_base m.base) _ (and_parts (is_new_name earlier m.name) _ one).1).1).1 in
+    let here = few_places earlier (length m.places) (and_parts (is_count earlier (length m.places)) _ h4).0 in
     let e = place_total-append earlier m in
-    let more = modules_places (earlier ++ m ∷ []) ms (omega arith) (both-right (is_module earlier m) _ h) in
+    let more = modules_places (earlier ++ m ∷ []) ms (omega arith) (and_parts (is_module earlier m) _ h).1 in
     omega arith
 
 pub marks_places : (ms : List MarkedView) → are_marks ms ≡ true → place_total ms ≤ 65536
-marks_places ms h = let e = modules_places [] ms (omega arith) (both-right (is_module_count (length ms)) _ h) in omega (arith, e)
+marks_places ms h = let e = modules_places [] ms (omega arith) (and_parts (is_module_count (length ms)) _ h).1 in omega (arith, e)

@@ -1,10 +1,11 @@
 use Rattle.std.proofs.Common.{◌≡◌, true, refl, length, All, ap, subst, sym, ◌∙◌, arith}
+use Rattle.std.proofs.lemmas.Bool.{and_from, and_parts}
 use Rattle.std.specs.Vec.{with_items}
 use Rattle.std.proofs.lemmas.List.{with_items_is}
 use Rattle.marks_file.specs.Meaning.{MarksView, is_runs, are_marks, place_total, rows, unite}
 use Rattle.marks_file.specs.Marks.{HasRow}
 use Rattle.marks_file.proofs.Parts.{is_session_name}
-use Rattle.marks_file.proofs.MarksLemmas.{both-left, both-right, both, marks_have_rows, marks_count, kept_modules}
+use Rattle.marks_file.proofs.MarksLemmas.{marks_have_rows, marks_count, kept_modules}
 use Rattle.marks_file.specs.Combine.{SameTables}
 use Rattle.marks_file.proofs.UnionLemmas.{union_is_marks, length-unite, tables_rows, marks_places}
 use Rattle.marks_file.proofs.AnswerLemmas.{none_other}
@@ -38,10 +39,10 @@ invariant_of-a c =
     let same : SameTables c.a.inside.modules.items c.b.inside.modules.items = rw (c.deref.ensures.value, c.deref-2.ensures.value) at found in
     let u : c.unite.new.a ≡ unite c.a.inside.modules.items c.b.inside.modules.items = c.unite.ensures ∙ (ap (λ x. unite x c.deref-in-None.result.now) c.deref_mut.ensures.value ∙ ap (λ y. unite c.a.inside.modules.items y) c.deref-in-None.ensures.value) in
     let kept : (with_items c.a.inside.modules c.unite.new.a).items ≡ c.unite.new.a = with_items_is c.a.inside.modules c.unite.new.a (ap length u ∙ (length-unite c.a.inside.modules.items c.b.inside.modules.items ∙ sym c.a.inside.modules.ok.0)) in
-    let runs_a : is_runs c.a.inside.runs ≡ true = both-left (is_runs c.a.inside.runs) _ (both-right (is_session_name c.a.inside.name) _ c.a.invariant) in
-    let runs_b : is_runs c.b.inside.runs ≡ true = both-left (is_runs c.b.inside.runs) _ (both-right (is_session_name c.b.inside.name) _ c.b.invariant) in
-    both (is_session_name c.a.inside.name) _ (both-left (is_session_name c.a.inside.name) _ c.a.invariant)
-    (both (is_runs _) _ (ap is_runs c.saturating_add-a-inside.ensures ∙ held_runs c.a.inside.runs c.b.inside.runs runs_a runs_b)
+    let runs_a : is_runs c.a.inside.runs ≡ true = (and_parts (is_runs c.a.inside.runs) _ (and_parts (is_session_name c.a.inside.name) _ c.a.invariant).1).0 in
+    let runs_b : is_runs c.b.inside.runs ≡ true = (and_parts (is_runs c.b.inside.runs) _ (and_parts (is_session_name c.b.inside.name) _ c.b.invariant).1).0 in
+    and_from (is_session_name c.a.inside.name) _ (and_parts (is_session_name c.a.inside.name) _ c.a.invariant).0
+    (and_from (is_runs _) _ (ap is_runs c.saturating_add-a-inside.ensures ∙ held_runs c.a.inside.runs c.b.inside.runs runs_a runs_b)
     (ap are_marks (kept ∙ u) ∙ union_is_marks _ _ first second same))
 
 pub returns-in-None-clause-same : goal.returns-in-None-clause-same
