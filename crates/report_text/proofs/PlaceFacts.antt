@@ -26,12 +26,9 @@ marked_at mark places sets n = if nat_eq (mark_byte mark) (mark_byte (mark_of (p
 abbrev pub done_at : (ℕ → ResultView) → ℕ → ℕ
 done_at results t = (results t).done
 
-count_step : (n count : ℕ) → n < count → count - n ≡ suc (count - (n + 1))
-count_step n count h = omega arith
-
 -- the sum so far and the rest
 pub sum_from-next : (amount : ℕ → ℕ) (n past : ℕ) → n < past → sum_from amount n (past - n) ≡ amount n + sum_from amount (n + 1) (past - (n + 1))
-sum_from-next amount n past h = rw (count_step n past h) refl
+sum_from-next amount n past h = let one : past - n ≡ suc (past - (n + 1)) = omega arith in rw one refl
 
 pub sum_step : (amount : ℕ → ℕ) (n past so_far x total : ℕ) → n < past → x ≡ amount n → so_far + sum_from amount n (past - n) ≡ total → so_far + x + sum_from amount (n + 1) (past - (n + 1)) ≡ total
 sum_step amount n past so_far x total h is sum = omega (arith, sum, sum_from-next amount n past h, is)
