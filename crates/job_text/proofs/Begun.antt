@@ -1,6 +1,5 @@
 -- Lines that run begin a job: for each controller that is missing a task can still come.
 use Rattle.std.proofs.Common.{◌≡◌, ◌⊎◌, ℕ, suc, Bool, true, false, nat_eq, Option, Some, None, IfSome, List, [], ◌∷◌, ◌++◌, length, get_or, All, refl, ap, subst, sym, ◌∙◌, arith, codes, option_and_then, inl, inr, ⊎_elim, eq-eqb}
-use Rattle.std.proofs.lemmas.Bool.Decides.{nat_tests}
 use Rattle.std.proofs.lemmas.List.Elements.{All-cons, All-nil, All-append}
 use Rattle.std.proofs.lemmas.List.Folds.{list_any-append}
 use Rattle.std.proofs.lemmas.List.Sums.{AllPass-from_list_all}

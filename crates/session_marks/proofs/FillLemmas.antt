@@ -6,9 +6,9 @@ use Rattle.cov_base.specs.Meaning.{FactSet, is_filled}
 use Rattle.brk_table.specs.Meaning.{TablesView, first_place, place_count, all_places}
 use Rattle.brk_table.proofs.Laws.{range_most}
 use Rattle.marks_file.specs.Meaning.{MarkedView, is_location, is_length, is_original, are_places, end_location, is_new_name, is_base, is_size, is_count, are_modules, is_module_count, are_marks}
-use Rattle.marks_file.proofs.Laws.{both-left, both-right, is_place, is_module}
+use Rattle.marks_file.proofs.Laws.{is_place, is_module}
 use Rattle.std.proofs.lemmas.List.Elements.{All-cons, All-nil}
-use Rattle.std.proofs.lemmas.Bool.{ltb-true}
+use Rattle.std.proofs.lemmas.Bool.{ltb-true, and_parts}
 use Rattle.cov_base.specs.declared.facts.Kind.{Kind}
 use Rattle.session_book.specs.Meaning.{module_of, JobView}
 use Rattle.phase_plan.specs.Sets.{AreWithin}
@@ -52,15 +52,15 @@ are_there j tables sets (m ∷ ms) e =
 
 half_of : (len : ℕ) (kind : Kind) (half : ℕ) → is_original len kind half ≡ true → half < 65536
 unfolding is_original
-half_of len kind half h = ltb-true half 65536 (both-left (nat_lt half 65536) _ h)
+half_of len kind half h = ltb-true half 65536 (and_parts (nat_lt half 65536) _ h).0
 
 halfwords : (size end : ℕ) (ps : List MarkedPlace) → are_places size end ps ≡ true → AreHalfwords ps
 halfwords size end [] h = All-nil (λ (p : MarkedPlace). p.original < 65536)
 halfwords size end (p ∷ ps) h =
-    let one = both-left (is_place size end p) (are_places size (end_location p) ps) h in
-    let rest = both-right (is_length size p.location p.len) _ (both-right (is_location size end p.location) _ one) in
-    All-cons (λ (x : MarkedPlace). x.original < 65536) p ps (half_of p.len p.kind p.original (both-left (is_original p.len p.kind p.original) _ rest))
-    (halfwords size (end_location p) ps (both-right (is_place size end p) (are_places size (end_location p) ps) h))
+    let one = (and_parts (is_place size end p) (are_places size (end_location p) ps) h).0 in
+    let rest = (and_parts (is_length size p.location p.len) _ (and_parts (is_location size end p.location) _ one).1).1 in
+    All-cons (λ (x : MarkedPlace). x.original < 65536) p ps (half_of p.len p.kind p.original (and_parts (is_original p.len p.kind p.original) _ rest).0)
+    (halfwords size (end_location p) ps (and_parts (is_place size end p) (are_places size (end_location p) ps) h).1)
 
 halfwords_kept : (base : ℕ) (places : List Place) (old new : ℕ → FactSet) (n count : ℕ) → AreHalfwords (marked_places base places old n count) → AreHalfwords (marked_places base places new n count)
 halfwords_kept base places old new n zero h = All-nil (λ (p : MarkedPlace). p.original < 65536)
@@ -70,17 +70,17 @@ halfwords_kept base places old new n (suc count) h =
 
 name_filled : (earlier : List MarkedView) (field : List ℕ) → is_new_name earlier field ≡ true → is_filled field ≡ true
 unfolding is_new_name
-name_filled earlier field h = both-left (is_filled field) _ h
+name_filled earlier field h = (and_parts (is_filled field) _ h).0
 
 fields_of : (earlier ms : List MarkedView) → are_modules earlier ms ≡ true → All HasGoodFields ms
 fields_of earlier [] h = All-nil HasGoodFields
 fields_of earlier (m ∷ ms) h =
-    let one = both-left (is_module earlier m) (are_modules (earlier ++ m ∷ []) ms) h in
-    let second = both-right (is_new_name earlier m.name) _ one in
-    let third = both-right (is_base m.base) _ second in
-    let fourth = both-right (is_size earlier m.base m.size) _ third in
-    All-cons HasGoodFields m ms (record { name = name_filled earlier m.name (both-left (is_new_name earlier m.name) _ one); places = both-right (is_count earlier (length m.places)) _ fourth })
-    (fields_of (earlier ++ m ∷ []) ms (both-right (is_module earlier m) _ h))
+    let one = (and_parts (is_module earlier m) (are_modules (earlier ++ m ∷ []) ms) h).0 in
+    let second = (and_parts (is_new_name earlier m.name) _ one).1 in
+    let third = (and_parts (is_base m.base) _ second).1 in
+    let fourth = (and_parts (is_size earlier m.base m.size) _ third).1 in
+    All-cons HasGoodFields m ms (record { name = name_filled earlier m.name (and_parts (is_new_name earlier m.name) _ one).0; places = (and_parts (is_count earlier (length m.places)) _ fourth).1 })
+    (fields_of (earlier ++ m ∷ []) ms (and_parts (is_module earlier m) _ h).1)
 
 fields_kept : (j : JobView) (tables : TablesView) (old new : ℕ → FactSet) (ms : List ℕ) → AreTabled j tables → All (λ m. m < length j.images) ms → All (AreWithin tables new) ms → All HasGoodFields (map (marked_module j tables old) ms) → All HasGoodFields (map (marked_module j tables new) ms)
 fields_kept j tables old new [] are exist within h = All-nil HasGoodFields
@@ -94,5 +94,5 @@ fields_kept j tables old new (m ∷ ms) are exist within h =
 pub filled_are_marks : (j : JobView) (tables : TablesView) (old new : ℕ → FactSet) (ms : List ℕ) → AreTabled j tables → 1 ≤ length ms → All (λ m. m < length j.images) ms → Differ ms → All (AreWithin tables new) ms →
     are_marks (map (marked_module j tables old) ms) ≡ true → are_marks (map (marked_module j tables new) ms) ≡ true
 filled_are_marks j tables old new ms are some exist differ within h =
-    let fields = fields_of [] (map (marked_module j tables old) ms) (both-right (is_module_count (length (map (marked_module j tables old) ms))) _ h) in
+    let fields = fields_of [] (map (marked_module j tables old) ms) (and_parts (is_module_count (length (map (marked_module j tables old) ms))) _ h).1 in
     marks_kept j tables new ms are.job are.are some exist differ (fields_kept j tables old new ms are exist within fields)

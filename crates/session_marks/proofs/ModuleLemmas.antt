@@ -1,9 +1,10 @@
 -- The modules of a session, with their places, keep the rules of a marks file.
-use Rattle.std.proofs.Common.{◌≡◌, ◌≢◌, inl, inr, ℕ, ◌+◌, ◌-◌, ◌%◌, ◌<◌, ◌≤◌, Bool, true, false, ◌||◌, ◌==◌, not, nat_le, List, [], ◌∷◌, ◌++◌, length, map, get_or, take, All, refl, sym, ap, ◌∙◌, subst, arith}
+use Rattle.std.proofs.Common.{◌≡◌, ◌≢◌, inl, inr, ℕ, ◌+◌, ◌-◌, ◌%◌, ◌<◌, ◌≤◌, true, false, ◌||◌, ◌==◌, not, nat_le, List, [], ◌∷◌, ◌++◌, length, map, get_or, take, All, refl, sym, ap, ◌∙◌, subst, arith, eqb-true}
+use Rattle.std.proofs.lemmas.List.Folds.{Any-from_list_any}
 use Rattle.std.specs.List.{list_any, list_all}
 use Rattle.std.specs.Str.{bytes_eq}
-use Rattle.std.proofs.lemmas.Bool.{cases_lt, false≢true, le-leb, eq-eqb, or_right, or_left}
-use Rattle.std.proofs.lemmas.Bool.Decides.{nat_tests, Decides-eqb}
+use Rattle.std.proofs.lemmas.Bool.{cases_lt, le-leb, eq-eqb, or_right, or_left, and_from, false_from_ne_true}
+use Rattle.std.proofs.lemmas.Bool.Decides.{Decides-eqb}
 use Rattle.std.proofs.lemmas.List.{get_or_default, get_or-map, map-append, map_more, length-map}
 use Rattle.std.proofs.lemmas.List.Elements.{All-tail, All-cons, All-push, All-nil}
 use Rattle.std.proofs.lemmas.List.Quantifiers.{all_pairs_push}
@@ -21,7 +22,7 @@ use Rattle.brk_table.specs.Places.{IsPlace, AreApart}
 use Rattle.brk_table.specs.Together.{AreTables}
 use Rattle.marks_file.specs.Meaning.{MarkedView, is_new_name, is_base, is_clear, is_size, is_count, place_total, are_modules, is_module_count, are_marks, are_places}
 use Rattle.marks_file.specs.declared.marks.MarkedPlace.{MarkedPlace}
-use Rattle.marks_file.proofs.Laws.{is_module, both}
+use Rattle.marks_file.proofs.Laws.{is_module}
 use Rattle.session_book.specs.Meaning.{JobView, module_of, no_module}
 use Rattle.session_book.specs.JobView.{IsJob}
 use Rattle.phase_plan.specs.Sets.{AreWithin}
@@ -127,13 +128,6 @@ names_differ j m n is differ a b same = elim (cases_lt m n) [
   | inr more ↦ other_names j n m is (grind arith) a (sym same)
 ]
 
-no_bytes : (a b : List ℕ) → a ≢ b → bytes_eq a b ≡ false
-no_bytes a b differ = by (bytes_eq a b) refl
-  where
-    by : (t : Bool) → bytes_eq a b ≡ t → bytes_eq a b ≡ false
-    by true e = absurd (differ ((bytes_eq-Decides a b).0 e))
-    by false e = e
-
 clear_of : (j : JobView) (m n : ℕ) → IsJob j → m ≢ n → m < length j.images → n < length j.images
     → (nat_le ((module_of j m).base + length (module_of j m).bytes) (module_of j n).base || nat_le ((module_of j n).base + length (module_of j n).bytes) (module_of j m).base) ≡ true
 clear_of j m n is differ a b = elim (cases_lt m n) [
@@ -153,14 +147,14 @@ no_earlier : (j : JobView) (tables : TablesView) (sets : ℕ → FactSet) (m : �
     → list_any (λ (v : MarkedView). bytes_eq v.name (module_of j m).name) (map (marked_module j tables sets) es) ≡ false
 no_earlier j tables sets m [] is l are differ = refl
 no_earlier j tables sets m (e ∷ es) is l are differ =
-    let one = no_bytes (module_of j e).name (module_of j m).name (names_differ j e m is (differ 0 e (omega arith)) (are 0 e (omega arith)).exists l) in
+    let one = false_from_ne_true (bytes_eq (module_of j e).name (module_of j m).name) (λ s. names_differ j e m is (differ 0 e (omega arith)) (are 0 e (omega arith)).exists l ((bytes_eq-Decides (module_of j e).name (module_of j m).name).0 s)) in
     rw one (no_earlier j tables sets m es is l (All-tail (IsMarked j tables sets) e es are) (All-tail (λ e. e ≢ m) e es differ))
 
 all_clear : (j : JobView) (tables : TablesView) (sets : ℕ → FactSet) (m : ℕ) (es : List ℕ) → IsJob j → m < length j.images → All (IsMarked j tables sets) es → All (λ e. e ≢ m) es
     → list_all (is_clear (module_of j m).base (length (module_of j m).bytes)) (map (marked_module j tables sets) es) ≡ true
 all_clear j tables sets m [] is l are differ = refl
 all_clear j tables sets m (e ∷ es) is l are differ =
-    both _ _ (clear_of j e m is (differ 0 e (omega arith)) (are 0 e (omega arith)).exists l) (all_clear j tables sets m es is l (All-tail (IsMarked j tables sets) e es are) (All-tail (λ e. e ≢ m) e es differ))
+    and_from _ _ (clear_of j e m is (differ 0 e (omega arith)) (are 0 e (omega arith)).exists l) (all_clear j tables sets m es is l (All-tail (IsMarked j tables sets) e es are) (All-tail (λ e. e ≢ m) e es differ))
 
 counted : (j : JobView) (tables : TablesView) (sets : ℕ → FactSet) (ms : List ℕ) → place_total (map (marked_module j tables sets) ms) ≡ count_of tables.tables ms
 counted j tables sets [] = refl
@@ -173,14 +167,14 @@ counted j tables sets (m ∷ ms) =
 
 name_kept : (j : JobView) (tables : TablesView) (sets : ℕ → FactSet) (m : ℕ) (es : List ℕ) → IsJob j → IsMarked j tables sets m → All (IsMarked j tables sets) es → All (λ e. e ≢ m) es → is_new_name (map (marked_module j tables sets) es) (module_of j m).name ≡ true
 unfolding is_new_name
-name_kept j tables sets m es is one are differ = both _ _ one.fields.name (ap not (no_earlier j tables sets m es is one.exists are differ))
+name_kept j tables sets m es is one are differ = and_from _ _ one.fields.name (ap not (no_earlier j tables sets m es is one.exists are differ))
 
 base_kept : (i : ImageView) → IsImage i → is_base i.base ≡ true
 unfolding is_base
 base_kept i is =
     let to = is.to in
     let some = is.some in
-    both _ _ (eq-eqb _ 0 is.doubleword) (both _ _ (le-leb 1048576 i.base is.from) (le-leb i.base 16773112 (last_base i.base (length i.bytes) is.doubleword some to)))
+    and_from _ _ (eq-eqb _ 0 is.doubleword) (and_from _ _ (le-leb 1048576 i.base is.from) (le-leb i.base 16773112 (last_base i.base (length i.bytes) is.doubleword some to)))
   where
     last_base : (base size : ℕ) → base % 8 ≡ 0 → 2 ≤ size → base + size ≤ 16773120 → base ≤ 16773112
     last_base base size a b c = omega arith
@@ -192,7 +186,7 @@ size_kept j tables sets m es is one are differ =
     let i = module_is j m is one.exists in
     let few = is.sizes m no_module one.exists in
     let size = length (module_of j m).bytes in
-    both _ _ (eq-eqb _ 0 i.even) (both _ _ (le-leb 2 size i.some) (both _ _ (le-leb size 262144 few) (both _ _ (le-leb _ _ i.to) (all_clear j tables sets m es is one.exists are differ))))
+    and_from _ _ (eq-eqb _ 0 i.even) (and_from _ _ (le-leb 2 size i.some) (and_from _ _ (le-leb size 262144 few) (and_from _ _ (le-leb _ _ i.to) (all_clear j tables sets m es is one.exists are differ))))
 
 count_kept : (j : JobView) (tables : TablesView) (sets : ℕ → FactSet) (m : ℕ) (es : List ℕ) → AreTables j.images tables.tables → Differ (es ++ m ∷ []) → is_count (map (marked_module j tables sets) es) (length (marked_module j tables sets m).places) ≡ true
 unfolding is_count
@@ -208,10 +202,10 @@ module_kept : (j : JobView) (tables : TablesView) (sets : ℕ → FactSet) (m : 
     → is_module (map (marked_module j tables sets) es) (marked_module j tables sets m) ≡ true
 module_kept j tables sets m es is are one earlier other differ =
     let i = module_is j m is one.exists in
-    both _ _ (name_kept j tables sets m es is one earlier other)
-    (both _ _ (base_kept (module_of j m) i)
-    (both _ _ (size_kept j tables sets m es is one earlier other)
-    (both _ _ (count_kept j tables sets m es are differ) one.fields.places)))
+    and_from _ _ (name_kept j tables sets m es is one earlier other)
+    (and_from _ _ (base_kept (module_of j m) i)
+    (and_from _ _ (size_kept j tables sets m es is one earlier other)
+    (and_from _ _ (count_kept j tables sets m es are differ) one.fields.places)))
 
 differ_more : (m : ℕ) (es : List ℕ) → Differ es → All (λ e. e ≢ m) es → Differ (es ++ m ∷ [])
 differ_more m es differ other = all_pairs_push (λ a b. a ≢ b) es m differ other
@@ -227,18 +221,10 @@ modules_from j tables sets es (m ∷ ms) is are earlier later differ apart other
     let rest = All-tail (IsMarked j tables sets) m ms later in
     let others : All (λ n. All (λ e. e ≢ n) (es ++ m ∷ [])) ms = λ k d l. All-push (λ e. e ≢ get_or ms k d) es m (All-tail (λ n. All (λ e. e ≢ n) es) m ms other k d l) (first_differs m ms apart k d l) in
     let next = modules_from j tables sets (es ++ m ∷ []) ms is are (All-push (IsMarked j tables sets) es m earlier here) rest more (rest_differs m ms apart) others in
-    both _ _ (module_kept j tables sets m es is are here earlier mine more) (subst (λ x. are_modules x (map f ms) ≡ true) (map-append f es (m ∷ [])) next)
-
-below_either : (n q m : ℕ) (rest : Bool) → m < n → (rest ≡ true → q < n) → ((q == m) || rest) ≡ true → q < n
-below_either n q m rest l h e = by (q == m) refl e
-  where
-    by : (t : Bool) → (q == m) ≡ t → (t || rest) ≡ true → q < n
-    by true s x = grind (arith, nat_tests)
-    by false s x = h x
+    and_from _ _ (module_kept j tables sets m es is are here earlier mine more) (subst (λ x. are_modules x (map f ms) ≡ true) (map-append f es (m ∷ [])) next)
 
 any_below : (n q : ℕ) (ms : List ℕ) → All (λ m. m < n) ms → list_any (λ x. q == x) ms ≡ true → q < n
-any_below n q [] h e = absurd (false≢true e)
-any_below n q (m ∷ ms) h e = below_either n q m (list_any (λ x. q == x) ms) (h 0 m (omega arith)) (any_below n q ms (All-tail (λ k. k < n) m ms h)) e
+any_below n q ms h e = let a = Any-from_list_any (λ x. q == x) ms e in omega (arith, h a.0 a.1 a.2, a.3, eqb-true q a.1 a.4)
 
 -- different numbers below n are at most n
 few : (n : ℕ) (ms : List ℕ) → All (λ m. m < n) ms → Differ ms → length ms ≤ n
@@ -263,7 +249,7 @@ marks_kept j tables sets ms is are some exist differ fields =
     let many = few (length j.images) ms exist differ in
     let most = is.modules in
     let size = length (map (marked_module j tables sets) ms) in
-    both _ _ (both _ _ (le-leb 1 size (omega (arith, long, some))) (le-leb size 16 (omega (arith, long, many, most))))
+    and_from _ _ (and_from _ _ (le-leb 1 size (omega (arith, long, some))) (le-leb size 16 (omega (arith, long, many, most))))
     (modules_from j tables sets [] ms is are (All-nil (IsMarked j tables sets)) (are_marked j tables sets ms exist fields) (λ a b d l h. absurd (omega arith)) differ (λ k d l. All-nil (λ e. e ≢ get_or ms k d)))
 
 -- what was made of a module with these fields

@@ -1,8 +1,8 @@
 -- The places of a module keep the rules of a marks file.
-use Rattle.std.proofs.Common.{◌≡◌, ◌≢◌, ℕ, ◌+◌, ◌-◌, ◌%◌, ◌<◌, ◌≤◌, zero, suc, true, ◌||◌, not, nat_eq, nat_lt, List, length, refl, sym, ap, ◌∙◌, arith}
+use Rattle.std.proofs.Common.{◌≡◌, ℕ, ◌+◌, ◌-◌, ◌%◌, ◌<◌, ◌≤◌, zero, suc, true, ◌||◌, nat_eq, nat_lt, List, length, refl, sym, ap, ◌∙◌, arith, ne_eqb}
 use Rattle.std.proofs.lemmas.Bool.Decides.{nat_tests}
 use Rattle.std.proofs.lemmas.List.Elements.{All-tail}
-use Rattle.std.proofs.lemmas.Bool.{lt-ltb, le-leb, eq-eqb}
+use Rattle.std.proofs.lemmas.Bool.{lt-ltb, le-leb, eq-eqb, and_from, not_from_false}
 use Rattle.cov_base.specs.Meaning.{length_of, FactSet, number_of_facts, is_within, ImageView}
 use Rattle.cov_base.specs.declared.facts.Kind.{Kind}
 use Rattle.cov_base.proofs.Laws.{length_of-cases, length_of-least}
@@ -12,7 +12,7 @@ use Rattle.module_area.specs.declared.places.Place.{Place}
 use Rattle.brk_table.specs.Places.{IsPlace}
 use Rattle.marks_file.specs.Meaning.{kind_number, is_location, is_length, is_original, is_set, are_places, end_location, is_runs}
 use Rattle.marks_file.specs.declared.marks.MarkedPlace.{MarkedPlace}
-use Rattle.marks_file.proofs.Laws.{is_place, both, set_read, small_number}
+use Rattle.marks_file.proofs.Laws.{is_place, set_read, small_number}
 use Rattle.session_marks.specs.Fields.{AreHalfwords}
 use Rattle.session_marks.specs.Meaning.{marked_places, marked_place}
 
@@ -27,9 +27,6 @@ pub record IsMarkable (image : ImageView) (p : Place) (set : FactSet) : Type 0 w
   pub to : p.at + p.len ≤ image.base + length image.bytes
   pub within : is_within p.kind set ≡ true
 
-differ : (a b : ℕ) → a ≢ b → not (nat_eq a b) ≡ true
-differ a b h = grind (arith, nat_tests)
-
 even_location : (at base : ℕ) → at % 2 ≡ 0 → base % 8 ≡ 0 → base ≤ at → (at - base) % 2 ≡ 0
 even_location at base a b l = omega arith
 
@@ -38,7 +35,7 @@ unfolding is_location
 location_kept image p set end i m h =
     let long = length_of-least p.original in
     let size = m.is.size in
-    both _ _ (eq-eqb _ 0 (even_location p.at image.base m.is.even i.doubleword m.from)) (both _ _ (lt-ltb (p.at - image.base) (length image.bytes) (omega (arith, m.to, m.from, long, size))) (le-leb end (p.at - image.base) (omega (arith, m.from))))
+    and_from _ _ (eq-eqb _ 0 (even_location p.at image.base m.is.even i.doubleword m.from)) (and_from _ _ (lt-ltb (p.at - image.base) (length image.bytes) (omega (arith, m.to, m.from, long, size))) (le-leb end (p.at - image.base) (omega (arith, m.from))))
 
 one_length : (n h : ℕ) → n ≡ length_of h → (nat_eq n 2 || (nat_eq n 4 || nat_eq n 6)) ≡ true
 one_length n h e = let c = length_of-cases h in grind (arith, nat_tests)
@@ -46,22 +43,22 @@ one_length n h e = let c = length_of-cases h in grind (arith, nat_tests)
 length_kept : (image : ImageView) (p : Place) (set : FactSet) → IsMarkable image p set → is_length (length image.bytes) (p.at - image.base) p.len ≡ true
 unfolding is_length
 length_kept image p set m =
-    both _ _ (one_length p.len p.original m.is.size) (le-leb (p.at - image.base + p.len) (length image.bytes) (omega (arith, m.to, m.from)))
+    and_from _ _ (one_length p.len p.original m.is.size) (le-leb (p.at - image.base + p.len) (length image.bytes) (omega (arith, m.to, m.from)))
 
 original_kept : (p : Place) → IsPlace p → p.original < 65536 → is_original p.len p.kind p.original ≡ true
 unfolding is_original
 original_kept p is half =
-    both _ _ (lt-ltb _ _ half) (both _ _ (eq-eqb _ _ (sym is.size)) (both _ _ (eq-eqb _ _ (ap kind_number (sym is.kind))) (differ _ _ is.no_breakpoint)))
+    and_from _ _ (lt-ltb _ _ half) (and_from _ _ (eq-eqb _ _ (sym is.size)) (and_from _ _ (eq-eqb _ _ (ap kind_number (sym is.kind))) (not_from_false _ (ne_eqb _ _ is.no_breakpoint))))
 
 set_kept : (k : Kind) (s : FactSet) → is_within k s ≡ true → is_set k (number_of_facts s) ≡ true
 unfolding is_set
-set_kept k s h = both (nat_lt (number_of_facts s) 8) _ (small_number s.ran s.went s.stayed) (ap (is_within k) (set_read s) ∙ h)
+set_kept k s h = and_from (nat_lt (number_of_facts s) 8) _ (small_number s.ran s.went s.stayed) (ap (is_within k) (set_read s) ∙ h)
 
 place_kept : (image : ImageView) (places : List Place) (sets : ℕ → FactSet) (n end : ℕ) → IsImage image → IsMarkable image (place_of places n) (sets n) → (place_of places n).original < 65536 → end + image.base ≤ (place_of places n).at
     → is_place (length image.bytes) end (marked_place image.base places sets n) ≡ true
 place_kept image places sets n end i m half h =
     let p = place_of places n in
-    both _ _ (location_kept image p (sets n) end i m h) (both _ _ (length_kept image p (sets n) m) (both _ _ (original_kept p m.is half) (set_kept p.kind (sets n) m.within)))
+    and_from _ _ (location_kept image p (sets n) end i m h) (and_from _ _ (length_kept image p (sets n) m) (and_from _ _ (original_kept p m.is half) (set_kept p.kind (sets n) m.within)))
 
 -- the places from first on that a module has, in order
 pub record AreMarkable (image : ImageView) (places : List Place) (sets : ℕ → FactSet) (first count : ℕ) : Type 0 where
@@ -83,7 +80,7 @@ places_from image places sets first (suc count) end i are halves h =
     let here = are.each first (omega arith) (omega arith) in
     let half = halves 0 p (omega arith) in
     let next : 0 < count → end_location p + image.base ≤ (place_of places (first + 1)).at = λ l. (let rise = are.rise first (omega arith) (omega arith) in omega (arith, rise, here.from)) in
-    both _ _ (place_kept image places sets first end i here half (h (omega arith)))
+    and_from _ _ (place_kept image places sets first end i here half (h (omega arith)))
     (places_from image places sets (first + 1) count (end_location p) i (later_places image places sets first count are) (All-tail (λ (q : MarkedPlace). q.original < 65536) p rest halves) next)
 
 -- a module's places keep their rules

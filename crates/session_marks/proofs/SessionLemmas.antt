@@ -1,11 +1,12 @@
 -- What the marks of a session say of its table and its sets.
 use Rattle.std.proofs.Common.{◌≡◌, ℕ, ◌+◌, ◌-◌, ◌<◌, zero, suc, true, None, List, [], ◌∷◌, ◌++◌, length, get_or, map, All, refl, ap, sym, ◌∙◌, subst, arith}
+use Rattle.std.proofs.lemmas.Bool.{and_parts}
 use Rattle.std.proofs.lemmas.List.{get_or-map}
 use Rattle.cov_base.specs.Meaning.{FactSet, number_of_facts, is_within}
 use Rattle.cov_base.specs.declared.facts.Kind.{Kind}
 use Rattle.marks_file.specs.Meaning.{MarkedView, is_location, is_length, is_original, is_set, are_places, end_location, is_new_name, is_base, is_size, is_count, are_modules, is_module_count, are_marks, place_row, module_row, module_rows, rows, first_difference, unite}
 use Rattle.marks_file.specs.declared.marks.MarkedPlace.{MarkedPlace}
-use Rattle.marks_file.proofs.Laws.{is_place, is_module, both-left, both-right, set_read, same_rows, joined_rows, length-unite_places, none_differs}
+use Rattle.marks_file.proofs.Laws.{is_place, is_module, set_read, same_rows, joined_rows, length-unite_places, none_differs}
 use Rattle.module_area.specs.Meaning.{place_of}
 use Rattle.module_area.specs.declared.places.Place.{Place}
 use Rattle.brk_table.specs.Meaning.{TablesView, first_place, place_count}
@@ -79,18 +80,18 @@ sets_one j tables sets others s file e f i d l =
 -- the sets of marks are within their kinds
 set_within : (kind : Kind) (set : FactSet) → is_set kind (number_of_facts set) ≡ true → is_within kind set ≡ true
 unfolding is_set
-set_within kind set h = ap (is_within kind) (sym (set_read set)) ∙ both-right _ _ h
+set_within kind set h = ap (is_within kind) (sym (set_read set)) ∙ (and_parts _ _ h).1
 
 places_within : (base : ℕ) (places : List Place) (sets : ℕ → FactSet) (size end n count k : ℕ) → are_places size end (marked_places base places sets n count) ≡ true → k < count → is_within (place_of places (n + k)).kind (sets (n + k)) ≡ true
 places_within base places sets size end n zero k h l = absurd (omega arith)
 places_within base places sets size end n (suc count) zero h l =
     let p = marked_place base places sets n in
-    let here = both-left (is_place size end p) _ h in
-    let set : is_set p.kind (number_of_facts p.set) ≡ true = both-right (is_original p.len p.kind p.original) _ (both-right (is_length size p.location p.len) _ (both-right (is_location size end p.location) _ here)) in
+    let here = (and_parts (is_place size end p) _ h).0 in
+    let set : is_set p.kind (number_of_facts p.set) ≡ true = (and_parts (is_original p.len p.kind p.original) _ (and_parts (is_length size p.location p.len) _ (and_parts (is_location size end p.location) _ here).1).1).1 in
     subst (λ x. is_within (place_of places x).kind (sets x) ≡ true) (omega arith) (set_within p.kind p.set set)
 places_within base places sets size end n (suc count) (suc k) h l =
     let p = marked_place base places sets n in
-    let more = places_within base places sets size (end_location p) (n + 1) count k (both-right (is_place size end p) _ h) (omega arith) in
+    let more = places_within base places sets size (end_location p) (n + 1) count k (and_parts (is_place size end p) _ h).1 (omega arith) in
     subst (λ x. is_within (place_of places x).kind (sets x) ≡ true) (omega arith) more
 
 module_within : (j : JobView) (tables : TablesView) (sets : ℕ → FactSet) (m : ℕ) (earlier : List MarkedView) → is_module earlier (marked_module j tables sets m) ≡ true → AreWithin tables sets m
@@ -100,18 +101,18 @@ module_within j tables sets m earlier h n from to =
     let count = place_count tables.tables m in
     let k = n - first in
     let at : first + k ≡ n = omega arith in
-    let places = both-right (is_count earlier (length own.places)) _ (both-right (is_size earlier own.base own.size) _ (both-right (is_base own.base) _ (both-right (is_new_name earlier own.name) _ h))) in
+    let places = (and_parts (is_count earlier (length own.places)) _ (and_parts (is_size earlier own.base own.size) _ (and_parts (is_base own.base) _ (and_parts (is_new_name earlier own.name) _ h).1).1).1).1 in
     subst (λ x. is_within (place_of tables.places x).kind (sets x) ≡ true) at (places_within own.base tables.places sets own.size 0 first count k places (omega arith))
 
 modules_within : (j : JobView) (tables : TablesView) (sets : ℕ → FactSet) (ms : List ℕ) (earlier : List MarkedView) → are_modules earlier (map (marked_module j tables sets) ms) ≡ true → All (AreWithin tables sets) ms
 modules_within j tables sets [] earlier h i d l = absurd (omega arith)
-modules_within j tables sets (m ∷ ms) earlier h zero d l = module_within j tables sets m earlier (both-left (is_module earlier (marked_module j tables sets m)) _ h)
+modules_within j tables sets (m ∷ ms) earlier h zero d l = module_within j tables sets m earlier (and_parts (is_module earlier (marked_module j tables sets m)) _ h).0
 modules_within j tables sets (m ∷ ms) earlier h (suc i) d l =
     let own = marked_module j tables sets m in
-    modules_within j tables sets ms (earlier ++ own ∷ []) (both-right (is_module earlier own) _ h) i d (omega arith)
+    modules_within j tables sets ms (earlier ++ own ∷ []) (and_parts (is_module earlier own) _ h).1 i d (omega arith)
 
 pub session_within : (j : JobView) (tables : TablesView) (sets : ℕ → FactSet) (s : ℕ) → are_marks (session_marks j tables sets s) ≡ true → All (AreWithin tables sets) (session_of j s).modules
-session_within j tables sets s h = modules_within j tables sets (session_of j s).modules [] (both-right (is_module_count (length (session_marks j tables sets s))) _ h)
+session_within j tables sets s h = modules_within j tables sets (session_of j s).modules [] (and_parts (is_module_count (length (session_marks j tables sets s))) _ h).1
 
 -- as many places as the tables have
 pub counts_united : (j : JobView) (tables : TablesView) (sets : ℕ → FactSet) (ms : List ℕ) (fs : List MarkedView) (k n : ℕ) (d : MarkedView) → k < length ms

@@ -1,5 +1,6 @@
 -- A file of the session's table is the session's marks with the file's sets.
-use Rattle.std.proofs.Common.{◌≡◌, ◌≢◌, ◌⊎◌, inl, inr, ℕ, ◌+◌, ◌<◌, ◌≤◌, zero, suc, Bool, true, false, ◌||◌, List, [], ◌∷◌, length, get_or, map, refl, ap, sym, ◌∙◌, subst, arith}
+use Rattle.std.proofs.Common.{◌≡◌, ◌≢◌, ◌⊎◌, inl, inr, ℕ, ◌+◌, ◌<◌, ◌≤◌, zero, suc, List, [], ◌∷◌, length, get_or, map, refl, ap, sym, ◌∙◌, subst, arith}
+use Rattle.std.proofs.Math.Bool.{or-false}
 use Rattle.std.proofs.lemmas.Bool.{cases_eq, cases_lt}
 use Rattle.std.proofs.lemmas.List.{get_or_default}
 use Rattle.cov_base.specs.Lists.{Differ}
@@ -32,12 +33,8 @@ joined_modules : (m n : MarkedView) (ms ns : List MarkedView) → m ≡ n → ms
 joined_modules m n ms ns e f = rw (e, f) refl
 
 -- empty sets add nothing
-or_false : (a : Bool) → (a || false) ≡ a
-or_false true = refl
-or_false false = refl
-
 none_added : (s : FactSet) → union s no_facts ≡ s
-none_added s = rw (or_false s.ran, or_false s.went, or_false s.stayed) refl
+none_added s = rw (or-false s.ran, or-false s.went, or-false s.stayed) refl
 
 places_kept : (base : ℕ) (places : List Place) (n count : ℕ) (qs : List MarkedPlace) → unite_places qs (marked_places base places empty n count) ≡ qs
 places_kept base places n count [] = refl

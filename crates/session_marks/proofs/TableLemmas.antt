@@ -1,6 +1,6 @@
 -- The table of a module among those of a job, and how many places modules have together.
-use Rattle.std.proofs.Common.{◌≡◌, ◌≢◌, ◌⊎◌, inl, inr, ℕ, ◌+◌, ◌-◌, ◌<◌, ◌≤◌, suc, Bool, true, false, nat_eq, List, [], ◌∷◌, ◌++◌, length, All, refl, sym, ap, ◌∙◌, arith, length-append}
-use Rattle.std.proofs.lemmas.Bool.Decides.{nat_tests}
+use Rattle.std.proofs.Common.{◌≡◌, ◌≢◌, ◌⊎◌, inl, inr, ℕ, ◌+◌, ◌-◌, ◌<◌, ◌≤◌, suc, List, [], ◌∷◌, ◌++◌, length, All, refl, sym, ap, ◌∙◌, arith, length-append}
+use Rattle.std.proofs.lemmas.Bool.{cases_eq}
 use Rattle.std.proofs.lemmas.List.{get_or_append_left, get_or-append_right}
 use Rattle.std.proofs.lemmas.List.Elements.{All-tail}
 use Rattle.cov_base.specs.Lists.{Differ}
@@ -17,13 +17,6 @@ pub record OwnTable (images : List ImageView) (tables : List TableView) (m : ℕ
   pub of : table.«module» ≡ m
   pub count : place_count tables m ≡ length table.places
   pub place : (k : ℕ) → k < length table.places → place_of (all_places tables) (first_place tables m + k) ≡ place_of table.places k
-
-cases_same : (a b : ℕ) → (a ≡ b) ⊎ (a ≢ b)
-cases_same a b = by (nat_eq a b) refl
-  where
-    by : (t : Bool) → nat_eq a b ≡ t → (a ≡ b) ⊎ (a ≢ b)
-    by true e = inl (grind (arith, nat_tests))
-    by false e = inr (λ s. grind (arith, nat_tests))
 
 own_here : (images : List ImageView) (t : TableView) (ts : List TableView) (m : ℕ) → IsTableOf images t → t.«module» ≡ m → OwnTable images (t ∷ ts) m
 own_here images t ts m is of = record {
@@ -50,7 +43,7 @@ own_later images t ts m differ o = record {
 -- a module without places, or with a table of its own
 pub own_table : (images : List ImageView) (tables : List TableView) (m : ℕ) → All (IsTableOf images) tables → (place_count tables m ≡ 0) ⊎ OwnTable images tables m
 own_table images [] m are = inl refl
-own_table images (t ∷ ts) m are = elim (cases_same t.«module» m) [
+own_table images (t ∷ ts) m are = elim (cases_eq t.«module» m) [
   | inl of ↦ inr (own_here images t ts m (are 0 t (omega arith)) of)
   | inr differ ↦ elim (own_table images ts m (All-tail (IsTableOf images) t ts are)) [
     | inl none ↦ inl (count-past t ts m differ ∙ none)
@@ -82,7 +75,7 @@ none_here t ts (m ∷ ms) h =
 
 one_table : (t : TableView) (ts : List TableView) (ms : List ℕ) → Differ ms → count_of (t ∷ ts) ms ≤ length t.places + count_of ts ms
 one_table t ts [] h = omega arith
-one_table t ts (m ∷ ms) h = elim (cases_same t.«module» m) [
+one_table t ts (m ∷ ms) h = elim (cases_eq t.«module» m) [
   | inl of ↦ (let first = count-here t ts m of in
       let rest = none_here t ts ms (λ k d l e. first_differs m ms h k d l (sym of ∙ e)) in
       omega (arith, first, rest))

@@ -1,10 +1,11 @@
 use Rattle.std.proofs.Common.{◌≡◌, true, ℕ, List, length, map, ap, sym, ◌∙◌}
+use Rattle.std.proofs.lemmas.Bool.{and_from, and_parts}
 use Rattle.std.specs.Vec.{with_items}
 use Rattle.std.proofs.lemmas.List.{with_items_is, length-map}
 use Rattle.cov_base.specs.Meaning.{FactSet, no_facts}
 use Rattle.brk_table.specs.Meaning.{TablesView}
 use Rattle.marks_file.specs.Meaning.{MarkedView, MarksView, is_runs, are_marks}
-use Rattle.marks_file.proofs.Laws.{is_session_name, both-left, both-right, both, kept_modules, same_marks}
+use Rattle.marks_file.proofs.Laws.{is_session_name, kept_modules, same_marks}
 use Rattle.session_book.specs.Meaning.{JobView, session_of}
 use Rattle.session_marks.specs.Filled.{filled}
 use Rattle.session_marks.specs.Meaning.{marked_module, session_file}
@@ -30,8 +31,8 @@ invariant_of-marks g c =
     let size : length c.fill_modules.new.marked ≡ length c.marks.inside.modules.items = ap length new ∙ (length-map ms (marked_module j t sets) ∙ (sym (length-map ms (marked_module j t (λ n. no_facts))) ∙ sym (ap length old))) in
     let kept : (with_items c.marks.inside.modules c.fill_modules.new.marked).items ≡ c.fill_modules.new.marked = with_items_is c.marks.inside.modules c.fill_modules.new.marked (size ∙ sym c.marks.inside.modules.ok.0) in
     let was : are_marks c.marks.inside.modules.items ≡ true = kept_modules (record { name = c.marks.inside.name; runs = c.marks.inside.runs; modules = c.marks.inside.modules.items }) c.marks.invariant in
-    both (is_session_name c.marks.inside.name) _ (both-left (is_session_name c.marks.inside.name) _ c.marks.invariant)
-    (both (is_runs c.marks.inside.runs) _ (both-left (is_runs c.marks.inside.runs) _ (both-right (is_session_name c.marks.inside.name) _ c.marks.invariant))
+    and_from (is_session_name c.marks.inside.name) _ (and_parts (is_session_name c.marks.inside.name) _ c.marks.invariant).0
+    (and_from (is_runs c.marks.inside.runs) _ (and_parts (is_runs c.marks.inside.runs) _ (and_parts (is_session_name c.marks.inside.name) _ c.marks.invariant).1).0
     (ap are_marks (kept ∙ new) ∙ filled_are_marks j t (λ n. no_facts) sets ms (record { job = c.modules_of.ensures.job; are = c.requires.tables; places = c.range.ensures.all }) is.some is.modules is.differ c.requires.sets.within (ap are_marks (sym old) ∙ was)))
 
 pub returns : goal.returns
