@@ -1,6 +1,6 @@
 -- Passes split off, counted with and joined, and the counts of a phase.
-use Rattle.std.proofs.Common.{◌≡◌, inl, inr, ℕ, ◌+◌, ◌<◌, true, nat_lt, if◌then◌else◌, List, [], ◌∷◌, ◌++◌, length, get_or, IfOk, refl, sym, ◌∙◌, ap, subst, arith}
-use Rattle.std.proofs.lemmas.Bool.Decides.{nat_tests}
+use Rattle.std.proofs.Common.{◌≡◌, inl, inr, ℕ, ◌+◌, ◌<◌, true, nat_lt, if◌then◌else◌, List, [], ◌∷◌, ◌++◌, length, get_or, IfOk, refl, sym, ◌∙◌, ap, subst, arith, lt-ltb}
+use Rattle.std.proofs.lemmas.Bool.{cases_eq}
 use Rattle.std.proofs.lemmas.List.{get_or_append_left, length-append}
 use Rattle.std.proofs.Math.Seq.{get_or-append_seam}
 use Rattle.std.specs.declared.result.Result.{Result}
@@ -19,7 +19,7 @@ use Rattle.job_run.specs.Crews.{all_tasks, phase_at}
 use Rattle.job_run.specs.Meaning.{result_of_run, trace_by}
 use Rattle.job_run.specs.Tasks.{HasNotRun, IsEnded, done_result, own_run}
 use Rattle.job_run.specs.declared.outcome.Done.{Done}
-use Rattle.job_run.proofs.Laws.{same_or, traces-map, begun_run, private_of}
+use Rattle.job_run.proofs.Laws.{traces-map, begun_run, private_of}
 use Rattle.count_session.specs.Meaning.{count_at, count_of_all}
 use Rattle.count_session.specs.Counting.{Adds}
 use Rattle.count_session.specs.Notes.{CountNotes, root_notes}
@@ -38,9 +38,6 @@ has_ended plan j places t d e of b result filled = record {
   filled = filled ∙ (ap (λ (m : Memory). m.private) b.begun.memory ∙ private_of (task_of j t).private j.images places);
 }
 
-lt_true : (n : ℕ) → 0 < n → nat_lt 0 n ≡ true
-lt_true n h = grind (arith, nat_tests)
-
 -- what a fresh pass has counted by a run
 pub counted_there : (cells : CountCells) (visits : List Visit) (old new : CountPass) → IsFresh cells old → IsPassOf cells new → Adds (plan_in cells) (notes_of cells old) (notes_of cells new) visits → HasCounted cells visits new
 counted_there cells visits old new fresh area a = record {
@@ -48,7 +45,7 @@ counted_there cells visits old new fresh area a = record {
   task = ap (λ (n : CountNotes). n.root) a.same ∙ fresh.task;
   one = ap (λ (n : CountNotes). n.passes) a.same ∙ fresh.one;
   added = λ q f l w.
-      let is : (notes_of cells old).planted q ≡ true = fresh.planted q l ∙ lt_true (window_at (plan_in cells) q) w in
+      let is : (notes_of cells old).planted q ≡ true = fresh.planted q l ∙ lt-ltb 0 (window_at (plan_in cells) q) w in
       a.added q f l ∙ (ap (λ n. n + (if (notes_of cells old).planted q then count_at (place_of (plan_in cells).places q) f visits else 0)) (fresh.added q f)
       ∙ (ap (λ b. 0 + (if b then count_at (place_of (plan_in cells).places q) f visits else 0)) is ∙ (let z : 0 + count_at (place_of (plan_in cells).places q) f visits ≡ count_at (place_of (plan_in cells).places q) f visits = omega arith in z)));
 }
@@ -90,7 +87,7 @@ is_counted j places phase cells root counts of joined has =
 pub AreCounted-more : (j : JobView) (places : List Place) (phase : ℕ) (counts : List (List PlaceCount)) (c : List PlaceCount) → AreCounted j places phase counts → IsCounted j places phase c → AreCounted j places (phase + 1) (counts ++ c ∷ [])
 AreCounted-more j places phase counts c a h = (
   (let long = length-append counts (c ∷ []) in let size = a.0 in omega arith),
-  λ k d l. elim (same_or k phase) [
+  λ k d l. elim (cases_eq k phase) [
     | inl last ↦
         let found : get_or (counts ++ c ∷ []) k d ≡ c = ap (λ n. get_or (counts ++ c ∷ []) n d) (last ∙ sym a.0) ∙ get_or-append_seam counts c [] d in
         subst (IsCounted j places k) (sym found) (subst (λ n. IsCounted j places n c) (sym last) h)

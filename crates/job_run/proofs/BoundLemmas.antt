@@ -1,7 +1,8 @@
 -- What a task's pass leaves of the task's sessions, passes joined one after the other, and the bounds of the sets.
-use Rattle.std.proofs.Common.{◌≡◌, ◌↔◌, ℕ, ◌+◌, ◌*◌, ◌<◌, ◌≤◌, ◌^◌, Bool, true, false, ◌&&◌, ◌||◌, ◌==◌, if◌then◌else◌, nat_eq, Option, Some, None, List, [], ◌∷◌, ◌++◌, length, get_or, take, drop, All, inl, inr, refl, sym, ◌∙◌, ap, subst, arith, eqb-true, eq-eqb, zero-add}
+use Rattle.std.proofs.Common.{◌≡◌, ◌↔◌, ℕ, ◌+◌, ◌*◌, ◌<◌, ◌≤◌, ◌^◌, Bool, true, false, ◌&&◌, ◌||◌, ◌==◌, if◌then◌else◌, nat_eq, Option, Some, None, List, [], ◌∷◌, ◌++◌, length, get_or, take, drop, All, inl, inr, refl, sym, ◌∙◌, ap, subst, arith, eqb-true, eq-eqb, zero-add, zero, suc, AllPairs, ne_eqb}
+use Rattle.std.proofs.Math.Bool.{and-false, and-true}
 use Rattle.std.specs.List.{filter}
-use Rattle.std.proofs.lemmas.Bool.{or_cases, or_left, or_right, and_from, both_ways, cases_Bool}
+use Rattle.std.proofs.lemmas.Bool.{or_cases, or_left, or_right, and_from, both_ways, cases_Bool, and_right}
 use Rattle.std.proofs.lemmas.List.{get_or_default, take-append-drop}
 use Rattle.std.proofs.lemmas.List.Folds.{list_any-append}
 use Rattle.std.proofs.lemmas.List.Sums.{sum_by_push}
@@ -51,27 +52,16 @@ same_step plan old last s p open_at x v window kept exists pair = elim (cases_Bo
 ]
   where
     there : (b o : Bool) → (o && (b && true)) ≡ ((true && o) && b)
-    there true true = refl
-    there true false = refl
-    there false true = refl
-    there false false = refl
+    there b o = ap (λ q. o && q) (and-true b)
 
     nowhere : (b o : Bool) → (o && (b && false)) ≡ ((false && o) && b)
-    nowhere true true = refl
-    nowhere true false = refl
-    nowhere false true = refl
-    nowhere false false = refl
+    nowhere b o = and_right o (b && false) (and-false b)
 
 -- the facts of a visit where the session is open
 filtered : (place : Place) (o : Bool) (v : Visit) (vs : List Visit) (f : Fact) →
     has_fact (facts_at place (if o then v ∷ vs else vs)) f ≡ (((o && executes place v) && same_fact f (fact_of place.kind v.went)) || has_fact (facts_at place vs) f)
 filtered place true v vs f = has_fact-more (executes place v) (fact_of place.kind v.went) f (facts_at place vs)
 filtered place false v vs f = refl
-
-nothing : (o b : Bool) → (o && (b && false)) ≡ false
-nothing true true = refl
-nothing true false = refl
-nothing false b = refl
 
 -- a visit at no place shows nothing at this one
 elsewhere : (plan : PlanView) (p : ℕ) (v : Visit) (o : Bool) → p < length plan.places → is_place plan.places v.at ≡ false → (o && executes (place_of plan.places p) v) ≡ false
@@ -80,7 +70,7 @@ elsewhere plan p v o exists none =
       | inl e ↦ absurd (both_ways (is_place plan.places v.at) none (is_place-there plan.places p v.at exists (sym (eqb-true v.at (place_of plan.places p).at e))))
       | inr e ↦ e
     ] in
-    rw not_at (nothing o v.begun)
+    rw not_at (and_right o (v.begun && false) (and-false v.begun))
 
 same_under : (plan : PlanView) (old : Notes) (last : ℕ → ℕ → ℕ) (s p : ℕ) (open_at : ℕ → Bool) (f : Fact) →
     ((before : ℕ) → nat_eq (last before p + 1) (2 * s) ≡ open_at before) → keeps plan old p ≡ true → p < length plan.places →

@@ -1,5 +1,6 @@
 -- The slots of a phase's tasks, step by step.
 use Rattle.std.proofs.Common.{◌≡◌, ℕ, ◌<◌, Bool, true, false, Option, Some, None, List, length, get_or, refl, sym, ◌∙◌, ap, subst, arith}
+use Rattle.std.proofs.lemmas.Bool.{false_from_ne_true}
 use Rattle.std.proofs.lemmas.Option.{same_Some}
 use Rattle.job_run.specs.Crews.{PhaseView, IsTaskOf, is_its, EachAt, Each, Own, AreReady, GetsPass, CanGo, HasGone, GoesWith, Goes, IsBack}
 use Rattle.job_run.specs.declared.outcome.Done.{Done}
@@ -77,11 +78,7 @@ module _ {P E : Type 0} (fresh run : ℕ → P → Type 0) (can : ℕ → Done �
 
   -- where there is none the task is none of the phase
   pub not_its : (t : ℕ) (old mid : Slot P E) → Own p (HasGone run ends) t old mid → mid.pass ≡ None → is_its p t ≡ false
-  not_its t old mid g h = by_phase (is_its p t) refl
-    where
-      by_phase : (b : Bool) → is_its p t ≡ b → is_its p t ≡ false
-      by_phase true e = let gone = g.its e in let never : None ≡ Some gone.pass = sym h ∙ gone.has in absurd cc
-      by_phase false e = e
+  not_its t old mid g h = false_from_ne_true (is_its p t) (λ e. let gone = g.its e in let never : None ≡ Some gone.pass = sym h ∙ gone.has in absurd cc)
 
   pub stays_out : (known : P → Type 0) (t : ℕ) (old mid : Slot P E) → Own p (HasGone run ends) t old mid → mid.pass ≡ None → Own p (IsBack ends known) t old (record mid { pass = None })
   stays_out known t old mid g h = record {

@@ -1,11 +1,9 @@
 -- A step that the elements of a list go one after the other, and one that those of a part go.
-use Rattle.std.proofs.Common.{◌≡◌, ◌≢◌, ◌⊎◌, inl, inr, ℕ, ◌+◌, ◌<◌, ◌≤◌, List, length, get_or, set, sym, ◌∙◌, ap, subst, arith}
+use Rattle.std.proofs.Common.{◌≡◌, inl, inr, ℕ, ◌+◌, ◌<◌, ◌≤◌, List, length, get_or, set, sym, ◌∙◌, ap, subst, arith}
+use Rattle.std.proofs.lemmas.Bool.{cases_eq}
 use Rattle.std.proofs.lemmas.Grind.{get_or-set_at}
 use Rattle.std.proofs.lemmas.List.{get_or_default, get_or-set_other, length-set}
 use Rattle.job_run.specs.Crews.{Each}
-
-pub same_or : (t n : ℕ) → (t ≡ n) ⊎ (t ≢ n)
-same_or t n = grind arith
 
 -- the elements before the next have gone the second step, and the others the first
 pub record Along {X : Type 0} (first second : ℕ → X → X → Type 0) (next : ℕ) (old new : List X) : Type 0 where
@@ -21,7 +19,7 @@ pub Along-one : {X : Type 0} (first second : ℕ → X → X → Type 0) (next :
     ((d : X) → first next (get_or old next d) (get_or mid next d) → second next (get_or old next d) (f (get_or mid next d))) → Along first second next old mid → Along first second (next + 1) old (set mid next e)
 Along-one first second next old mid e none f here is step a = record {
   count = length-set mid next e ∙ a.count;
-  gone = λ t d below l. elim (same_or t next) [
+  gone = λ t d below l. elim (cases_eq t next) [
     | inl same ↦
         let written : get_or (set mid next e) t d ≡ f (get_or mid next d) = get_or-set_at mid next t e d same there ∙ (is ∙ ap f (get_or_default mid next none d there)) in
         subst (second t (get_or old t d)) (sym written)
@@ -40,7 +38,7 @@ pub Along-other : {X : Type 0} (first second : ℕ → X → X → Type 0) (next
     ((d : X) → first next (get_or old next d) (get_or mid next d) → second next (get_or old next d) (get_or mid next d)) → Along first second next old mid → Along first second (next + 1) old mid
 Along-other first second next old mid step a = record {
   count = a.count;
-  gone = λ t d below l. elim (same_or t next) [
+  gone = λ t d below l. elim (cases_eq t next) [
     | inl same ↦ subst (λ k. second k (get_or old k d) (get_or mid k d)) (sym same) (step d (a.left next d (omega arith) (omega (arith, same, l))))
     | inr other ↦ a.gone t d (omega (arith, below, other)) l
   ];

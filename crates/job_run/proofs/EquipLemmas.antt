@@ -1,6 +1,6 @@
 -- Tasks that get their sessions and extras.
 use Rattle.std.proofs.Common.{[], ◌≡◌, inl, inr, ℕ, ◌<◌, ◌≤◌, true, false, nat_eq, nat_lt, None, List, ◌∷◌, ◌++◌, length, get_or, sym, ◌∙◌, ap, subst, arith}
-use Rattle.std.proofs.lemmas.Bool.{cases_Bool}
+use Rattle.std.proofs.lemmas.Bool.{cases_Bool, cases_eq}
 use Rattle.std.proofs.lemmas.Bool.Decides.{nat_tests}
 use Rattle.std.proofs.lemmas.List.{get_or_append_left, length-append}
 use Rattle.std.proofs.Math.Seq.{get_or-append_seam}
@@ -13,7 +13,7 @@ use Rattle.job_run.specs.Passes.{AreEquipped, HasStart}
 use Rattle.job_run.specs.Slots.{in_phase, AreEmpty, KeepsOthers}
 use Rattle.job_run.specs.Tasks.{Begins, AreRun, HasNotRun, IsEnded}
 use Rattle.job_run.specs.declared.slots.Slot.{Slot}
-use Rattle.job_run.proofs.EachLemmas.{Along, Along-all, same_or}
+use Rattle.job_run.proofs.EachLemmas.{Along, Along-all}
 
 not_run : (p phase : ℕ) → nat_eq p phase ≡ true → nat_lt p phase ≡ false
 not_run p phase h = grind (arith, nat_tests)
@@ -62,7 +62,7 @@ module _ {P E : Type 0} (course : Course) (begins : Begins E) (plan : PlanView) 
 pub begun_more : {P E : Type 0} (j : JobView) (places : List Place) (slots : List (Slot P E)) (e : Slot P E) →
     ((k : ℕ) (d : Slot P E) → k < length slots → HasNotRun j places k (get_or slots k d).done) → HasNotRun j places (length slots) e.done →
     (k : ℕ) (d : Slot P E) → k < length (slots ++ e ∷ []) → HasNotRun j places k (get_or (slots ++ e ∷ []) k d).done
-begun_more j places slots e begun last k d l = elim (same_or k (length slots)) [
+begun_more j places slots e begun last k d l = elim (cases_eq k (length slots)) [
   | inl at ↦
       let found : get_or (slots ++ e ∷ []) k d ≡ e = ap (λ n. get_or (slots ++ e ∷ []) n d) at ∙ get_or-append_seam slots e [] d in
       subst (λ (s : Slot _ _). HasNotRun j places k s.done) (sym found) (subst (λ (n : ℕ). HasNotRun j places n e.done) (sym at) last)
@@ -72,7 +72,7 @@ begun_more j places slots e begun last k d l = elim (same_or k (length slots)) [
 ]
 
 pub empty_more : {P E : Type 0} (slots : List (Slot P E)) (e : Slot P E) → AreEmpty slots → e.pass ≡ None → AreEmpty (slots ++ e ∷ [])
-empty_more slots e empty none k d l = elim (same_or k (length slots)) [
+empty_more slots e empty none k d l = elim (cases_eq k (length slots)) [
   | inl at ↦ ap (λ s. s.pass) (ap (λ n. get_or (slots ++ e ∷ []) n d) at ∙ get_or-append_seam slots e [] d) ∙ none
   | inr other ↦
       let before : k < length slots = omega (arith, l, other, length-append slots (e ∷ [])) in

@@ -1,5 +1,6 @@
 -- The fetches of a task's pass, those of passes joined one after the other, and the sets that they make.
 use Rattle.std.proofs.Common.{◌≡◌, ◌⊎◌, ℕ, zero, suc, ◌<◌, ◌≤◌, min, max, Bool, true, false, ◌&&◌, ◌||◌, if◌then◌else◌, nat_eq, Option, List, [], ◌∷◌, ◌++◌, length, get_or, take, All, AllPairs, inl, inr, refl, sym, ◌∙◌, ap, subst, arith, eqb-true, eq-eqb}
+use Rattle.std.proofs.Math.Bool.{or-false, or_assoc}
 use Rattle.std.proofs.lemmas.Bool.{or_cases, or_left, or_right, and_from, and_parts, both_ways, cases_Bool}
 use Rattle.std.proofs.lemmas.List.Folds.{list_any-append}
 use Rattle.cov_base.specs.Meaning.{FactSet, has_fact, same_fact, fact_of, no_facts, union, Visit}
@@ -16,7 +17,7 @@ use Rattle.module_area.specs.Tied.{IsTied}
 use Rattle.module_area.proofs.Laws.{same_tests, any_shown, one_controller}
 use Rattle.task_run.specs.Answered.{known_tag, ArePairs, IsPair}
 use Rattle.task_run.specs.Meaning.{at_places, facts_under, is_under, tag_by, Walk}
-use Rattle.task_run.proofs.Laws.{has_fact-more, or_apart, rises_all, rises_between, tag_last}
+use Rattle.task_run.proofs.Laws.{has_fact-more, or_apart, rises_all, rises_between, tag_last, has_fact-none, has_fact-full_of, has_fact-union, is_of_kind-fact_of, same_sets}
 use Rattle.task_run.specs.Controlled.{last_by, Follows}
 use Rattle.job_run.specs.Bounds.{HasFetched, HaveFetched}
 use Rattle.job_run.specs.Meaning.{IsFetch, AreFetches, facts_met, IsExact}
@@ -119,24 +120,20 @@ met_before plan walks fetches own s p t (u ∷ us) none = by_first (nat_eq u.0 t
         let here : with_task fetches t own u.0 ≡ fetches u.0 = ap (λ (b : Bool). if b then own else fetches u.0) e in
         ap (λ (xs : List (ℕ × Cell)). union (its xs) (facts_met plan walks (with_task fetches t own) s p us)) here ∙ ap (λ (more : FactSet). union (its (fetches u.0)) more) (rest none)
 
-or_none : (b : Bool) → (b || false) ≡ (false || b)
-or_none true = refl
-or_none false = refl
-
 -- one task more at the end
 met_last : (plan : PlanView) (walks : ℕ → Walk) (fetches : ℕ → List (ℕ × Cell)) (s p : ℕ) (f : Fact) (tasks : List TaskNo) (t : TaskNo) →
     has_fact (facts_met plan walks fetches s p (tasks ++ t ∷ [])) f
     ≡ (has_fact (facts_met plan walks fetches s p tasks) f || has_fact (facts_under plan s p (fetches t.0) (at_places plan.places (walks t.0).trace)) f)
 met_last plan walks fetches s p f [] t =
     let own : FactSet = facts_under plan s p (fetches t.0) (at_places plan.places (walks t.0).trace) in
-    has_fact-union own no_facts f ∙ (ap (λ (b : Bool). has_fact own f || b) (has_fact-none f) ∙ (or_none (has_fact own f) ∙ ap (λ (b : Bool). b || has_fact own f) (sym (has_fact-none f))))
+    has_fact-union own no_facts f ∙ (ap (λ (b : Bool). has_fact own f || b) (has_fact-none f) ∙ (or-false (has_fact own f) ∙ ap (λ (b : Bool). b || has_fact own f) (sym (has_fact-none f))))
 met_last plan walks fetches s p f (u ∷ us) t =
     let first : FactSet = facts_under plan s p (fetches u.0) (at_places plan.places (walks u.0).trace) in
     let own : FactSet = facts_under plan s p (fetches t.0) (at_places plan.places (walks t.0).trace) in
     let more : FactSet = facts_met plan walks fetches s p us in
     has_fact-union first (facts_met plan walks fetches s p (us ++ t ∷ [])) f
     ∙ (ap (λ (b : Bool). has_fact first f || b) (met_last plan walks fetches s p f us t)
-    ∙ (or_apart (has_fact first f) (has_fact more f) (has_fact own f) ∙ ap (λ (b : Bool). b || has_fact own f) (sym (has_fact-union first more f))))
+    ∙ (sym (or_assoc (has_fact first f) (has_fact more f) (has_fact own f)) ∙ ap (λ (b : Bool). b || has_fact own f) (sym (has_fact-union first more f))))
 
 met_more : (plan : PlanView) (walks : ℕ → Walk) (fetches : ℕ → List (ℕ × Cell)) (own : List (ℕ × Cell)) (s p : ℕ) (f : Fact) (tasks : List TaskNo) (t : ℕ) → has_task tasks t ≡ false →
     has_fact (facts_met plan walks (with_task fetches t own) s p (tasks ++ record { 0 = t } ∷ [])) f

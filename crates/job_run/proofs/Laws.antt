@@ -1,7 +1,6 @@
 -- What crates above may cite of this crate's lemmas: the others are its own.
 pub use Rattle.job_run.proofs.BackLemmas.{have_run, are_empty, whatever}
 pub use Rattle.job_run.proofs.BeforeLemmas.{before_one, few_before}
-pub use Rattle.job_run.proofs.EachLemmas.{same_or}
 pub use Rattle.job_run.proofs.EquipLemmas.{begun_in}
 pub use Rattle.job_run.proofs.PhaseLemmas.{written}
 pub use Rattle.job_run.proofs.SessionLemmas.{window_at-session, phase_in, set_is_left}

@@ -1,7 +1,7 @@
 -- Where the tasks of a phase stand among those of the job.
-use Rattle.std.proofs.Common.{◌≡◌, inl, inr, ℕ, ◌+◌, ◌-◌, ◌<◌, ◌≤◌, Bool, true, false, List, ◌++◌, length, get_or, take, drop, refl, sym, ◌∙◌, ap, subst, arith}
+use Rattle.std.proofs.Common.{◌≡◌, inl, inr, ℕ, ◌+◌, ◌-◌, ◌<◌, ◌≤◌, false, List, ◌++◌, length, get_or, take, drop, sym, ◌∙◌, ap, subst, arith}
 use Rattle.std.proofs.lemmas.List.{get_or-drop, get_or-take, get_or_append_left, get_or-append_right, length-append, length-drop, length-take-le}
-use Rattle.std.proofs.lemmas.Bool.{cases_lt}
+use Rattle.std.proofs.lemmas.Bool.{cases_lt, false_from_ne_true}
 use Rattle.session_book.specs.Meaning.{JobView}
 use Rattle.job_run.specs.Crews.{Each, EachAt}
 use Rattle.job_run.specs.Slots.{in_phase, IsRange}
@@ -38,11 +38,7 @@ each_in_part good xs a e order exists each k d l =
     subst (good (a + k)) (sym (part_at xs a (e - a) k d here)) (each (a + k) d (omega (arith, here, exists)))
 
 not_there : (j : JobView) (phase a e t : ℕ) → IsRange j phase (length j.tasks) a e → t < length j.tasks → ((a ≤ t) → (t < e) → t < t) → in_phase j phase t ≡ false
-not_there j phase a e t r l out = by_phase (in_phase j phase t) refl
-  where
-    by_phase : (b : Bool) → in_phase j phase t ≡ b → in_phase j phase t ≡ false
-    by_phase true h = let i = r.all t l h in absurd (omega (arith, out i.0 i.1))
-    by_phase false h = h
+not_there j phase a e t r l out = false_from_ne_true (in_phase j phase t) (λ h. let i = r.all t l h in absurd (omega (arith, out i.0 i.1)))
 
 made_there : {X : Type 0} (step : X → X → Type 0) (x x' y y' : X) → x ≡ x' → y ≡ y' → step x y → step x' y'
 made_there step x x' y y' p q s = subst (λ z. step z y') p (subst (step x) q s)

@@ -1,7 +1,8 @@
 -- Passes of an area split off, run with and joined.
 use Rattle.std.proofs.Common.{[], ◌≡◌, inl, inr, ℕ, ◌+◌, ◌<◌, ◌≤◌, ◌^◌, Bool, true, false, not, ◌&&◌, ◌||◌, nat_eq, Option, unwrap_or, List, ◌∷◌, ◌++◌, length, map, refl, sym, ◌∙◌, ap, subst, arith}
+use Rattle.std.specs.Cmp.{nat_eq_equiv}
+use Rattle.std.proofs.Math.Bool.{and-true, or-false}
 use Rattle.std.proofs.lemmas.Bool.{cases_Bool, eqb-true}
-use Rattle.std.proofs.lemmas.Bool.Decides.{nat_tests}
 use Rattle.std.proofs.lemmas.List.{append_assoc, append-nil, length-append}
 use Rattle.std.proofs.lemmas.List.Folds.{list_any-append}
 use Rattle.cov_base.specs.Meaning.{Memory, Visit}
@@ -70,19 +71,8 @@ all_visits course j places phase = ap joined (traces-map 0 j.tasks phase (trace_
 
 -- the root, while passes are split off and joined
 
-symmetric : (a b : ℕ) → nat_eq a b ≡ nat_eq b a
-symmetric a b = grind (arith, nat_tests)
-
 has_more : (ts : List TaskNo) (t u : ℕ) → (has_task ts u || nat_eq u t) ≡ has_task (ts ++ record { 0 = t } ∷ []) u
-has_more ts t u = ap (λ b. has_task ts u || b) (symmetric u t ∙ or_false (nat_eq t u)) ∙ sym (list_any-append (λ (v : TaskNo). nat_eq v.0 u) ts (record { 0 = t } ∷ []))
-  where
-    or_false : (b : Bool) → b ≡ (b || false)
-    or_false true = refl
-    or_false false = refl
-
-and_true : (b : Bool) → (b && true) ≡ b
-and_true true = refl
-and_true false = refl
+has_more ts t u = ap (λ b. has_task ts u || b) (nat_eq_equiv.symm u t ∙ sym (or-false (nat_eq t u))) ∙ sym (list_any-append (λ (v : TaskNo). nat_eq v.0 u) ts (record { 0 = t } ∷ []))
 
 out_less : (g b e : Bool) → ((g && not b) && not e) ≡ (g && not (b || e))
 out_less true true e = refl
@@ -118,7 +108,7 @@ module _ {P : Type 0} (is_pass : P → Type 0) (notes : P → Notes) (plan : Pla
   }
     where
       out_more : (u : ℕ) → ((has_task given u && true) || nat_eq u t) ≡ (has_task (given ++ record { 0 = t } ∷ []) u && true)
-      out_more u = ap (λ b. b || nat_eq u t) (and_true (has_task given u)) ∙ (has_more given t u ∙ sym (and_true (has_task (given ++ record { 0 = t } ∷ []) u)))
+      out_more u = ap (λ b. b || nat_eq u t) (and-true (has_task given u)) ∙ (has_more given t u ∙ sym (and-true (has_task (given ++ record { 0 = t } ∷ []) u)))
 
   pub taken-one : (old new other : P) (given back : List TaskNo) (t : ℕ) → IsPlan plan → has_task back t ≡ false → is_pass new → notes new ≡ after_join plan (notes old) (notes other) → HasJoined is_pass notes plan course j places old given back →
       HasSeen is_pass notes plan course j places t other → HasJoined is_pass notes plan course j places new given (back ++ record { 0 = t } ∷ [])

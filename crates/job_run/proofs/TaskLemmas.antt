@@ -1,8 +1,8 @@
 -- Tasks before and after their runs.
-use Rattle.std.proofs.Common.{◌≡◌, ◌≢◌, ◌⊎◌, inl, inr, ℕ, ◌+◌, ◌*◌, ◌<◌, ◌≤◌, ◌^◌, Bool, true, false, nat_eq, nat_lt, Option, Some, None, List, [], ◌∷◌, ◌++◌, length, get_or, ◌-◌, refl, sym, ◌∙◌, ap, subst, arith}
+use Rattle.std.proofs.Common.{◌≡◌, ◌≢◌, ◌⊎◌, inl, inr, ℕ, ◌+◌, ◌*◌, ◌<◌, ◌≤◌, ◌^◌, Bool, true, false, nat_eq, nat_lt, Option, Some, None, List, [], ◌∷◌, ◌++◌, length, get_or, ◌-◌, refl, sym, ◌∙◌, ap, subst, arith, take, drop, min, slice_range}
 use Rattle.std.proofs.lemmas.Bool.Decides.{nat_tests}
-use Rattle.std.proofs.lemmas.Bool.{eq-eqb, ltb-true, lt-ltb}
-use Rattle.std.proofs.lemmas.List.{get_or-map, get_or_append_left, length-map}
+use Rattle.std.proofs.lemmas.Bool.{eq-eqb, ltb-true, lt-ltb, cases_eq}
+use Rattle.std.proofs.lemmas.List.{get_or-map, get_or_append_left, length-map, length-drop, take_all}
 use Rattle.std.proofs.Math.Seq.{get_or-append_seam}
 use Rattle.std.proofs.lemmas.List.Elements.{All-get_or}
 use Rattle.cov_base.specs.Meaning.{FactSet, Memory, ImageView, State}
@@ -25,9 +25,6 @@ use Rattle.job_run.specs.Slots.{dones, in_phase, HaveExtras, HaveAllExtras, Keep
 use Rattle.job_run.specs.Tasks.{Ends, HasNotRun, HasExtra, IsEnded, AreNew, AreRun, has_run, done_result, no_result, results_of}
 use Rattle.job_run.specs.declared.outcome.Done.{Done}
 use Rattle.job_run.specs.declared.slots.Slot.{Slot}
-
-pub same_or : (t n : ℕ) → (t ≡ n) ⊎ (t ≢ n)
-same_or t n = grind arith
 
 same_run : (course : Course) (p p' : PlanView) (m m' : Memory) (b b' : ℕ) (s s' : State) → p ≡ p' → m ≡ m' → b ≡ b' → s ≡ s' → course p m b s ≡ course p' m' b' s'
 same_run course p p' m m' b b' s s' plan memory budget state =
@@ -79,14 +76,10 @@ run_few course plan before after j places t d e is b r none = few_calls (calls a
     few_calls : (n budget : ℕ) → n ≤ (6 + PLACE_LIMIT) * budget → budget ≤ BUDGET_LIMIT → n < 2 ^ 42
     few_calls n budget h k = omega arith
 
--- no task has run before the first phase
-pub none_earlier : (p : ℕ) → nat_lt p 0 ≡ true → ⊥
-none_earlier p h = absurd (omega (arith, ltb-true p 0 h))
-
 pub AreRun-start : {P E : Type 0} (course : Course) (j : JobView) (places : List Place) (slots : List (Slot P E)) → AreNew j places slots → AreRun course j places 0 slots
 AreRun-start course j places slots new = record {
   count = new.count;
-  ended = λ t d l h. absurd (none_earlier (task_of j t).phase h);
+  ended = λ t d l h. absurd (omega (arith, ltb-true (task_of j t).phase 0 h));
   begun = λ t d l h. new.begun t d l;
 }
 
@@ -183,7 +176,7 @@ other_phase p phase next h l = grind (arith, nat_tests)
 pub HaveAllExtras-next : {P E : Type 0} (ends : Ends E) (j : JobView) (places : List Place) (next : ℕ) (finals : List FinalsView) (f : FinalsView) (old new : List (Slot P E)) → length finals ≡ next →
     HaveAllExtras ends j places next finals old → KeepsOthers j next old new → HaveExtras ends j places next (set_at f) new → HaveAllExtras ends j places (next + 1) (finals ++ f ∷ []) new
 HaveAllExtras-next ends j places next finals f old new count a keeps last = record {
-  each = λ phase l. elim (same_or phase next) [
+  each = λ phase l. elim (cases_eq phase next) [
     | inl same ↦ subst (λ (p : ℕ). HaveExtras ends j places p (set_at (get_or (finals ++ f ∷ []) p no_finals)) new) (sym same)
         (subst (λ (g : FinalsView). HaveExtras ends j places next (set_at g) new) (sym (subst (λ (n : ℕ). get_or (finals ++ f ∷ []) n no_finals ≡ f) count (get_or-append_seam finals f [] no_finals))) last)
     | inr other ↦ earlier_phase phase (omega (arith, l, other))
