@@ -12,7 +12,6 @@ use Rattle.module_area.specs.declared.places.Place.{Place}
 use Rattle.brk_table.specs.Meaning.{TablesView, first_place, place_count}
 use Rattle.marks_file.specs.Meaning.{MarkedView}
 use Rattle.marks_file.specs.declared.marks.MarkedPlace.{MarkedPlace}
-use Rattle.marks_file.proofs.Laws.{same_bytes}
 use Rattle.session_book.specs.Meaning.{JobView, module_of}
 use Rattle.session_marks.specs.Meaning.{marked_place, marked_module, marked_places}
 use Rattle.evidence_check.specs.Meaning.{facts_of_places, facts_of_modules, Claim, agrees, past, past_place, past_places, place_claims, places_claims, modules_claims, first_refuted, entry_bytes, fact_bytes, place_entries, places_entries, module_entries}

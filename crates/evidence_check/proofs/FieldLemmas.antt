@@ -7,7 +7,7 @@ use Rattle.byteorder.specs.Endian.{big_bytes, big_number}
 use Rattle.byteorder.specs.Numbers.{big_number-reads_back}
 use Rattle.cov_base.specs.declared.limits.TheConstants.{BUDGET_LIMIT}
 use Rattle.marks_file.specs.Meaning.{first_bad}
-use Rattle.marks_file.proofs.Laws.{first_none, first_some, none_left, none_right, all_good, both-left, both-right, le_of_test}
+use Rattle.marks_file.proofs.Laws.{first_none, first_some, none_left, none_right, all_good}
 use Rattle.evidence_check.specs.Meaning.{entry_bytes, entry_fields, entries_fields}
 use Rattle.evidence_check.specs.declared.firsts.First.{First}
 

@@ -6,7 +6,6 @@ use Rattle.std.proofs.lemmas.List.{take-append-drop, nil_from_length}
 use Rattle.std.proofs.lemmas.Slice.Eq.{bytes_eq-Decides}
 use Rattle.brk_table.specs.Meaning.{TablesView}
 use Rattle.marks_file.specs.Meaning.{MarkedView, field, first_bad}
-use Rattle.marks_file.proofs.Laws.{same_bytes, both-right}
 use Rattle.session_book.specs.Meaning.{JobView, session_of}
 use Rattle.session_book.specs.JobView.{IsJob}
 use Rattle.session_marks.specs.FromFile.{IsOwn}

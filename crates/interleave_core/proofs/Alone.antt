@@ -3,7 +3,7 @@ use Rattle.std.proofs.Common.{◌≡◌, inl, inr, ℕ, zero, suc, ◌+◌, ◌-
 use Rattle.std.proofs.lemmas.Grind.{get_or-set_at}
 use Rattle.std.proofs.lemmas.List.{get_or-map, get_or-set_other, length-set, length-map}
 use Rattle.std.proofs.lemmas.Option.{same_Some}
-use Rattle.std.proofs.lemmas.Bool.{leb-true, ltb-true, leb-false}
+use Rattle.std.proofs.lemmas.Bool.{leb-true, ltb-true, leb-false, cases_eq}
 use Rattle.cov_base.specs.Meaning.{Memory, State, Visit}
 use Rattle.s370_state.specs.declared.endings.Ending.{Ending}
 use Rattle.s370_state.specs.declared.endings.Ending.TheVariants.{Returned, Spent}
@@ -18,7 +18,7 @@ use Rattle.module_area.specs.Meaning.{word_at}
 use Rattle.interleave_core.specs.CoreState.{CoreState, CoreStepped, core_start, core_step, core_after, core_from, core_run}
 use Rattle.interleave_core.specs.MeaningOfEvents.{IsAlone}
 use Rattle.interleave_core.proofs.Changes.{goes_on, Changed, plant_cases, close_by}
-use Rattle.interleave_core.proofs.Runs.{same_or, got, lifted_tasks, exists_by, in_hand-stage, through}
+use Rattle.interleave_core.proofs.Runs.{got, lifted_tasks, exists_by, in_hand-stage, through}
 use Rattle.interleave_core.specs.declared.events.Event.{Event}
 use Rattle.interleave_core.specs.declared.events.Event.TheVariants.{Fetch, Mark, Lift, Do, Plant, Close}
 use Rattle.interleave_core.specs.declared.stage.Hand.{Hand}
@@ -76,10 +76,10 @@ goes_stage m budget first u stage on was running g = record {
   inside = λ h. running;
 }
 
-due_in : (returned spent : Bool) (at : Option ℕ) (p : ℕ) → (if returned then None else (if spent then None else at)) ≡ Some p → (returned ≡ false) × (spent ≡ false)
+pub due_in : (returned spent : Bool) (at : Option ℕ) (p : ℕ) → (if returned then None else (if spent then None else at)) ≡ Some p → (returned ≡ false) × (spent ≡ false) × (at ≡ Some p)
 due_in true spent at p h = let n : None ≡ Some p = h in absurd cc
 due_in false true at p h = let n : None ≡ Some p = h in absurd cc
-due_in false false at p h = (refl, refl)
+due_in false false at p h = (refl, refl, h)
 
 fetch_in : (w : World) (t : ℕ) (u : TaskPart) (stage : Stage) (p : ℕ) → u.stage ≡ stage → place_due w t u stage ≡ Some p → Goes (memory_in w t) (budget_in w t) (first_state (task_of w.job t)) u →
     (has_ended u.stage ≡ false) × (has_returned u.state ≡ false) × (u.state.done < budget_in w t)
@@ -246,7 +246,7 @@ pub all_but : (w : World) (c d : Parts) (t : ℕ) (u : TaskPart) → d.tasks ≡
 all_but w c d t u e lt one all s l =
     let inside : s < length c.tasks = subst (λ (n : ℕ). s < n) (ap (λ (x : List TaskPart). length x) e ∙ length-set c.tasks t u) l in
     let there : part_of d s ≡ get_or (set c.tasks t u) s (first_part no_task) = ap (λ (x : List TaskPart). get_or x s (first_part no_task)) e in
-    elim (same_or s t) [
+    elim (cases_eq s t) [
       | inl same ↦ subst (λ (x : TaskPart). GoesAt w s x) (sym (there ∙ get_or-set_at c.tasks t s u (first_part no_task) same lt)) (subst (λ (n : ℕ). GoesAt w n u) (sym same) one)
       | inr other ↦ subst (λ (x : TaskPart). GoesAt w s x) (sym (there ∙ get_or-set_other c.tasks t s u (first_part no_task) other)) (all s inside)
     ]

@@ -2,7 +2,7 @@
 use Rattle.std.proofs.Common.{◌≡◌, ◌⊎◌, inl, inr, ℕ, ◌+◌, ◌*◌, ◌<◌, Bool, true, false, not, ◌&&◌, ◌||◌, nat_eq, nat_lt, if◌then◌else◌, Option, Some, None, is_none, List, ◌∷◌, length, refl, sym, ◌∙◌, ap, eqb-true}
 use Rattle.std.specs.Option.{option_and_then}
 use Rattle.std.proofs.lemmas.Option.{same_Some}
-use Rattle.std.proofs.lemmas.Bool.{ltb-true}
+use Rattle.std.proofs.lemmas.Bool.{ltb-true, and_parts}
 use Rattle.s370_exec.specs.Meaning.{has_returned}
 use Rattle.s370_state.specs.declared.endings.Ending.TheVariants.{Returned, Spent}
 use Rattle.module_area.specs.Meaning.{word_at}
@@ -60,11 +60,7 @@ is_done w t u v (Holding g) h = by (same_due g.due Nothing) g.subject (subject_p
 -- ---- Plant and Close
 
 pub may_by : (a b c d : Bool) → (a && (b && (c && d))) ≡ true → (a ≡ true) × (b ≡ true) × (c ≡ true) × (d ≡ true)
-may_by true true true true h = (refl, refl, refl, refl)
-may_by true true true false h = let f : false ≡ true = h in absurd cc
-may_by true true false d h = let f : false ≡ true = h in absurd cc
-may_by true false c d h = let f : false ≡ true = h in absurd cc
-may_by false b c d h = let f : false ≡ true = h in absurd cc
+may_by a b c d h = let x = and_parts a (b && (c && d)) h in let y = and_parts b (c && d) x.1 in let z = and_parts c d y.1 in (x.0, y.0, z.0, z.1)
 
 -- the controller of session s changed it at place p
 pub record Changed (w : World) (c : Parts) (closes : Bool) (s p : ℕ) (x : Stepped) : Type 0 where

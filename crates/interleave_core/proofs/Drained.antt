@@ -1,5 +1,6 @@
 -- A session that is drained is quiet.
 use Rattle.std.proofs.Common.{◌≡◌, ◌⊎◌, inl, inr, ℕ, ◌*◌, ◌<◌, ◌≤◌, true, false, nat_eq, Option, Some, is_some, List, [], ◌∷◌, length, set, IfOk, OnErr, refl, sym, ◌∙◌, ap, subst, arith, eqb-true}
+use Rattle.std.proofs.lemmas.Bool.{and_parts, or_cases}
 use Rattle.std.specs.List.{list_any}
 use Rattle.std.specs.declared.result.Result.{Result}
 use Rattle.std.specs.declared.result.Result.TheVariants.{Ok, Err}
@@ -8,7 +9,6 @@ use Rattle.std.proofs.lemmas.Option.{same_Some}
 use Rattle.module_area.specs.Meaning.{word_at, no_cell}
 use Rattle.module_area.specs.declared.cells.Cell.{Cell}
 use Rattle.module_area.specs.declared.parties.View.{View}
-use Rattle.module_area.proofs.Laws.{and_left, and_right, or_cases}
 use Rattle.interleave_core.specs.Meaning.{World, TaskPart, Parts, part_of, PlaceChange, ending_of, Stepped, parts_step, changed_cell, set_of}
 use Rattle.interleave_core.specs.World.{IsWorld}
 use Rattle.interleave_core.specs.CoreState.{CoreState, CoreStepped, core_start, core_step, core_from, core_run, planted_by}
@@ -55,8 +55,8 @@ close_tag w s p c (Close n q) x is this h =
     let y : PlaceChange = by.change in
     let u : TaskPart = part_of c by.task in
     let change : IsChange w c.cells by.task u y = due_is w c.cells by.task u u.stage y is.is_plan (is.tied by.task by.there) by.due in
-    let session : y.session ≡ s = by.session ∙ eqb-true n.0 s (and_left (nat_eq n.0 s) _ this) in
-    let place : p ≡ y.place.0 = sym (by.place ∙ eqb-true q.0 p (and_right (nat_eq n.0 s) _ this)) in
+    let session : y.session ≡ s = by.session ∙ eqb-true n.0 s (and_parts (nat_eq n.0 s) _ this).0 in
+    let place : p ≡ y.place.0 = sym (by.place ∙ eqb-true q.0 p (and_parts (nat_eq n.0 s) _ this).1) in
     let inside : y.place.0 < length c.cells = subst (λ (k : ℕ). y.place.0 < k) (sym is.cell_count) change.own.inside in
     let here : word_at (set c.cells y.place.0 (changed_cell w y)) p ≡ changed_cell w y = get_or-set_at c.cells y.place.0 p (changed_cell w y) no_cell place inside in
     let tag = changed_tag w y true y.session by.closes_is refl change.own.positive in
@@ -104,7 +104,7 @@ ends_clear : (s : ℕ) (e : Event) (t : ℕ) (c : Parts) → ends e t c ≡ true
 ends_clear s (Fetch u) t c h = let f : false ≡ true = h in absurd cc
 ends_clear s (Mark u) t c h = let f : false ≡ true = h in absurd cc
 ends_clear s (Lift u) t c h = let f : false ≡ true = h in absurd cc
-ends_clear s (Do u) t c h = between_clear s (part_of c t).stage (and_right (nat_eq u.0 t) _ h)
+ends_clear s (Do u) t c h = between_clear s (part_of c t).stage (and_parts (nat_eq u.0 t) _ h).1
 ends_clear s (Plant n p) t c h = let f : false ≡ true = h in absurd cc
 ends_clear s (Close n p) t c h = let f : false ≡ true = h in absurd cc
 

@@ -1,7 +1,7 @@
 -- The number of the place that begins at an address.
-use Rattle.std.proofs.Common.{◌≡◌, ◌≢◌, ◌↔◌, ℕ, ◌+◌, ◌<◌, zero, suc, Bool, true, false, ◌||◌, ◌==◌, if◌then◌else◌, Option, Some, None, option_map, IfSome, IsNone, List, [], ◌∷◌, length, refl, sym, ◌∙◌, ap, arith}
+use Rattle.std.proofs.Common.{◌≡◌, ◌↔◌, ℕ, ◌+◌, ◌<◌, zero, suc, Bool, false, ◌==◌, if◌then◌else◌, Option, Some, None, option_map, IfSome, IsNone, List, [], ◌∷◌, length, refl, sym, ◌∙◌, ap, arith, eq-eqb, ne_eqb}
+use Rattle.std.proofs.lemmas.Bool.{or_parts}
 use Rattle.std.specs.List.{position_from}
-use Rattle.std.proofs.lemmas.Bool.Decides.{nat_tests}
 use Rattle.cov_base.specs.declared.numbers.PlaceNo.{PlaceNo as Number}
 use Rattle.module_area.specs.Meaning.{place_of, is_place}
 use Rattle.module_area.specs.declared.places.Place.{Place}
@@ -11,34 +11,21 @@ use Rattle.brk_table.proofs.Laws.{one_begins}
 abbrev pub begins_at : ℕ → Place → Bool
 begins_at a p = a == p.at
 
-same : (a b : ℕ) → a ≡ b → (a == b) ≡ true
-same a b h = grind (arith, nat_tests)
-
-differ : (a b : ℕ) → a ≢ b → (a == b) ≡ false
-differ a b h = grind (arith, nat_tests)
-
 -- it is the only one
 pub there : (n a : ℕ) (places : List Place) (k : ℕ) → k < length places → (place_of places k).at ≡ a →
     ((q : ℕ) → q < length places → (place_of places q).at ≡ a → q ≡ k) → position_from (begins_at a) n places ≡ Some (n + k)
 there n a [] k l at only = absurd (omega arith)
-there n a (p ∷ ps) zero l at only = let number : n ≡ n + 0 = omega arith in rw (same a p.at (sym at)) (ap Some number)
+there n a (p ∷ ps) zero l at only = let number : n ≡ n + 0 = omega arith in rw (eq-eqb a p.at (sym at)) (ap Some number)
 there n a (p ∷ ps) (suc k) l at only =
-    let other : (a == p.at) ≡ false = differ a p.at (λ e. let z : 0 ≡ suc k = only 0 (omega arith) (sym e) in absurd (omega arith)) in
+    let other : (a == p.at) ≡ false = ne_eqb a p.at (λ e. let z : 0 ≡ suc k = only 0 (omega arith) (sym e) in absurd (omega arith)) in
     let rest : position_from (begins_at a) (n + 1) ps ≡ Some (n + 1 + k) = there (n + 1) a ps k (omega arith) at (λ q m e. let s : suc q ≡ suc k = only (suc q) (omega arith) e in omega arith) in
     let number : n + 1 + k ≡ n + suc k = omega arith in
     rw other (rest ∙ ap Some number)
 
-tail_nowhere : (b c : Bool) → (b || c) ≡ false → c ≡ false
-tail_nowhere true c h = let f : true ≡ false = h in absurd cc
-tail_nowhere false c h = h
-
-not_here : (b c : Bool) (n : ℕ) (rest : Option ℕ) → (b || c) ≡ false → rest ≡ None → (if b then Some n else rest) ≡ None
-not_here true c n rest h k = let f : true ≡ false = h in absurd cc
-not_here false c n rest h k = k
-
 nowhere : (n a : ℕ) (places : List Place) → is_place places a ≡ false → position_from (begins_at a) n places ≡ None
 nowhere n a [] h = refl
-nowhere n a (p ∷ ps) h = not_here (a == p.at) (is_place ps a) n (position_from (begins_at a) (n + 1) ps) h (nowhere (n + 1) a ps (tail_nowhere (a == p.at) (is_place ps a) h))
+nowhere n a (p ∷ ps) h = let apart = or_parts (a == p.at) (is_place ps a) h in
+    ap (λ (b : Bool). if b then Some n else position_from (begins_at a) (n + 1) ps) apart.0 ∙ nowhere (n + 1) a ps apart.1
 
 -- what a search that answers by the places tells
 pub found : (places : List Place) (a : ℕ) (r : Option Number) → ArePlaces places → IfSome r (λ n. n.0 < length places) →

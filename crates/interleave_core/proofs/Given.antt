@@ -1,11 +1,11 @@
 -- A plant or a close keeps the rule.
-use Rattle.std.proofs.Common.{◌≡◌, ◌≢◌, inl, ℕ, suc, ◌+◌, ◌*◌, ◌<◌, Bool, true, false, ◌&&◌, ◌||◌, nat_lt, nat_eq, if◌then◌else◌, Some, None, is_none, List, ◌∷◌, length, get_or, set, refl, sym, ◌∙◌, ap, subst, arith, eqb-true}
+use Rattle.std.proofs.Common.{◌≡◌, ◌≢◌, inl, ℕ, suc, ◌+◌, ◌*◌, ◌<◌, Bool, true, false, ◌&&◌, ◌||◌, nat_lt, nat_eq, if◌then◌else◌, Some, None, is_none, List, ◌∷◌, length, get_or, set, refl, sym, ◌∙◌, ap, subst, arith, eqb-true, ne_eqb, eq-eqb}
 use mathlib.Core.Option.{some}
 use lib.ListN.{get_elem?}
 use Rattle.std.specs.Option.{option_and_then}
 use Rattle.std.proofs.lemmas.Grind.{get_or-set_at}
 use Rattle.std.proofs.lemmas.List.{get_or-set_other, length-set}
-use Rattle.std.proofs.lemmas.Bool.{ltb-true}
+use Rattle.std.proofs.lemmas.Bool.{ltb-true, and_from, or_left, or_right}
 use Rattle.cov_base.specs.Meaning.{FactSet, no_facts}
 use Rattle.module_area.specs.Meaning.{word_at, no_cell, index_of, window_at, is_over, is_controlled}
 use Rattle.module_area.specs.Rule.{Keeps, KeepsAs, Held, window_tag, tagging, planting, last_tag}
@@ -13,7 +13,7 @@ use Rattle.module_area.specs.declared.cells.Cell.{Cell}
 use Rattle.module_area.specs.declared.parties.Role.{Role}
 use Rattle.module_area.specs.declared.parties.Role.TheVariants.{Spent}
 use Rattle.module_area.specs.declared.parties.View.{View}
-use Rattle.module_area.proofs.Laws.{and_both, plants, closes as closes_step, or_left, or_right, spent_not_root, spent_not_task}
+use Rattle.module_area.proofs.Laws.{plants, closes as closes_step, spent_not_root, spent_not_task}
 use Rattle.interleave_core.specs.Meaning.{World, TaskPart, part_of, plan_in, PlaceChange, change_of, next_place, change_due, Stepped, may_plant, breakpoint_of, with_cell, same_due, subject_place, step_of, set_of}
 use Rattle.interleave_core.specs.CoreState.{CoreState, Item, Gave, task_view, task_views}
 use Rattle.interleave_core.specs.declared.stage.Due.{Due}
@@ -22,7 +22,7 @@ use Rattle.interleave_core.specs.declared.stage.Stage.{Stage}
 use Rattle.interleave_core.specs.declared.stage.Stage.TheVariants.{Ready, Awaiting, Holding, Ended}
 use Rattle.interleave_core.specs.Views.{closed_of, AreTied}
 use Rattle.interleave_core.proofs.Changes.{may_by, Changed, logs_given}
-use Rattle.interleave_core.proofs.Logs.{itself, apart, changed_log}
+use Rattle.interleave_core.proofs.Logs.{changed_log}
 use Rattle.interleave_core.proofs.Turns.{IsOwn, IsChange, due_is}
 use Rattle.interleave_core.proofs.Rule.{task_role, view_at, views_same, views_set, InHand, InStage, Ruled}
 
@@ -37,7 +37,7 @@ rule_plant w c v s p logs is may same =
     let zero_tag : (word_at c.parts.cells p).tag ≡ 0 = eqb-true (word_at c.parts.cells p).tag 0 at.3 in
     let live : v.role ≢ Spent = λ e. spent_not_root (sym e ∙ is.role) in
     let keeps : Keeps (plan_in w) v p = subst (λ (r : Role). KeepsAs (plan_in w) v p r) (sym is.role) (inl (subst (λ (n : ℕ). 0 < n) (sym window) pos)) in
-    let over : is_over (plan_in w) s p ≡ true = or_left (nat_lt 0 s && nat_eq (window_at (plan_in w) p) s) (is_controlled (plan_in w) s p) (and_both (nat_lt 0 s) (nat_eq (window_at (plan_in w) p) s) at.1 at.2) in
+    let over : is_over (plan_in w) s p ≡ true = or_left (nat_lt 0 s && nat_eq (window_at (plan_in w) p) s) (is_controlled (plan_in w) s p) (and_from (nat_lt 0 s) (nat_eq (window_at (plan_in w) p) s) at.1 at.2) in
     let last : last_tag p v.planted ≡ 0 = sym (is.held.ties 0 v refl p lt keeps) ∙ zero_tag in
     let later : last_tag p v.planted < window_tag s = omega (arith, last, pos) in
     let inside : p < length c.parts.cells = subst (λ (n : ℕ). p < n) (sym is.cells) lt in
@@ -129,10 +129,10 @@ module _ (w : World) (c : CoreState) (v : View) (closes : Bool) (s p : ℕ) (x :
   pub rule_given : (tag : ℕ) → ((r : ℕ) → logs r ≡ logs_given c.logs by.task p tag r) → Held (plan_in w) (λ q. word_at x.parts.cells q) (λ n q. set_of w x.parts n q) (set views (suc by.task) (tagging p tag view)) →
       Ruled w (record { parts = x.parts; logs = logs }) v
   rule_given tag given held =
-      let own_log : logs by.task ≡ Gave p tag ∷ c.logs by.task = given by.task ∙ ap (λ (b : Bool). if b then Gave p tag ∷ c.logs by.task else c.logs by.task) (itself by.task) in
+      let own_log : logs by.task ≡ Gave p tag ∷ c.logs by.task = given by.task ∙ ap (λ (b : Bool). if b then Gave p tag ∷ c.logs by.task else c.logs by.task) (eq-eqb by.task by.task refl) in
       let new : set (task_views w c.logs 0 (length w.job.tasks)) by.task (tagging p tag view) ≡ task_views w logs 0 (length w.job.tasks) =
       views_set w c.logs logs 0 (length w.job.tasks) by.task by.task (tagging p tag view) (omega arith) in_job (ap (task_view w by.task) (sym own_log))
-      (λ r other. given r ∙ ap (λ (b : Bool). if b then Gave p tag ∷ c.logs r else c.logs r) (apart by.task r other)) in
+      (λ r other. given r ∙ ap (λ (b : Bool). if b then Gave p tag ∷ c.logs r else c.logs r) (ne_eqb by.task r (λ e. other (sym e)))) in
       record {
         count = ap (λ (y : Stepped). length y.parts.tasks) by.made ∙ (length-set c.parts.tasks by.task _ ∙ is.count);
         sets = ap (λ (sets : List FactSet). length sets) made_sets ∙ is.sets;

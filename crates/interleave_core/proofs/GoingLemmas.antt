@@ -24,9 +24,10 @@ use Rattle.interleave_core.specs.declared.stage.Due.TheVariants.{Marking, Liftin
 use Rattle.interleave_core.specs.declared.stage.Hand.{Hand}
 use Rattle.interleave_core.specs.declared.stage.Stage.{Stage}
 use Rattle.interleave_core.specs.declared.stage.Stage.TheVariants.{Ready, Awaiting, Holding, Ended}
+use Rattle.interleave_core.proofs.Alone.{due_in}
 use Rattle.interleave_core.proofs.Changes.{goes_on, Changed, plant_cases, close_by}
 use Rattle.interleave_core.proofs.Nexts.{next_by}
-use Rattle.interleave_core.proofs.Runs.{in_hand-stage, same_due-true}
+use Rattle.interleave_core.proofs.Runs.{in_hand-stage, same_due-true, exists_by, got}
 use Rattle.interleave_core.proofs.Turns.{due_below}
 
 abbrev due_left : Due → ℕ
@@ -65,16 +66,11 @@ due_some Marking = omega arith
 due_some Lifting = omega arith
 due_some Nothing = omega arith
 
-unless_none : {A : Type 0} (b : Bool) (x : A) (o : Option A) → (if b then None else o) ≡ Some x → (b ≡ false) × (o ≡ Some x)
-unless_none true x o e = absurd cc
-unless_none false x o e = (refl, e)
-
 fetch_less : (w : World) (c : Parts) (t p : ℕ) (u : TaskPart) (s : Stage) → place_due w t u s ≡ Some p → left_of w t u (Holding (hand_at w c (is_awaiting s) p)) < left_of w t u s
 fetch_less w c t p u Ready e =
-    let first = unless_none (has_returned u.state) p _ e in
-    let second = unless_none (is_spent w t u.state) p _ first.1 in
+    let due = due_in (has_returned u.state) (is_spent w t u.state) (place_at w u.state.machine.cpu.ia) p e in
     let few : due_left (due_after_fetch w false p (word_at c.cells p)) ≤ 3 = due_few _ in
-    rw second.0 (omega (arith, few))
+    rw due.1 (omega (arith, few))
 fetch_less w c t p u Awaiting e = let few : due_left (due_after_fetch w true p (word_at c.cells p)) ≤ 3 = due_few _ in omega (arith, few)
 fetch_less w c t p u (Holding h) e = absurd cc
 fetch_less w c t p u (Ended x) e = absurd cc
@@ -172,18 +168,9 @@ place_less w t u s x plan e = by s e (due_below w t u s x plan e)
     by (Ended y) q few = absurd cc
     by (Holding h) q few = omega (arith, few)
 
--- what a step answers of one that it is made of
-mapped : {A B : Type 0} (f : A → B) (o : Option A) (x : B) → option_map f o ≡ Some x → (a : A) × (o ≡ Some a) × (f a ≡ x)
-mapped f None x e = absurd cc
-mapped f (Some a) x e = let same : f a ≡ x = cc in (a, refl, same)
-
 mark_due_less : (b : Bool) → due_left (if b then Lifting else Nothing) < due_left Marking
 mark_due_less true = omega arith
 mark_due_less false = omega arith
-
-if_some : {A : Type 0} (b : Bool) (o : Option A) (x : A) → (if b then o else None) ≡ Some x → (b ≡ true) × (o ≡ Some x)
-if_some true o x e = (refl, e)
-if_some false o x e = absurd cc
 
 exists : (c : Parts) (t : ℕ) (b : Bool) → nat_lt t (length c.tasks) ≡ b → b ≡ true → t < length c.tasks
 exists c t b e q = ltb-true t (length c.tasks) (e ∙ q)
@@ -191,11 +178,11 @@ exists c t b e q = ltb-true t (length c.tasks) (e ∙ q)
 fetched_less : (w : World) (c : Parts) (t : ℕ) (x : Stepped) → of_existing c t (λ (u : TaskPart). option_map (cell_fetched w c t u) (place_due w t u u.stage)) ≡ Some x → left w x.parts t < left w c t
 fetched_less w c t x e =
     let u = part_of c t in
-    let here = if_some (nat_lt t (length c.tasks)) (option_map (cell_fetched w c t u) (place_due w t u u.stage)) x e in
-    let m = mapped (cell_fetched w c t u) (place_due w t u u.stage) x here.1 in
+    let here = exists_by (nat_lt t (length c.tasks)) (option_map (cell_fetched w c t u) (place_due w t u u.stage)) x e in
+    let m = got _ (cell_fetched w c t u) (place_due w t u u.stage) x here.1 in
     let v = with_stage u (Holding (hand_at w c (is_awaiting u.stage) m.0)) in
     let kept : left w (task_replaced c t v) t ≡ left_of w t v v.stage = put_left w c t v (exists c t _ refl here.0) in
-    rw (← m.2) (rw kept (fetch_less w c t m.0 u u.stage m.1))
+    rw m.2 (rw kept (fetch_less w c t m.0 u u.stage m.1))
 
 holding_left : (w : World) (t : ℕ) (u : TaskPart) (h : Hand) → u.stage ≡ Holding h → left_of w t u u.stage ≡ left_of w t u (Holding h)
 holding_left w t u h e = ap (left_of w t u) e
@@ -203,8 +190,8 @@ holding_left w t u h e = ap (left_of w t u) e
 marked_less : (w : World) (c : Parts) (t : ℕ) (x : Stepped) → of_existing c t (λ (u : TaskPart). option_map (fact_marked w c t u) (in_hand Marking u.stage)) ≡ Some x → left w x.parts t < left w c t
 marked_less w c t x e =
     let u = part_of c t in
-    let here = if_some (nat_lt t (length c.tasks)) (option_map (fact_marked w c t u) (in_hand Marking u.stage)) x e in
-    let m = mapped (fact_marked w c t u) (in_hand Marking u.stage) x here.1 in
+    let here = exists_by (nat_lt t (length c.tasks)) (option_map (fact_marked w c t u) (in_hand Marking u.stage)) x e in
+    let m = got _ (fact_marked w c t u) (in_hand Marking u.stage) x here.1 in
     let h = m.0 in
     let held = in_hand-stage Marking u.stage h m.1 in
     let due : h.due ≡ Marking = same_due-true h.due Marking held.1 in
@@ -214,18 +201,18 @@ marked_less w c t x e =
     let facts = record c { sets = set c.sets (index_of (length w.places) (tag_session h.cell.tag) h.place.0) (with_fact (set_of w c (tag_session h.cell.tag) h.place.0) (fact_in w t u h)) } in
     let kept : left w (task_replaced facts t v) t ≡ left_of w t v v.stage = put_left w facts t v (exists c t _ refl here.0) in
     let less : due_left d < due_left h.due = rw due (mark_due_less full) in
-    rw (← m.2) (rw (kept, holding_left w t u h held.0) (due_less w t u h d less))
+    rw m.2 (rw (kept, holding_left w t u h held.0) (due_less w t u h d less))
 
 lifted_less : (w : World) (c : Parts) (t : ℕ) (x : Stepped) → of_existing c t (λ (u : TaskPart). option_map (lifted w c t u) (in_hand Lifting u.stage)) ≡ Some x → left w x.parts t < left w c t
 lifted_less w c t x e =
     let u = part_of c t in
-    let here = if_some (nat_lt t (length c.tasks)) (option_map (lifted w c t u) (in_hand Lifting u.stage)) x e in
-    let m = mapped (lifted w c t u) (in_hand Lifting u.stage) x here.1 in
+    let here = exists_by (nat_lt t (length c.tasks)) (option_map (lifted w c t u) (in_hand Lifting u.stage)) x e in
+    let m = got _ (lifted w c t u) (in_hand Lifting u.stage) x here.1 in
     let h = m.0 in
     let held = in_hand-stage Lifting u.stage h m.1 in
     let due : h.due ≡ Lifting = same_due-true h.due Lifting held.1 in
     let less : due_left Nothing < due_left h.due = rw due (omega arith) in
-    rw (← m.2) (by_cell u h held.0 less (exists c t _ refl here.0) (same_cell (word_at c.cells h.place.0) h.cell))
+    rw m.2 (by_cell u h held.0 less (exists c t _ refl here.0) (same_cell (word_at c.cells h.place.0) h.cell))
   where
     by_cell : (u : TaskPart) (h : Hand) → u.stage ≡ Holding h → due_left Nothing < due_left h.due → t < length c.tasks → (b : Bool) →
         left w (task_replaced (if b then with_cell c h.place.0 (original_under w h.place.0 h.cell) else c) t (with_due u h Nothing)) t < left_of w t u u.stage
@@ -236,10 +223,10 @@ lifted_less w c t x e =
 run_less : (w : World) (c : Parts) (t : ℕ) (x : Stepped) → of_existing c t (λ (u : TaskPart). option_map (done_by c t) (task_done w t u u.stage)) ≡ Some x → left w x.parts t < left w c t
 run_less w c t x e =
     let u = part_of c t in
-    let here = if_some (nat_lt t (length c.tasks)) (option_map (done_by c t) (task_done w t u u.stage)) x e in
-    let m = mapped (done_by c t) (task_done w t u u.stage) x here.1 in
+    let here = exists_by (nat_lt t (length c.tasks)) (option_map (done_by c t) (task_done w t u u.stage)) x e in
+    let m = got _ (done_by c t) (task_done w t u u.stage) x here.1 in
     let kept : left w (task_replaced c t m.0) t ≡ left_of w t m.0 m.0.stage = put_left w c t m.0 (exists c t _ refl here.0) in
-    rw (← m.2) (rw kept (done_less w t u m.0 u.stage m.1))
+    rw m.2 (rw kept (done_less w t u m.0 u.stage m.1))
 
 changed_less : (w : World) (c : Parts) (t : ℕ) (closes : Bool) (s p : ℕ) (x : Stepped) (by : Changed w c closes s p x) → by.task ≡ t → IsPlan (plan_in w) → left w x.parts t < left w c t
 changed_less w c t closes s p x by same plan =

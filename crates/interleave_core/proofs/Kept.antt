@@ -4,7 +4,7 @@ use Rattle.std.proofs.lemmas.Bool.Decides.{nat_tests}
 use Rattle.std.proofs.lemmas.Grind.{get_or-set_at}
 use Rattle.std.proofs.lemmas.List.{get_or-map, get_or-set_other, length-set, length-map, map-set, get_or_default}
 use Rattle.std.proofs.lemmas.Option.{same_Some}
-use Rattle.std.proofs.lemmas.Bool.{lt-ltb}
+use Rattle.std.proofs.lemmas.Bool.{lt-ltb, cases_eq}
 use Rattle.cov_base.specs.Meaning.{breakpoint, FactSet, no_facts, is_within, with_fact, is_full, fact_of}
 use Rattle.cov_base.specs.declared.numbers.PlaceNo.{PlaceNo as Number}
 use Rattle.s370_exec.specs.Meaning.{has_returned, visit_of}
@@ -21,7 +21,7 @@ use Rattle.session_book.specs.Meaning.{no_task}
 use Rattle.interleave_core.specs.Meaning.{World, TaskPart, Parts, plan_in, place_at, first_part, Stepped, of_existing, task_replaced, with_stage, with_due, with_cell, place_due, is_spent, is_awaiting, subject_place, step_of, due_after_fetch, in_hand, same_due, cell_fetched, fact_marked, lifted, done_by, task_done, task_goes_on, parts_step, set_of, fact_in, original_under, same_cell, hand_at, executed, stage_after, awaits_or, instruction_executed}
 use Rattle.interleave_core.specs.Views.{CoreView, RunningView, IsRunning, IsStage, IsHand, AreTied, IsCore, parts_of}
 use Rattle.interleave_core.proofs.Changes.{goes_on}
-use Rattle.interleave_core.proofs.Runs.{same_or, in_hand-stage, session_of_window}
+use Rattle.interleave_core.proofs.Runs.{in_hand-stage, session_of_window}
 use Rattle.interleave_core.proofs.Tied.{tied_step}
 use Rattle.interleave_core.specs.declared.events.Event.{Event}
 use Rattle.interleave_core.specs.declared.events.Shown.{Shown}
@@ -61,21 +61,21 @@ moved_core w cells new_cells sets new_sets plan tasks new_tasks is cell_count se
 
 pub running_with : (w : World) (cells : List Cell) (sets : List FactSet) (plan : PlanView) (tasks : List RunningView) (t : ℕ) (r : RunningView) → IsCore w cells sets plan tasks → t < length tasks → IsRunning w t r →
     (u : ℕ) (d : RunningView) → u < length (set tasks t r) → IsRunning w u (get_or (set tasks t r) u d)
-running_with w cells sets plan tasks t r is lt runs u d l = elim (same_or u t) [
+running_with w cells sets plan tasks t r is lt runs u d l = elim (cases_eq u t) [
   | inl same ↦ subst (λ (x : RunningView). IsRunning w u x) (sym (get_or-set_at tasks t u r d same lt)) (subst (λ (n : ℕ). IsRunning w n r) (sym same) runs)
   | inr other ↦ subst (λ (x : RunningView). IsRunning w u x) (sym (get_or-set_other tasks t u r d other)) (is.running u d (subst (λ n. u < n) (length-set tasks t r) l))
 ]
 
 pub stages_with : (w : World) (cells : List Cell) (sets : List FactSet) (plan : PlanView) (tasks : List RunningView) (t : ℕ) (r : RunningView) → IsCore w cells sets plan tasks → t < length tasks → IsStage w t r.part r.part.stage →
     (u : ℕ) (d : RunningView) → u < length (set tasks t r) → IsStage w u (get_or (set tasks t r) u d).part (get_or (set tasks t r) u d).part.stage
-stages_with w cells sets plan tasks t r is lt stage u d l = elim (same_or u t) [
+stages_with w cells sets plan tasks t r is lt stage u d l = elim (cases_eq u t) [
   | inl same ↦ subst (λ (x : RunningView). IsStage w u x.part x.part.stage) (sym (get_or-set_at tasks t u r d same lt)) (subst (λ (n : ℕ). IsStage w n r.part r.part.stage) (sym same) stage)
   | inr other ↦ subst (λ (x : RunningView). IsStage w u x.part x.part.stage) (sym (get_or-set_other tasks t u r d other)) (is.stages u d (subst (λ n. u < n) (length-set tasks t r) l))
 ]
 
 pub words_with : (w : World) (cells : List Cell) (sets : List FactSet) (plan : PlanView) (tasks : List RunningView) (p : ℕ) (x : Cell) → IsCore w cells sets plan tasks → p < length cells → IsForm (plan_in w) p x →
     (q : ℕ) → q < length w.places → IsForm (plan_in w) q (word_at (set cells p x) q)
-words_with w cells sets plan tasks p x is lt form q l = elim (same_or q p) [
+words_with w cells sets plan tasks p x is lt form q l = elim (cases_eq q p) [
   | inl same ↦ subst (λ (c : Cell). IsForm (plan_in w) q c) (sym (get_or-set_at cells p q x no_cell same lt)) (subst (λ (n : ℕ). IsForm (plan_in w) n x) (sym same) form)
   | inr other ↦ subst (λ (c : Cell). IsForm (plan_in w) q c) (sym (get_or-set_other cells p q x no_cell other)) (is.words q l)
 ]
@@ -84,7 +84,7 @@ set_within : (w : World) (sets : List FactSet) (s p q t : ℕ) (x : FactSet) →
     index_of (length w.places) s p < length sets → is_within (kind_at (plan_in w) p) x ≡ true →
     is_within (kind_at (plan_in w) q) (set_in (length w.places) sets t q) ≡ true →
     is_within (kind_at (plan_in w) q) (set_in (length w.places) (set sets (index_of (length w.places) s p) x) t q) ≡ true
-set_within w sets s p q t x s0 t0 p_in q_in fits own other = elim (same_or (index_of (length w.places) t q) (index_of (length w.places) s p)) [
+set_within w sets s p q t x s0 t0 p_in q_in fits own other = elim (cases_eq (index_of (length w.places) t q) (index_of (length w.places) s p)) [
   | inl same ↦
       let place : q ≡ p = (same_index (length w.places) t q s p t0 s0 q_in p_in same).1 in
       subst (λ (f : FactSet). is_within (kind_at (plan_in w) q) f ≡ true) (sym (get_or-set_at sets (index_of (length w.places) s p) (index_of (length w.places) t q) x no_facts same fits))

@@ -1,5 +1,5 @@
 -- Each event keeps each task's log.
-use Rattle.std.proofs.Common.{◌≡◌, ◌≢◌, ◌⊎◌, inl, inr, ℕ, zero, suc, ◌+◌, ◌*◌, ◌%◌, ◌<◌, ◌≤◌, Bool, true, false, ◌==◌, nat_lt, nat_eq, if◌then◌else◌, Option, Some, None, option_map, List, [], ◌∷◌, ◌++◌, length, take, get_or, set, refl, sym, ◌∙◌, ap, subst, arith, is_none}
+use Rattle.std.proofs.Common.{◌≡◌, ◌≢◌, ◌⊎◌, inl, inr, ℕ, zero, suc, ◌+◌, ◌*◌, ◌%◌, ◌<◌, ◌≤◌, Bool, true, false, ◌==◌, nat_lt, nat_eq, if◌then◌else◌, Option, Some, None, option_map, List, [], ◌∷◌, ◌++◌, length, take, get_or, set, refl, sym, ◌∙◌, ap, subst, arith, is_none, eqb-true, ne_eqb, eq-eqb}
 use Rattle.std.specs.List.{position_from}
 use Rattle.std.specs.Option.{option_or}
 use Rattle.std.proofs.lemmas.Bool.Decides.{nat_tests}
@@ -26,8 +26,8 @@ use Rattle.interleave_core.specs.declared.events.Event.TheVariants.{Fetch, Mark,
 use Rattle.interleave_core.specs.declared.stage.Hand.{Hand}
 use Rattle.interleave_core.specs.declared.stage.Due.TheVariants.{Marking, Lifting, Nothing}
 use Rattle.interleave_core.proofs.Changes.{goes_on, Changed, plant_cases, close_by, logs_given, logs_whole, logs_plant, logs_close}
-use Rattle.interleave_core.proofs.Runs.{same_or, got, lifted_tasks, exists_by, in_hand-stage, through}
-use Rattle.interleave_core.proofs.Alone.{GoesAt, AllGo, has_ended, is_inside, executed_trace, all_step, all_first, run_zero}
+use Rattle.interleave_core.proofs.Runs.{got, lifted_tasks, exists_by, in_hand-stage, through}
+use Rattle.interleave_core.proofs.Alone.{GoesAt, AllGo, has_ended, is_inside, executed_trace, all_step, all_first, run_zero, due_in}
 use Rattle.s370_state.specs.declared.endings.Ending.TheVariants.{Returned, Spent}
 use Rattle.s370_state.specs.declared.endings.Next.{Next}
 use Rattle.s370_state.specs.declared.endings.Next.TheVariants.{On, Ended as NextEnded}
@@ -36,7 +36,7 @@ use Rattle.phase_plan.specs.Meaning.{first_state}
 use Rattle.module_area.specs.Rule.{window_tag}
 use Rattle.std.proofs.lemmas.Grind.{get_or-set_at}
 use Rattle.std.proofs.lemmas.Option.{same_Some}
-use Rattle.std.proofs.lemmas.Bool.{ltb-true}
+use Rattle.std.proofs.lemmas.Bool.{ltb-true, cases_eq}
 use Rattle.interleave_core.specs.declared.stage.Due.{Due}
 use Rattle.interleave_core.specs.declared.stage.Stage.{Stage}
 use Rattle.interleave_core.specs.declared.stage.Stage.TheVariants.{Ready, Awaiting, Holding, Ended}
@@ -59,9 +59,6 @@ pub noted-append : (w : World) (a b : List Visit) → noted w (a ++ b) ≡ noted
 noted-append w [] b = refl
 noted-append w (v ∷ a) b = ap (λ (n : List Noted). note w v (place_at w v.at) ++ n) (noted-append w a b) ∙ sym (append_assoc (note w v (place_at w v.at)) (noted w a) (noted w b))
 
-same : (a b : ℕ) → (a == b) ≡ true → a ≡ b
-same a b h = grind (arith, nat_tests)
-
 -- a place that was found begins there
 pub found_at : (n a p : ℕ) (places : List Place) → position_from (λ (p : Place). a == p.at) n places ≡ Some p → (k : ℕ) × (k < length places) × ((place_of places k).at ≡ a) × (n + k ≡ p)
 found_at n a p [] h = let f : None ≡ Some p = h in absurd cc
@@ -69,7 +66,7 @@ found_at n a p (x ∷ xs) h = by (a == x.at) refl h (λ g. found_at (n + 1) a p 
   where
     by : (b : Bool) → (a == x.at) ≡ b → (if b then Some n else position_from (λ (q : Place). a == q.at) (n + 1) xs) ≡ Some p → (position_from (λ (q : Place). a == q.at) (n + 1) xs ≡ Some p → (k : ℕ) × (k < length xs) × ((place_of xs k).at ≡ a) × (n + 1 + k ≡ p)) →
         (k : ℕ) × (k < length (x ∷ xs)) × ((place_of (x ∷ xs) k).at ≡ a) × (n + k ≡ p)
-    by true e g more = let is : n ≡ p = same_Some n p g in (zero, omega arith, sym (same a x.at e), omega (arith, is))
+    by true e g more = let is : n ≡ p = same_Some n p g in (zero, omega arith, sym (eqb-true a x.at e), omega (arith, is))
     by false e g more = let r = more g in (suc r.0, omega (arith, r.1), r.2, omega (arith, r.3))
 
 tests_pass : (odd reached : Bool) (x y : Option Ending) → odd ≡ false → reached ≡ true → (if odd then x else (if reached then None else y)) ≡ None
@@ -168,16 +165,11 @@ visits_of w t u = (step_of w t u).visits
 few : (w : World) (t : ℕ) (u : TaskPart) → length (visits_of w t u) ≤ 2
 few w t u = solo_step-visits (memory_in w t) u.state
 
-pub due_at : (returned spent : Bool) (at : Option ℕ) (p : ℕ) → (if returned then None else (if spent then None else at)) ≡ Some p → at ≡ Some p
-due_at true spent at p h = let n : None ≡ Some p = h in absurd cc
-due_at false true at p h = let n : None ≡ Some p = h in absurd cc
-due_at false false at p h = h
-
 log_fetch : (w : World) (t : ℕ) (u : TaskPart) (stage : Stage) (p : ℕ) (c : Cell) (due : Due) (log : List Item) → AreSeen (memory_in w t) w.places → ArePlaces w.places → u.stage ≡ stage → place_due w t u stage ≡ Some p →
     logged log ≡ noted w (trace_of w t u ++ visits_in_hand stage (visits_of w t u)) →
     logged log ++ record { place = p; fact = fact_at w p (get_or (visits_of w t u) (if is_awaiting stage then 1 else 0) no_visit) } ∷ [] ≡ noted w (trace_of w t u ++ (if is_awaiting stage then visits_of w t u else take 1 (visits_of w t u)))
 log_fetch w t u Ready p c due log seen are at h e =
-    let place = due_at (has_returned u.state) (is_spent w t u.state) (place_at w u.state.machine.cpu.ia) p h in
+    let place = (due_in (has_returned u.state) (is_spent w t u.state) (place_at w u.state.machine.cpu.ia) p h).2 in
     let v = pass_by (memory_in w t) u.state _ (at_place w (memory_in w t) u.state.machine.cpu.ia p are seen place) refl in
     push_first w (visits_of w t u) (trace_of w t u) v.1 v.0 p (logged log) v.2 (ap (place_at w) v.3 ∙ place) e
 log_fetch w t u Awaiting p c due log seen are at h e = push_subject w (visits_of w t u) (trace_of w t u) p (logged log) (few w t u) h e
@@ -231,12 +223,6 @@ log_done : (w : World) (t : ℕ) (u v : TaskPart) (stage : Stage) (log : List It
     logged log ≡ noted w (trace_of w t u ++ visits_in_hand stage (visits_of w t u)) → HasLog w t v log
 log_done w t u v stage log at h g e = log_going w t u v stage log at (goes_on w t u v stage h) g e
 
-pub itself : (t : ℕ) → nat_eq t t ≡ true
-itself t = grind (arith, nat_tests)
-
-pub apart : (t s : ℕ) → s ≢ t → nat_eq t s ≡ false
-apart t s h = grind (arith, nat_tests)
-
 -- what holds of a core after every list of events
 pub record Logged (w : World) (c : CoreState) : Type 0 where
   pub count : length c.parts.tasks ≡ length w.job.tasks
@@ -249,7 +235,7 @@ pub all_logs : (P : ℕ → TaskPart → List Item → Type 0) (c : CoreState) (
 all_logs P c d t u logs e lt own others is s l =
     let inside : s < length c.parts.tasks = subst (λ (n : ℕ). s < n) (ap (λ (x : List TaskPart). length x) e ∙ length-set c.parts.tasks t u) l in
     let there : part_of d s ≡ get_or (set c.parts.tasks t u) s (first_part no_task) = ap (λ (x : List TaskPart). get_or x s (first_part no_task)) e in
-    elim (same_or s t) [
+    elim (cases_eq s t) [
       | inl same ↦ subst (λ (x : TaskPart). P s x (logs s)) (sym (there ∙ get_or-set_at c.parts.tasks t s u (first_part no_task) same lt)) (subst (λ (n : ℕ). P n u (logs n)) (sym same) own)
       | inr other ↦ subst (λ (x : TaskPart). P s x (logs s)) (sym (there ∙ get_or-set_other c.parts.tasks t s u (first_part no_task) other)) (subst (P s (part_of c.parts s)) (sym (others s other)) (is s inside))
     ]
@@ -258,8 +244,8 @@ all_logs P c d t u logs e lt own others is s l =
 pub one_log : (w : World) (P : ℕ → TaskPart → List Item → Type 0) (c : CoreState) (d : Parts) (t : ℕ) (u : TaskPart) (shown : Shown) → d.tasks ≡ set c.parts.tasks t u → t < length c.parts.tasks → P t u (log_after w t u shown (c.logs t)) →
     ((s : ℕ) → s < length c.parts.tasks → P s (part_of c.parts s) (c.logs s)) → (s : ℕ) → s < length d.tasks → P s (part_of d s) (if nat_eq t s then log_after w s (part_of d s) shown (c.logs s) else c.logs s)
 one_log w P c d t u shown e lt own is = all_logs P c d t u (λ s. if nat_eq t s then log_after w s (part_of d s) shown (c.logs s) else c.logs s) e lt
-    (subst (λ (b : Bool). P t u (if b then log_after w t (part_of d t) shown (c.logs t) else c.logs t)) (sym (itself t)) (subst (λ (x : TaskPart). P t u (log_after w t x shown (c.logs t))) (sym part) own))
-    (λ s other. ap (λ (b : Bool). if b then log_after w s (part_of d s) shown (c.logs s) else c.logs s) (apart t s other)) is
+    (subst (λ (b : Bool). P t u (if b then log_after w t (part_of d t) shown (c.logs t) else c.logs t)) (sym (eq-eqb t t refl)) (subst (λ (x : TaskPart). P t u (log_after w t x shown (c.logs t))) (sym part) own))
+    (λ s other. ap (λ (b : Bool). if b then log_after w s (part_of d s) shown (c.logs s) else c.logs s) (ne_eqb t s (λ e. other (sym e)))) is
   where
     part : part_of d t ≡ u
     part = ap (λ (x : List TaskPart). get_or x t (first_part no_task)) e ∙ get_or-set_at c.parts.tasks t t u (first_part no_task) refl lt
@@ -269,8 +255,8 @@ pub changed_log : (w : World) (P : ℕ → TaskPart → List Item → Type 0) (c
     P by.task (record (part_of c.parts by.task) { changed = (part_of c.parts by.task).changed + 1 }) (Gave p tag ∷ c.logs by.task) →
     ((t : ℕ) → t < length c.parts.tasks → P t (part_of c.parts t) (c.logs t)) → (t : ℕ) → t < length x.parts.tasks → P t (part_of x.parts t) (logs t)
 changed_log w P c closes s p tag x logs by given own is = all_logs P c x.parts by.task (record (part_of c.parts by.task) { changed = (part_of c.parts by.task).changed + 1 }) logs (ap (λ (y : Stepped). y.parts.tasks) by.made) by.there
-    (subst (P by.task (record (part_of c.parts by.task) { changed = (part_of c.parts by.task).changed + 1 })) (sym (given by.task ∙ ap (λ (b : Bool). if b then Gave p tag ∷ c.logs by.task else c.logs by.task) (itself by.task))) own)
-    (λ u other. given u ∙ ap (λ (b : Bool). if b then Gave p tag ∷ c.logs u else c.logs u) (apart by.task u other)) is
+    (subst (P by.task (record (part_of c.parts by.task) { changed = (part_of c.parts by.task).changed + 1 })) (sym (given by.task ∙ ap (λ (b : Bool). if b then Gave p tag ∷ c.logs by.task else c.logs by.task) (eq-eqb by.task by.task refl))) own)
+    (λ u other. given u ∙ ap (λ (b : Bool). if b then Gave p tag ∷ c.logs u else c.logs u) (ne_eqb by.task u (λ e. other (sym e)))) is
 
 log_changed : (w : World) (c : CoreState) (closes : Bool) (s p tag : ℕ) (x : Stepped) (logs : ℕ → List Item) (by : Changed w c.parts closes s p x) → ((u : ℕ) → logs u ≡ logs_given c.logs by.task p tag u) → Logged w c →
     (length x.parts.tasks ≡ length w.job.tasks) × HaveLogs w x.parts logs

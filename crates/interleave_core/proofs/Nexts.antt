@@ -1,6 +1,6 @@
 -- The event that is possible of a task.
 use Rattle.std.specs.Option.{option_and_then}
-use Rattle.std.proofs.Common.{◌≡◌, inl, inr, ℕ, ◌+◌, ◌*◌, Bool, true, false, not, ◌&&◌, ◌||◌, nat_eq, nat_lt, if◌then◌else◌, Option, Some, None, is_none, option_map, IfSome, length, refl, sym, ◌∙◌, ap, subst, arith}
+use Rattle.std.proofs.Common.{◌≡◌, inl, inr, ℕ, ◌+◌, ◌*◌, Bool, true, false, not, ◌&&◌, ◌||◌, nat_eq, nat_lt, if◌then◌else◌, Option, Some, None, is_none, option_map, IfSome, length, refl, sym, ◌∙◌, ap, subst, arith, eq-eqb}
 use Rattle.std.proofs.lemmas.Bool.Decides.{nat_tests}
 use Rattle.std.proofs.lemmas.Bool.{lt-ltb}
 use Rattle.cov_base.specs.declared.numbers.TaskNo.{TaskNo}
@@ -15,7 +15,7 @@ use Rattle.interleave_core.specs.CoreState.{is_by, is_task}
 use Rattle.interleave_core.specs.Results.{IsDue}
 use Rattle.interleave_core.specs.Views.{IsStage, IsTied}
 use Rattle.interleave_core.proofs.Changes.{goes_on, done_due, Changed, plant_cases, close_by}
-use Rattle.interleave_core.proofs.Runs.{exists_by, in_hand-stage}
+use Rattle.interleave_core.proofs.Runs.{exists_by, got, in_hand-stage}
 use Rattle.interleave_core.proofs.Turns.{IsChange, due_is, due_controller}
 use Rattle.interleave_core.specs.declared.events.Event.{Event}
 use Rattle.interleave_core.specs.declared.events.Event.TheVariants.{Fetch, Mark, Lift, Do, Plant, Close}
@@ -24,9 +24,6 @@ use Rattle.interleave_core.specs.declared.stage.Due.TheVariants.{Marking, Liftin
 use Rattle.interleave_core.specs.declared.stage.Hand.{Hand}
 use Rattle.interleave_core.specs.declared.stage.Stage.{Stage}
 use Rattle.interleave_core.specs.declared.stage.Stage.TheVariants.{Ready, Awaiting, Holding, Ended}
-
-itself : (t : ℕ) → nat_eq t t ≡ true
-itself t = grind (arith, nat_tests)
 
 -- a change of this session at this place, under a tag that it may give
 may_from : (closes way same at low : Bool) → way ≡ closes → same ≡ true → at ≡ true → (closes ≡ false → low ≡ true) → ((if closes then way else not way) && (same && (at && (closes || low)))) ≡ true
@@ -38,28 +35,28 @@ of_task-some c t step x there h = rw there h
 
 due_fetch : (w : World) (c : Parts) (t : TaskNo) (p : ℕ) → nat_lt t.0 (length c.tasks) ≡ true → place_due w t.0 (part_of c t.0) (part_of c t.0).stage ≡ Some p → IsDue w c t.0 (Fetch t)
 due_fetch w c t p there h = record {
-  by = itself t.0;
+  by = eq-eqb t.0 t.0 refl;
   stepped = cell_fetched w c t.0 (part_of c t.0) p;
   step = of_task-some c t.0 (λ (u : TaskPart). option_map (cell_fetched w c t.0 u) (place_due w t.0 u u.stage)) _ there (ap (option_map (cell_fetched w c t.0 (part_of c t.0))) h);
 }
 
 due_mark : (w : World) (c : Parts) (t : TaskNo) (h : Hand) → nat_lt t.0 (length c.tasks) ≡ true → in_hand Marking (part_of c t.0).stage ≡ Some h → IsDue w c t.0 (Mark t)
 due_mark w c t h there e = record {
-  by = itself t.0;
+  by = eq-eqb t.0 t.0 refl;
   stepped = fact_marked w c t.0 (part_of c t.0) h;
   step = of_task-some c t.0 (λ (u : TaskPart). option_map (fact_marked w c t.0 u) (in_hand Marking u.stage)) _ there (ap (option_map (fact_marked w c t.0 (part_of c t.0))) e);
 }
 
 due_lift : (w : World) (c : Parts) (t : TaskNo) (h : Hand) → nat_lt t.0 (length c.tasks) ≡ true → in_hand Lifting (part_of c t.0).stage ≡ Some h → IsDue w c t.0 (Lift t)
 due_lift w c t h there e = record {
-  by = itself t.0;
+  by = eq-eqb t.0 t.0 refl;
   stepped = lifted w c t.0 (part_of c t.0) h;
   step = of_task-some c t.0 (λ (u : TaskPart). option_map (lifted w c t.0 u) (in_hand Lifting u.stage)) _ there (ap (option_map (lifted w c t.0 (part_of c t.0))) e);
 }
 
 due_do : (w : World) (c : Parts) (t : TaskNo) (v : TaskPart) → nat_lt t.0 (length c.tasks) ≡ true → task_done w t.0 (part_of c t.0) (part_of c t.0).stage ≡ Some v → IsDue w c t.0 (Do t)
 due_do w c t v there e = record {
-  by = itself t.0;
+  by = eq-eqb t.0 t.0 refl;
   stepped = done_by c t.0 v;
   step = of_task-some c t.0 (λ (u : TaskPart). option_map (done_by c t.0) (task_done w t.0 u u.stage)) _ there (ap (option_map (done_by c t.0)) e);
 }
@@ -71,7 +68,7 @@ change_by w c t closes whole x plan tied there due way =
     let is : IsChange w c.cells t (part_of c t) x = due_is w c.cells t (part_of c t) (part_of c t).stage x plan tied due in
     let by : controller_of w x.session ≡ Some t = due_controller w t (part_of c t) (part_of c t).stage x plan due in
     let below : closes ≡ false → nat_lt ((word_at c.cells x.place.0).tag + 1) (2 * x.session) ≡ true = λ e. lt-ltb ((word_at c.cells x.place.0).tag + 1) (2 * x.session) (is.lower (way ∙ e)) in
-    let may : may_change c closes x.session x.place.0 x ≡ true = may_from closes x.closes _ _ _ way (itself x.session) (itself x.place.0) below in
+    let may : may_change c closes x.session x.place.0 x ≡ true = may_from closes x.closes _ _ _ way (eq-eqb x.session x.session refl) (eq-eqb x.place.0 x.place.0 refl) below in
     let step : change_step w c closes x.session x.place.0 t (part_of c t) ≡ Some (changed w c t (part_of c t) x) =
     ap (option_and_then (λ (y : PlaceChange). if may_change c closes x.session x.place.0 y then Some (changed w c t (part_of c t) y) else None)) due ∙ ap (λ (b : Bool). if b then Some (changed w c t (part_of c t) x) else None) may in
     (by, ap (by_controller w c closes x.session x.place.0 whole) by ∙ of_task-some c t (change_step w c closes x.session x.place.0 t) _ there step)
@@ -83,10 +80,10 @@ due_change w c t x plan tied there due = by x.closes refl
     by : (b : Bool) → x.closes ≡ b → IsDue w c t.0 (if b then Close (record { 0 = x.session }) x.place else Plant (record { 0 = x.session }) x.place)
     by true e =
         let made = change_by w c t.0 true None x plan tied there due e in
-        record { by = ap (λ (o : Option ℕ). is_task o t.0) made.0 ∙ itself t.0; stepped = changed w c t.0 (part_of c t.0) x; step = made.1 }
+        record { by = ap (λ (o : Option ℕ). is_task o t.0) made.0 ∙ eq-eqb t.0 t.0 refl; stepped = changed w c t.0 (part_of c t.0) x; step = made.1 }
     by false e =
         let made = change_by w c t.0 false (whole_step w c x.session x.place.0) x plan tied there due e in
-        record { by = ap (λ (o : Option ℕ). is_task o t.0) made.0 ∙ itself t.0; stepped = changed w c t.0 (part_of c t.0) x; step = made.1 }
+        record { by = ap (λ (o : Option ℕ). is_task o t.0) made.0 ∙ eq-eqb t.0 t.0 refl; stepped = changed w c t.0 (part_of c t.0) x; step = made.1 }
 
 -- the Do, or what is due before it
 due_or_do : (w : World) (c : Parts) (t : TaskNo) (v : TaskPart) → IsPlan (plan_in w) → IsTied w c.cells t.0 (part_of c t.0) → nat_lt t.0 (length c.tasks) ≡ true → task_goes_on w t.0 (part_of c t.0) (part_of c t.0).stage ≡ Some v →
@@ -137,10 +134,6 @@ possible_at w c t (Ended x) plan tied there e is = tt
 pub next_possible : (w : World) (c : Parts) (t : TaskNo) → IsPlan (plan_in w) → IsTied w c.cells t.0 (part_of c t.0) → nat_lt t.0 (length c.tasks) ≡ true → IsStage w t.0 (part_of c t.0) (part_of c t.0).stage →
     IfSome (stage_event w t (part_of c t.0) (part_of c t.0).stage) (IsDue w c t.0)
 next_possible w c t plan tied there is = possible_at w c t (part_of c t.0).stage plan tied there refl is
-
-mapped : (A B : Type 0) (f : A → B) (o : Option A) (x : B) → option_map f o ≡ Some x → (a : A) × (o ≡ Some a)
-mapped A B f None x h = let n : None ≡ Some x = h in absurd cc
-mapped A B f (Some a) x h = (a, refl)
 
 same_task : (t u : TaskNo) → nat_eq t.0 u.0 ≡ true → t ≡ u
 same_task t u h = let e : t.0 ≡ u.0 = grind (arith, nat_tests) in ap (λ (n : ℕ). record { 0 = n }) e
@@ -238,19 +231,19 @@ changed_only w c u closes s p x by same =
 pub next_only : (w : World) (c : Parts) (u : TaskNo) (e : Event) → IsDue w c u.0 e → next_of w c u ≡ Some e
 next_only w c u (Fetch t) d =
     let at = exists_by (nat_lt t.0 (length c.tasks)) (option_map (cell_fetched w c t.0 (part_of c t.0)) (place_due w t.0 (part_of c t.0) (part_of c t.0).stage)) d.stepped d.step in
-    let p = mapped _ _ _ (place_due w t.0 (part_of c t.0) (part_of c t.0).stage) d.stepped at.1 in
+    let p = got _ _ (place_due w t.0 (part_of c t.0) (part_of c t.0).stage) d.stepped at.1 in
     only_of w c t u (Fetch t) (same_task t u d.by) at.0 (fetch_only w t (part_of c t.0) (part_of c t.0).stage p.0 p.1)
 next_only w c u (Mark t) d =
     let at = exists_by (nat_lt t.0 (length c.tasks)) (option_map (fact_marked w c t.0 (part_of c t.0)) (in_hand Marking (part_of c t.0).stage)) d.stepped d.step in
-    let h = mapped _ _ _ (in_hand Marking (part_of c t.0).stage) d.stepped at.1 in
+    let h = got _ _ (in_hand Marking (part_of c t.0).stage) d.stepped at.1 in
     only_of w c t u (Mark t) (same_task t u d.by) at.0 (hand_only w t (part_of c t.0) (part_of c t.0).stage Marking h.0 h.1)
 next_only w c u (Lift t) d =
     let at = exists_by (nat_lt t.0 (length c.tasks)) (option_map (lifted w c t.0 (part_of c t.0)) (in_hand Lifting (part_of c t.0).stage)) d.stepped d.step in
-    let h = mapped _ _ _ (in_hand Lifting (part_of c t.0).stage) d.stepped at.1 in
+    let h = got _ _ (in_hand Lifting (part_of c t.0).stage) d.stepped at.1 in
     only_of w c t u (Lift t) (same_task t u d.by) at.0 (hand_only w t (part_of c t.0) (part_of c t.0).stage Lifting h.0 h.1)
 next_only w c u (Do t) d =
     let at = exists_by (nat_lt t.0 (length c.tasks)) (option_map (done_by c t.0) (task_done w t.0 (part_of c t.0) (part_of c t.0).stage)) d.stepped d.step in
-    let v = mapped _ _ _ (task_done w t.0 (part_of c t.0) (part_of c t.0).stage) d.stepped at.1 in
+    let v = got _ _ (task_done w t.0 (part_of c t.0) (part_of c t.0).stage) d.stepped at.1 in
     only_of w c t u (Do t) (same_task t u d.by) at.0 (do_only w t (part_of c t.0) (part_of c t.0).stage v.0 v.1)
 next_only w c u (Plant s p) d = elim (plant_cases w c s.0 p.0 d.stepped d.step) [
   | inl whole ↦ let none : false ≡ true = sym (ap (λ (o : Option ℕ). is_task o u.0) whole.by_none) ∙ d.by in absurd cc
@@ -266,11 +259,11 @@ or_do_by : (w : World) (t : TaskNo) (u : TaskPart) (stage : Stage) → IsPlan (p
 or_do_by w t u stage plan = by (change_due w t.0 u stage) refl
   where
     by : (o : Option PlaceChange) → change_due w t.0 u stage ≡ o → is_by w (change_or_do t o) t.0 ≡ true
-    by None e = itself t.0
+    by None e = eq-eqb t.0 t.0 refl
     by (Some x) e = way x.closes
       where
         own : is_task (controller_of w x.session) t.0 ≡ true
-        own = ap (λ (o : Option ℕ). is_task o t.0) (due_controller w t.0 u stage x plan e) ∙ itself t.0
+        own = ap (λ (o : Option ℕ). is_task o t.0) (due_controller w t.0 u stage x plan e) ∙ eq-eqb t.0 t.0 refl
 
         way : (b : Bool) → is_by w (if b then Close (record { 0 = x.session }) x.place else Plant (record { 0 = x.session }) x.place) t.0 ≡ true
         way true = own
@@ -281,13 +274,13 @@ stage_by w t u Ready e plan h = by (place_due w t.0 u Ready) h
   where
     by : (o : Option ℕ) → Some (if is_none o then change_or_do t (change_due w t.0 u Ready) else Fetch t) ≡ Some e → is_by w e t.0 ≡ true
     by None k = let same : change_or_do t (change_due w t.0 u Ready) ≡ e = cc in subst (λ (x : Event). is_by w x t.0 ≡ true) same (or_do_by w t u Ready plan)
-    by (Some p) k = let same : Fetch t ≡ e = cc in subst (λ (x : Event). is_by w x t.0 ≡ true) same (itself t.0)
-stage_by w t u Awaiting e plan h = let same : Fetch t ≡ e = cc in subst (λ (x : Event). is_by w x t.0 ≡ true) same (itself t.0)
+    by (Some p) k = let same : Fetch t ≡ e = cc in subst (λ (x : Event). is_by w x t.0 ≡ true) same (eq-eqb t.0 t.0 refl)
+stage_by w t u Awaiting e plan h = let same : Fetch t ≡ e = cc in subst (λ (x : Event). is_by w x t.0 ≡ true) same (eq-eqb t.0 t.0 refl)
 stage_by w t u (Holding g) e plan h = by g.due h
   where
     by : (d : Due) → Some (event_due t (change_due w t.0 u (Holding g)) d) ≡ Some e → is_by w e t.0 ≡ true
-    by Marking k = let same : Mark t ≡ e = cc in subst (λ (x : Event). is_by w x t.0 ≡ true) same (itself t.0)
-    by Lifting k = let same : Lift t ≡ e = cc in subst (λ (x : Event). is_by w x t.0 ≡ true) same (itself t.0)
+    by Marking k = let same : Mark t ≡ e = cc in subst (λ (x : Event). is_by w x t.0 ≡ true) same (eq-eqb t.0 t.0 refl)
+    by Lifting k = let same : Lift t ≡ e = cc in subst (λ (x : Event). is_by w x t.0 ≡ true) same (eq-eqb t.0 t.0 refl)
     by Nothing k = let same : change_or_do t (change_due w t.0 u (Holding g)) ≡ e = cc in subst (λ (x : Event). is_by w x t.0 ≡ true) same (or_do_by w t u (Holding g) plan)
 stage_by w t u (Ended x) e plan h = absurd cc
 

@@ -5,7 +5,7 @@ use Rattle.std.proofs.lemmas.Grind.{get_or-set_at}
 use Rattle.std.proofs.lemmas.List.{get_or-set_other, length-set, get_or_default}
 use Rattle.std.proofs.lemmas.List.Folds.{list_any_none}
 use Rattle.std.proofs.lemmas.Option.{same_Some}
-use Rattle.std.proofs.lemmas.Bool.{ltb-true, not-true}
+use Rattle.std.proofs.lemmas.Bool.{ltb-true, not-true, cases_eq, false_from_ne_true, and_parts, and_from}
 use Rattle.cov_base.specs.Meaning.{breakpoint, FactSet, no_facts, with_fact, is_full}
 use Rattle.s370_state.specs.declared.endings.Ending.TheVariants.{Returned, Spent}
 use Rattle.s370_state.specs.declared.endings.Next.{Next}
@@ -15,7 +15,7 @@ use Rattle.module_area.specs.Meaning.{word_at, no_cell, index_of, tag_session, C
 use Rattle.module_area.specs.Notes.{is_closed}
 use Rattle.module_area.specs.Rule.{window_tag, IsPlan}
 use Rattle.module_area.specs.declared.cells.Cell.{Cell}
-use Rattle.module_area.proofs.Laws.{same_index, and_left, and_right, and_both, any_at, any_shown, over_cases, at_place, closed_place, closed_of_places}
+use Rattle.module_area.proofs.Laws.{same_index, any_at, any_shown, over_cases, at_place, closed_place, closed_of_places}
 use Rattle.session_book.specs.Meaning.{no_task}
 use Rattle.interleave_core.specs.Meaning.{World, TaskPart, Parts, part_of, plan_in, place_at, first_part, PlaceChange, controller_of, Stepped, parts_step, cell_fetched, fact_marked, lifted, done_by, task_done, task_goes_on, breakpoint_of, changed_cell, changed, change_due, with_cell, with_due, with_stage, original_under, same_cell, same_due, in_hand, hand_at, step_of, subject_place, place_due, is_awaiting, is_spent, stage_after, executed, awaits_or, instruction_executed, set_of, fact_in}
 use Rattle.interleave_core.specs.Quiet.{has_unmarked, any_unmarked, is_quiet, SetsStay}
@@ -28,9 +28,9 @@ use Rattle.interleave_core.specs.declared.stage.Stage.{Stage}
 use Rattle.interleave_core.specs.declared.stage.Stage.TheVariants.{Ready, Awaiting, Holding, Ended}
 use Rattle.interleave_core.proofs.Changes.{goes_on, may_by, plant_cases, close_by}
 use Rattle.interleave_core.proofs.Kept.{planted_form}
-use Rattle.interleave_core.proofs.Logs.{due_at}
 use Rattle.interleave_core.proofs.Ruled.{place_inside, subject_inside}
-use Rattle.interleave_core.proofs.Runs.{same_or, got, exists_by, lifted_tasks, in_hand-stage, same_due-true, session_of_window}
+use Rattle.interleave_core.proofs.Runs.{got, exists_by, lifted_tasks, in_hand-stage, same_due-true, session_of_window}
+use Rattle.interleave_core.proofs.Alone.{due_in}
 use Rattle.interleave_core.proofs.Tied.{lift_tag, changed_tag}
 use Rattle.interleave_core.proofs.Turns.{IsChange, controller_in, due_is}
 
@@ -40,7 +40,7 @@ abbrev pub Rises : Parts → Parts → Type 0
 Rises c d = (p : ℕ) → p < length c.cells → (word_at c.cells p).tag ≤ (word_at d.cells p).tag
 
 tag_set : (cells : List Cell) (p : ℕ) (x : Cell) (q : ℕ) → p < length cells → (word_at cells p).tag ≤ x.tag → (word_at cells q).tag ≤ (word_at (set cells p x) q).tag
-tag_set cells p x q lt up = elim (same_or q p) [
+tag_set cells p x q lt up = elim (cases_eq q p) [
   | inl same ↦
       let here : word_at (set cells p x) q ≡ x = get_or-set_at cells p q x no_cell same lt in
       subst (λ (y : Cell). (word_at cells q).tag ≤ y.tag) (sym here) (subst (λ (n : ℕ). (word_at cells n).tag ≤ x.tag) (sym same) up)
@@ -126,7 +126,7 @@ is_local w s plan h =
       inside = λ p there.
           let j = any_at (λ (c : ControlledView). nat_eq c.session s && has_place c.places p) (plan_in w).controlled no_controlled there in
           let c : ControlledView = get_or (plan_in w).controlled j.0 no_controlled in
-          at_place (λ (n : ℕ). n < length w.places) c.places p (plan.controlled j.0 no_controlled j.1).of_plan (and_right (nat_eq c.session s) (has_place c.places p) j.2);
+          at_place (λ (n : ℕ). n < length w.places) c.places p (plan.controlled j.0 no_controlled j.1).of_plan (and_parts (nat_eq c.session s) (has_place c.places p) j.2).1;
     }
 
 pub over_rises : (w : World) (s : ℕ) (c d : Parts) → IsLocal w s → length c.cells ≡ length w.places → Rises c d → AreOver w s c → AreOver w s d
@@ -145,23 +145,16 @@ Clear s stage = has_unmarked s stage ≡ false
 one_clear : (s : ℕ) (c d : Parts) (t : ℕ) (u : TaskPart) → d.tasks ≡ set c.tasks t u → t < length c.tasks → (Clear s (part_of c t).stage → Clear s u.stage) → (r : ℕ) → Clear s (part_of c r).stage → Clear s (part_of d r).stage
 one_clear s c d t u e lt one r is =
     let there : part_of d r ≡ get_or (set c.tasks t u) r (first_part no_task) = ap (λ (x : List TaskPart). get_or x r (first_part no_task)) e in
-    elim (same_or r t) [
+    elim (cases_eq r t) [
       | inl same ↦ subst (λ (v : TaskPart). Clear s v.stage) (sym (there ∙ get_or-set_at c.tasks t r u (first_part no_task) same lt)) (one (subst (λ (n : ℕ). Clear s (part_of c n).stage) same is))
       | inr other ↦ subst (λ (v : TaskPart). Clear s v.stage) (sym (there ∙ get_or-set_other c.tasks t r u (first_part no_task) other)) is
     ]
 
 due_inside : (w : World) (t : ℕ) (u : TaskPart) (stage : Stage) (p : ℕ) → place_due w t u stage ≡ Some p → p < length w.places
-due_inside w t u Ready p h = place_inside w u.state.machine.cpu.ia p (due_at (has_returned u.state) (is_spent w t u.state) (place_at w u.state.machine.cpu.ia) p h)
+due_inside w t u Ready p h = place_inside w u.state.machine.cpu.ia p (due_in (has_returned u.state) (is_spent w t u.state) (place_at w u.state.machine.cpu.ia) p h).2
 due_inside w t u Awaiting p h = subject_inside w (step_of w t u).visits p h
 due_inside w t u (Holding x) p h = let n : None ≡ Some p = h in absurd cc
 due_inside w t u (Ended x) p h = let n : None ≡ Some p = h in absurd cc
-
-no_match : (a b : ℕ) → (nat_eq a b ≡ true → ⊥) → nat_eq a b ≡ false
-no_match a b h = by (nat_eq a b) refl
-  where
-    by : (x : Bool) → nat_eq a b ≡ x → nat_eq a b ≡ false
-    by true e = absurd (h e)
-    by false e = e
 
 -- no breakpoint of the session stands where one can be fetched
 fetch_clear : (w : World) (s : ℕ) (c : Parts) (subject : Bool) (p : ℕ) → AreSteady w c → IsLocal w s → AreOver w s c → p < length w.places → Clear s (Holding (hand_at w c subject p))
@@ -181,7 +174,7 @@ fetch_clear w s c subject p is local over lt = by (nat_eq (word_at c.cells p).ha
         omega (arith, high, sum)
 
     by : (b d : Bool) → nat_eq cell.half breakpoint ≡ b → (same_due (if b && d then Marking else Nothing) Marking && nat_eq (cell.tag + 1) (2 * s)) ≡ false
-    by true true e = no_match (cell.tag + 1) (2 * s) (apart (eqb-true cell.half breakpoint e))
+    by true true e = false_from_ne_true (nat_eq (cell.tag + 1) (2 * s)) (apart (eqb-true cell.half breakpoint e))
     by true false e = refl
     by false d e = refl
 
@@ -304,7 +297,7 @@ mark_stays w s c t h facts is pos lt due clear p l =
     let own : s ≡ tag_session h.cell.tag = (same_index (length w.places) s p (tag_session h.cell.tag) h.place.0 pos some l hand.place same).0 in
     let first = stands.1 in
     let sum : h.cell.tag + 1 ≡ 2 * s = omega (arith, own, session, tag, first) in
-    let found : has_unmarked s (Holding h) ≡ true = and_both (same_due h.due Marking) _ at.1 (eq-eqb (h.cell.tag + 1) (2 * s) sum) in
+    let found : has_unmarked s (Holding h) ≡ true = and_from (same_due h.due Marking) _ at.1 (eq-eqb (h.cell.tag + 1) (2 * s) sum) in
     let no : true ≡ false = sym found ∙ (ap (has_unmarked s) (sym at.0) ∙ clear) in
     absurd cc)
 
@@ -360,11 +353,11 @@ none_of s tasks t h lt = by (has_unmarked s (get_or tasks t (first_part no_task)
 
 pub quiet_is : (w : World) (c : Parts) (s : ℕ) → is_quiet w c s ≡ true → Quiet w c s
 quiet_is w c s h =
-    let rest = and_right (is_some (controller_of w s)) _ h in
+    let rest = (and_parts (is_some (controller_of w s)) _ h).1 in
     record {
-      controlled = and_left (is_some (controller_of w s)) _ h;
-      over = λ p. closed_place (plan_in w) (λ q. (word_at c.cells q).tag) s p (and_left (is_closed (plan_in w) (λ q. (word_at c.cells q).tag) s) _ rest);
-      clear = λ t lt. none_of s c.tasks t (not-true (any_unmarked s c.tasks) (and_right (is_closed (plan_in w) (λ p. (word_at c.cells p).tag) s) _ rest)) lt;
+      controlled = (and_parts (is_some (controller_of w s)) _ h).0;
+      over = λ p. closed_place (plan_in w) (λ q. (word_at c.cells q).tag) s p (and_parts (is_closed (plan_in w) (λ q. (word_at c.cells q).tag) s) _ rest).0;
+      clear = λ t lt. none_of s c.tasks t (not-true (any_unmarked s c.tasks) (and_parts (is_closed (plan_in w) (λ p. (word_at c.cells p).tag) s) _ rest).1) lt;
     }
 
 pub is_quiet_by : (w : World) (c : Parts) (s : ℕ) → Quiet w c s → is_quiet w c s ≡ true
@@ -372,7 +365,7 @@ is_quiet_by w c s is =
     let closed : is_closed (plan_in w) (λ p. (word_at c.cells p).tag) s ≡ true = closed_of_places (plan_in w) (λ p. (word_at c.cells p).tag) s is.over in
     let none : any_unmarked s c.tasks ≡ false = list_any_none (λ (u : TaskPart). has_unmarked s u.stage) c.tasks
     (λ t d lt. subst (λ (u : TaskPart). has_unmarked s u.stage ≡ false) (get_or_default c.tasks t (first_part no_task) d lt) (is.clear t lt)) in
-    and_both (is_some (controller_of w s)) _ is.controlled (and_both (is_closed (plan_in w) (λ p. (word_at c.cells p).tag) s) _ closed (ap not none))
+    and_from (is_some (controller_of w s)) _ is.controlled (and_from (is_closed (plan_in w) (λ p. (word_at c.cells p).tag) s) _ closed (ap not none))
 
 -- an event that is possible keeps it, and the session's sets
 pub quiet_step : (w : World) (s : ℕ) (c : Parts) (e : Event) (x : Stepped) → AreSteady w c → parts_step w c e ≡ Some x → is_quiet w c s ≡ true → (is_quiet w x.parts s ≡ true) × SetsStay w s c x.parts

@@ -1,5 +1,5 @@
 -- The parties of a core, what its tasks have in hand, and what one task's event has to keep of the rule.
-use Rattle.std.proofs.Common.{◌≡◌, ◌≢◌, ℕ, zero, suc, ◌+◌, ◌*◌, ◌<◌, ◌≤◌, Bool, true, nat_eq, if◌then◌else◌, Option, Some, None, List, [], ◌∷◌, length, get_or, set, refl, sym, ◌∙◌, ap, subst, arith}
+use Rattle.std.proofs.Common.{◌≡◌, ◌≢◌, ℕ, zero, suc, ◌+◌, ◌*◌, ◌<◌, ◌≤◌, Bool, true, nat_eq, if◌then◌else◌, Option, Some, None, List, [], ◌∷◌, length, get_or, set, refl, sym, ◌∙◌, ap, subst, arith, ne_eqb, eq-eqb}
 use mathlib.Core.Option.{some, some-injective}
 use lib.ListN.{get_elem?}
 use Rattle.std.proofs.lemmas.Grind.{get_or-set_at}
@@ -21,7 +21,7 @@ use Rattle.interleave_core.specs.declared.stage.Due.TheVariants.{Marking, Liftin
 use Rattle.interleave_core.specs.declared.stage.Stage.{Stage}
 use Rattle.interleave_core.specs.declared.stage.Stage.TheVariants.{Holding}
 use Rattle.interleave_core.proofs.Runs.{in_hand-stage, same_due-true, session_of_window}
-use Rattle.interleave_core.proofs.Logs.{itself, apart, one_log}
+use Rattle.interleave_core.proofs.Logs.{one_log}
 
 -- ---- the parties
 
@@ -38,11 +38,8 @@ task_role w t [] = refl
 task_role w t (Met e ∷ log) = note_role (plan_in w) e e.lifted e.found e.fact (task_view w t log) ∙ task_role w t log
 task_role w t (Gave p tag ∷ log) = task_role w t log
 
-no_number : (A : Type 0) (k : ℕ) → k < 0 → A
-no_number A k h = absurd (omega arith)
-
 pub view_at : (w : World) (logs : ℕ → List Item) (t n k m : ℕ) → t + k ≡ m → k < n → get_elem? (task_views w logs t n) k ≡ some (task_view w m (logs m))
-view_at w logs t zero k m e lt = no_number _ k lt
+view_at w logs t zero k m e lt = absurd (omega (arith, lt))
 view_at w logs t (suc n) zero m e lt = let same : t ≡ m = omega (arith, e) in ap (λ (x : ℕ). some (task_view w x (logs x))) same
 view_at w logs t (suc n) (suc k) m e lt = view_at w logs (t + 1) n k m (omega (arith, e)) (omega (arith, lt))
 
@@ -54,7 +51,7 @@ views_same w logs more t zero h = refl
 views_same w logs more t (suc n) h = both_are _ _ _ _ (ap (task_view w t) (sym (h t (omega arith)))) (views_same w logs more (t + 1) n (λ s l. h s (omega (arith, l))))
 
 pub views_set : (w : World) (logs more : ℕ → List Item) (t n k m : ℕ) (x : View) → t + k ≡ m → k < n → x ≡ task_view w m (more m) → ((s : ℕ) → s ≢ m → more s ≡ logs s) → set (task_views w logs t n) k x ≡ task_views w more t n
-views_set w logs more t zero k m x e lt is other = no_number _ k lt
+views_set w logs more t zero k m x e lt is other = absurd (omega (arith, lt))
 views_set w logs more t (suc n) zero m x e lt is other =
     let same : m ≡ t = omega (arith, e) in
     both_are _ _ _ _ (is ∙ ap (λ (y : ℕ). task_view w y (more y)) same) (views_same w logs more (t + 1) n (λ s l. other s (λ h. omega (arith, h, l, same))))
@@ -120,10 +117,10 @@ logs_after w c d t shown s = if nat_eq t s then log_after w s (part_of d s) show
 own_log : (w : World) (c : CoreState) (d : Parts) (t : ℕ) (u : TaskPart) (shown : Shown) → d.tasks ≡ set c.parts.tasks t u → t < length c.parts.tasks → log_after w t u shown (c.logs t) ≡ logs_after w c d t shown t
 own_log w c d t u shown e lt =
     let part : part_of d t ≡ u = ap (λ (x : List TaskPart). get_or x t (first_part no_task)) e ∙ get_or-set_at c.parts.tasks t t u (first_part no_task) refl lt in
-    ap (λ (x : TaskPart). log_after w t x shown (c.logs t)) (sym part) ∙ ap (λ (b : Bool). if b then log_after w t (part_of d t) shown (c.logs t) else c.logs t) (sym (itself t))
+    ap (λ (x : TaskPart). log_after w t x shown (c.logs t)) (sym part) ∙ ap (λ (b : Bool). if b then log_after w t (part_of d t) shown (c.logs t) else c.logs t) (sym (eq-eqb t t refl))
 
 other_log : (w : World) (c : CoreState) (d : Parts) (t : ℕ) (shown : Shown) (s : ℕ) → s ≢ t → logs_after w c d t shown s ≡ c.logs s
-other_log w c d t shown s h = ap (λ (b : Bool). if b then log_after w s (part_of d s) shown (c.logs s) else c.logs s) (apart t s h)
+other_log w c d t shown s h = ap (λ (b : Bool). if b then log_after w s (part_of d s) shown (c.logs s) else c.logs s) (ne_eqb t s (λ e. h (sym e)))
 
 -- one task's event, by its view after it
 pub after_task : (w : World) (c : CoreState) (v : View) (d : Parts) (t : ℕ) (u : TaskPart) (shown : Shown) (x : View) → Ruled w c v → t < length c.parts.tasks → d.tasks ≡ set c.parts.tasks t u → length d.cells ≡ length w.places →

@@ -1,5 +1,5 @@
 -- The rule of an area holds of a core after every list of events.
-use Rattle.std.proofs.Common.{◌≡◌, ◌≢◌, ◌⊎◌, inl, inr, ℕ, zero, suc, ◌+◌, ◌*◌, ◌<◌, ◌≤◌, Bool, true, false, not, ◌&&◌, nat_lt, nat_eq, if◌then◌else◌, Option, Some, None, is_none, List, [], ◌∷◌, ◌++◌, length, get_or, set, refl, sym, ◌∙◌, ap, subst, arith, eqb-true, option_map}
+use Rattle.std.proofs.Common.{◌≡◌, ◌≢◌, ◌⊎◌, inl, inr, ℕ, zero, suc, ◌+◌, ◌*◌, ◌<◌, ◌≤◌, Bool, true, false, not, ◌&&◌, nat_lt, nat_eq, if◌then◌else◌, Option, Some, None, is_none, List, [], ◌∷◌, ◌++◌, length, get_or, set, refl, sym, ◌∙◌, ap, subst, arith, eqb-true, option_map, lt_irrefl, eq-eqb}
 use Rattle.std.proofs.lemmas.Grind.{get_or-set_at}
 use Rattle.std.proofs.lemmas.List.{get_or-map, get_or-set_other, length-set, length-map, length-replicate}
 use Rattle.std.proofs.lemmas.Option.{same_Some}
@@ -33,7 +33,8 @@ use Rattle.interleave_core.specs.declared.stage.Stage.TheVariants.{Ready, Awaiti
 use Rattle.interleave_core.specs.Views.{AreTied}
 use Rattle.interleave_core.proofs.Changes.{goes_on, Changed, plant_cases, close_by, logs_whole, logs_plant, logs_close}
 use Rattle.interleave_core.proofs.Runs.{got, lifted_tasks, exists_by, through, no_set_at, same_due-true}
-use Rattle.interleave_core.proofs.Logs.{found_at, due_at, itself, got_step}
+use Rattle.interleave_core.proofs.Logs.{found_at, got_step}
+use Rattle.interleave_core.proofs.Alone.{due_in}
 use Rattle.interleave_core.proofs.Tied.{tied_step, tied_first}
 use Rattle.interleave_core.proofs.Begun.{begun_instruction, begun_subject}
 use Rattle.interleave_core.proofs.Rule.{task_role, view_at, set_same, HasBreakpoint, AreMarked, entry_in, InHand, InStage, held_hand, hand_of, Ruled, logs_after, after_task}
@@ -54,7 +55,7 @@ subject_inside w (v ∷ (s ∷ vs)) p h = place_inside w s.at p h
 pub fetch_due : (w : World) (t : ℕ) (u : TaskPart) (log : List Item) (stage : Stage) (p : ℕ) → IsWorld w → t < length w.job.tasks → InStage w t u log stage → place_due w t u stage ≡ Some p →
     (p < length w.places) × ((visit_of (step_of w t u) (is_awaiting stage)).begun ≡ not (is_awaiting stage && is_execute (original_at (plan_in w) p))) × AreMarked log
 fetch_due w t u log Ready p world lt is h =
-    let at = due_at (has_returned u.state) (is_spent w t u.state) (place_at w u.state.machine.cpu.ia) p h in
+    let at = (due_in (has_returned u.state) (is_spent w t u.state) (place_at w u.state.machine.cpu.ia) p h).2 in
     (place_inside w u.state.machine.cpu.ia p at, begun_instruction w t p u world lt at, is)
 fetch_due w t u log Awaiting p world lt is h = (subject_inside w (step_of w t u).visits p h, begun_subject w t p u world lt h, is)
 fetch_due w t u log (Holding x) p world lt is h = let n : None ≡ Some p = h in absurd cc
@@ -175,7 +176,7 @@ pub same_cells : (a b : Cell) → same_cell a b ≡ true → a ≡ b
 same_cells a b h = let at = and_parts (nat_eq a.tag b.tag) (nat_eq a.half b.half) h in λ i. record { tag = eqb-true a.tag b.tag at.0 i; half = eqb-true a.half b.half at.1 i }
 
 cell_itself : (a : Cell) → same_cell a a ≡ true
-cell_itself a = rw (itself a.tag, itself a.half) refl
+cell_itself a = rw (eq-eqb a.tag a.tag refl, eq-eqb a.half a.half refl) refl
 
 -- what a lift does to the cells
 module _ (w : World) (c : Parts) (h : Hand) (b : HasBreakpoint w h) (cells : length c.cells ≡ length w.places) where
@@ -299,15 +300,12 @@ views_push : (w : World) (t n m : ℕ) → t + n ≡ m → task_views w nothing 
 views_push w t zero m e = let same : m ≡ t = omega (arith, e) in ap (λ (k : ℕ). blank (Task k) ∷ []) same
 views_push w t (suc n) m e = ap (λ (vs : List View). blank (Task t) ∷ vs) (views_push w (t + 1) n m (omega (arith, e)))
 
-itself_not : (n : ℕ) → n < n → ⊥
-itself_not n h = omega arith
-
 gave : (plan : PlanView) (w : World) (cell : ℕ → Cell) (sets : ℕ → ℕ → FactSet) (n : ℕ) → Held plan cell sets (blank Root ∷ []) → Held plan cell sets (first_planter n ∷ task_views w nothing 0 n)
 gave plan w cell sets zero h = h
 gave plan w cell sets (suc n) h =
     let before : Held plan cell sets (first_planter n ∷ task_views w nothing 0 n) = gave plan w cell sets n h in
     let after : Held plan cell sets (first_planter (suc n) ∷ (task_views w nothing 0 n ++ blank (Task n) ∷ [])) =
-    splits plan cell sets (first_planter n ∷ task_views w nothing 0 n) before 0 (first_planter n) refl refl n (λ has. itself_not n (numbers_below n n has)) in
+    splits plan cell sets (first_planter n ∷ task_views w nothing 0 n) before 0 (first_planter n) refl refl n (λ has. lt_irrefl n (numbers_below n n has)) in
     subst (λ (vs : List View). Held plan cell sets (first_planter (suc n) ∷ vs)) (views_push w 0 n n (omega arith)) after
 
 pub ruled_first : (w : World) → IsWorld w → Ruled w (core_start w) (first_planter (length w.job.tasks))

@@ -1,5 +1,5 @@
 -- Runs of the core, event by event, and what a possible event was made of.
-use Rattle.std.proofs.Common.{◌≡◌, ◌≢◌, ◌⊎◌, ℕ, zero, suc, ◌<◌, Bool, true, false, if◌then◌else◌, Option, Some, None, option_map, List, [], ◌∷◌, ◌++◌, get_or, replicate, refl, sym, ◌∙◌, ap, subst, arith}
+use Rattle.std.proofs.Common.{◌≡◌, ℕ, zero, suc, ◌<◌, Bool, true, false, if◌then◌else◌, Option, Some, None, option_map, List, [], ◌∷◌, ◌++◌, get_or, replicate, refl, sym, ◌∙◌, ap, subst, arith}
 use Rattle.std.proofs.lemmas.Option.{same_Some}
 use Rattle.std.specs.Option.{option_and_then}
 use Rattle.cov_base.specs.Meaning.{no_facts}
@@ -14,9 +14,6 @@ use Rattle.interleave_core.specs.declared.stage.Due.TheVariants.{Marking, Liftin
 use Rattle.interleave_core.specs.declared.stage.Hand.{Hand}
 use Rattle.interleave_core.specs.declared.stage.Stage.{Stage}
 use Rattle.interleave_core.specs.declared.stage.Stage.TheVariants.{Ready, Awaiting, Holding, Ended}
-
-pub same_or : (t n : ℕ) → (t ≡ n) ⊎ (t ≢ n)
-same_or t n = grind arith
 
 -- sets of which none has a fact
 pub no_set_at : (n i : ℕ) → get_or (replicate n no_facts) i no_facts ≡ no_facts
@@ -47,7 +44,7 @@ pub lifted_tasks : (b : Bool) (P : Parts) (p : ℕ) (x : Cell) → (if b then wi
 lifted_tasks true P p x = refl
 lifted_tasks false P p x = refl
 
-pub exists_by : (b : Bool) (o : Option Stepped) (x : Stepped) → (if b then o else None) ≡ Some x → (b ≡ true) × (o ≡ Some x)
+pub exists_by : {A : Type 0} (b : Bool) (o : Option A) (x : A) → (if b then o else None) ≡ Some x → (b ≡ true) × (o ≡ Some x)
 exists_by true o x h = (refl, h)
 exists_by false o x h = let n : None ≡ Some x = h in absurd cc
 

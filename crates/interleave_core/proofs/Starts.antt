@@ -1,5 +1,5 @@
 -- A core before its first event, and what each core fits.
-use Rattle.std.proofs.Common.{◌≡◌, ◌⊎◌, inl, inr, ℕ, All, ◌+◌, ◌-◌, ◌*◌, ◌<◌, true, Some, List, [], ◌∷◌, ◌++◌, length, get_or, map, replicate, nat_lt, refl, sym, ◌∙◌, ap, subst, arith}
+use Rattle.std.proofs.Common.{◌≡◌, ◌⊎◌, inl, inr, ℕ, All, ◌+◌, ◌-◌, ◌*◌, ◌<◌, true, Some, List, [], ◌∷◌, ◌++◌, length, get_or, map, replicate, nat_lt, refl, sym, ◌∙◌, ap, subst, arith, eq-or-lt_of_le}
 use Rattle.std.proofs.lemmas.List.{get_or-map, length-map, length-replicate, length-append, ext_get_or, get_or_push, get_or_append_left}
 use Rattle.std.proofs.lemmas.Bool.{lt-ltb}
 use Rattle.cov_base.specs.Meaning.{FactSet, no_facts, is_within}
@@ -81,9 +81,6 @@ IsWorld-core w cells sets plan tasks is = record {
   seen = λ t l. (is.running t no_running (subst (λ (n : ℕ). t < n) (sym is.count) l)).seen;
 }
 
-cases_last : (t n : ℕ) → t < n + 1 → (t ≡ n) ⊎ (t < n)
-cases_last t n h = grind arith
-
 -- one task more
 pub AreReady-push : (w : World) (n : ℕ) (tasks more : List RunningView) (r : RunningView) → AreReady w n tasks → more ≡ tasks ++ r ∷ [] → IsRunning w n r → r.part ≡ first_part (task_of w.job n) →
     AreReady w (n + 1) more
@@ -102,7 +99,7 @@ AreReady-push w n tasks more r are e runs part = subst (λ (xs : List RunningVie
     last_or : (t : ℕ) → t < length (tasks ++ r ∷ []) → (t ≡ length tasks) ⊎ (t < length tasks)
     last_or t l = let size = length-append tasks (r ∷ []) in
         let below : t < length tasks + 1 = subst (λ (n : ℕ). t < n) size l in
-        cases_last t (length tasks) below
+        eq-or-lt_of_le {n = t} {m = length tasks} (omega (arith, below))
 
     at_end : (t : ℕ) (d : RunningView) → t ≡ length tasks → get_or (tasks ++ r ∷ []) t d ≡ r
     at_end t d same = get_or_push tasks r d t (sym same)

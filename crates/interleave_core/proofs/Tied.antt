@@ -3,12 +3,12 @@ use Rattle.std.proofs.Common.{◌≡◌, ◌≢◌, inl, inr, ℕ, zero, suc, �
 use Rattle.std.specs.Option.{option_and_then}
 use Rattle.std.proofs.lemmas.Grind.{get_or-set_at}
 use Rattle.std.proofs.lemmas.List.{get_or-map, get_or-set_other, length-set, length-map}
-use Rattle.std.proofs.lemmas.Bool.{lt-ltb, le-leb, leb-true, ltb-true}
+use Rattle.std.proofs.lemmas.Bool.{lt-ltb, le-leb, leb-true, ltb-true, cases_eq, and_parts}
 use Rattle.cov_base.specs.declared.numbers.PlaceNo.{PlaceNo}
 use Rattle.module_area.specs.Meaning.{word_at, no_cell, ControlledView, window_at, fresh_word, tag_session, kind_at}
 use Rattle.module_area.specs.Rule.{IsPlan, is_controller}
 use Rattle.module_area.specs.declared.cells.Cell.{Cell}
-use Rattle.module_area.proofs.Laws.{one_controller, and_left}
+use Rattle.module_area.proofs.Laws.{one_controller}
 use Rattle.module_area.specs.declared.places.Place.{Place}
 use Rattle.cov_base.specs.Meaning.{FactSet, with_fact, is_full, State}
 use Rattle.session_book.specs.Meaning.{task_of, no_task}
@@ -22,7 +22,7 @@ use Rattle.interleave_core.specs.declared.stage.Stage.{Stage}
 use Rattle.interleave_core.specs.declared.stage.Stage.TheVariants.{Holding}
 use Rattle.interleave_core.proofs.Changes.{is_done, may_by, Changed, plant_cases, close_by}
 use Rattle.interleave_core.specs.Views.{closed_of, session_at, turn_number, turn_of, has_window, number_at, tag_at, IsTied, AreTied}
-use Rattle.interleave_core.proofs.Runs.{same_or, exists_by, got, lifted_tasks}
+use Rattle.interleave_core.proofs.Runs.{exists_by, got, lifted_tasks}
 use Rattle.interleave_core.proofs.Turns.{own, places_differ, session_rises, IsAsked, IsChange, change_asked, due_is}
 
 -- ---- cells
@@ -87,7 +87,7 @@ module _ (w : World) (cells : List Cell) (t p : ℕ) (x : Cell) (u : TaskPart) (
       let from : u.changed + 1 ≤ i = leb-true (u.changed + 1) i h in
       let had : has_window u i ≡ true = ap (λ (b : Bool). if b then nat_le u.changed i else nat_lt i u.changed) e ∙ le-leb u.changed i (omega (arith, from)) in
       ap (λ (n : ℕ). n + 1) (other i lt (λ same. omega (arith, same, from))) ∙ is.planted i lt had
-  window false e k i lt h = elim (same_or i u.changed) [
+  window false e k i lt h = elim (cases_eq i u.changed) [
     | inl same ↦
         let at : number_at (turn_of w t u).places i ≡ p = ap (number_at (turn_of w t u).places) same ∙ here in
         ap (λ (n : ℕ). n + 1) (tag_here cells p x (turn_of w t u).places i in_cells at) ∙ k
@@ -107,7 +107,7 @@ module _ (w : World) (cells : List Cell) (t p : ℕ) (x : Cell) (u : TaskPart) (
     where
       by : (b : Bool) → u.is_open ≡ b → turn_number u ≡ (if b then u.opened - 1 else u.opened) → turn_number u < n
       by true e k = let some : 0 < u.opened = is.some e in omega (arith, k, some, from)
-      by false e k = elim (same_or n u.opened) [
+      by false e k = elim (cases_eq n u.opened) [
         | inl now ↦
             let turn : n ≡ turn_number u = now ∙ sym k in
             let apart : i ≢ u.changed = λ z. let more = unless now e in omega (arith, more, z) in
@@ -117,7 +117,7 @@ module _ (w : World) (cells : List Cell) (t p : ℕ) (x : Cell) (u : TaskPart) (
 
   later : (n i : ℕ) → u.opened ≤ n → n < length (sessions_by w t) → (n ≡ u.opened → u.is_open ≡ false → u.changed + 1 ≤ i) → i < length (session_at w t n).places →
       tag_at new (session_at w t n).places i + 1 < 2 * (session_at w t n).session
-  later n i from lt unless l = elim (same_or (number_at (session_at w t n).places i) p) [
+  later n i from lt unless l = elim (cases_eq (number_at (session_at w t n).places i) p) [
     | inl same ↦
         let up : turn_number u < n = at_place n i from lt unless l same in
         subst (λ (k : ℕ). k + 1 < 2 * (session_at w t n).session) (sym (tag_here cells p x (session_at w t n).places i in_cells same)) (above stands is_open tag n up lt)
@@ -200,7 +200,7 @@ all_but : (w : World) (c d : Parts) (t : ℕ) (u : TaskPart) → d.tasks ≡ set
 all_but w c d t u e lt one all s l =
     let inside : s < length c.tasks = subst (λ (n : ℕ). s < n) (ap (λ (x : List TaskPart). length x) e ∙ length-set c.tasks t u) l in
     let there : part_of d s ≡ get_or (set c.tasks t u) s (first_part no_task) = ap (λ (x : List TaskPart). get_or x s (first_part no_task)) e in
-    elim (same_or s t) [
+    elim (cases_eq s t) [
       | inl same ↦ subst (IsTied w d.cells s) (sym (there ∙ get_or-set_at c.tasks t s u (first_part no_task) same lt)) (subst (λ (n : ℕ). IsTied w d.cells n u) (sym same) one)
       | inr other ↦ subst (IsTied w d.cells s) (sym (there ∙ get_or-set_other c.tasks t s u (first_part no_task) other)) (all s inside other)
     ]
@@ -227,9 +227,9 @@ tied_changed w c t x plan size lt due all =
 pub lift_tag : (w : World) (c : Parts) (h : Hand) (taken : Bool) → same_cell (word_at c.cells h.place.0) h.cell ≡ taken → (p : ℕ) → p < length c.cells →
     (word_at (if taken then with_cell c h.place.0 (original_under w h.place.0 h.cell) else c).cells p).tag ≡ (word_at c.cells p).tag
 lift_tag w c h false e p lt = refl
-lift_tag w c h true e p lt = elim (same_or p h.place.0) [
+lift_tag w c h true e p lt = elim (cases_eq p h.place.0) [
   | inl same ↦
-      let tags : (word_at c.cells h.place.0).tag ≡ h.cell.tag = eqb-true (word_at c.cells h.place.0).tag h.cell.tag (and_left (nat_eq (word_at c.cells h.place.0).tag h.cell.tag) _ e) in
+      let tags : (word_at c.cells h.place.0).tag ≡ h.cell.tag = eqb-true (word_at c.cells h.place.0).tag h.cell.tag (and_parts (nat_eq (word_at c.cells h.place.0).tag h.cell.tag) _ e).0 in
       ap (λ (x : Cell). x.tag) (get_or-set_at c.cells h.place.0 p (original_under w h.place.0 h.cell) no_cell same (subst (λ (n : ℕ). n < length c.cells) same lt))
       ∙ (sym tags ∙ ap (λ (n : ℕ). (word_at c.cells n).tag) (sym same))
   | inr apart ↦ ap (λ (x : Cell). x.tag) (get_or-set_other c.cells h.place.0 p (original_under w h.place.0 h.cell) no_cell apart)

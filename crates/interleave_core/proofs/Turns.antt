@@ -1,10 +1,9 @@
 -- The sessions that a task controls, and what an SVC in hand does to them.
-use Rattle.std.proofs.Common.{◌≡◌, ◌≢◌, inl, inr, ℕ, zero, suc, ◌+◌, ◌-◌, ◌*◌, ◌<◌, ◌≤◌, Bool, true, false, ◌&&◌, nat_eq, nat_lt, nat_le, if◌then◌else◌, Option, Some, None, option_map, List, [], ◌∷◌, length, get_or, slice_get, AllPairs, refl, sym, ◌∙◌, ap, subst, arith, eqb-true, eq-eqb}
+use Rattle.std.proofs.Common.{◌≡◌, ◌≢◌, inl, inr, ℕ, zero, suc, ◌+◌, ◌-◌, ◌*◌, ◌<◌, ◌≤◌, Bool, true, false, ◌&&◌, nat_eq, nat_lt, nat_le, if◌then◌else◌, Option, Some, None, option_map, List, [], ◌∷◌, length, get_or, slice_get, AllPairs, refl, sym, ◌∙◌, ap, subst, arith, eqb-true, eq-eqb, le-leb, le_refl}
 use Rattle.std.specs.List.{find}
 use Rattle.std.specs.Option.{option_and_then}
-use Rattle.std.proofs.lemmas.Bool.Decides.{nat_tests}
 use Rattle.std.proofs.lemmas.List.{get_or_past}
-use Rattle.std.proofs.lemmas.Option.{same_Some}
+use Rattle.std.proofs.lemmas.Option.{same_Some, none-some}
 use Rattle.std.proofs.lemmas.Bool.{and_from, cases_lt, ne_eqb}
 use Rattle.cov_base.specs.declared.numbers.PlaceNo.{PlaceNo}
 use Rattle.module_area.specs.Meaning.{word_at, ControlledView, has_place, is_controlled, window_at}
@@ -13,6 +12,7 @@ use Rattle.module_area.specs.declared.cells.Cell.{Cell}
 use Rattle.module_area.proofs.Laws.{any_shown}
 use Rattle.s370_exec.specs.Meaning.{call_of}
 use Rattle.interleave_core.proofs.ControlLemmas.{few_places}
+use Rattle.interleave_core.proofs.Runs.{exists_by}
 use Rattle.interleave_core.specs.Meaning.{World, TaskPart, plan_in, memory_in, controller_of, Change, change, PlaceChange, place_change, sessions_by, change_for, change_of, next_place, will_execute, change_due}
 use Rattle.interleave_core.specs.declared.stage.Stage.{Stage}
 use Rattle.interleave_core.specs.Views.{no_controlled, session_at, turn_number, turn_of, has_window, number_at, tag_at, IsTied, controlled_by}
@@ -153,14 +153,8 @@ pub record IsAsked (w : World) (t : ℕ) (u : TaskPart) (ch : Change) : Type 0 w
   pub session : ch.session ≡ turn_of w t u
   pub there : turn_number u < length (sessions_by w t)
 
-le_same : (n : ℕ) → nat_le n n ≡ true
-le_same n = grind (arith, nat_tests)
-
-no_change : (A : Type 0) (ch : Change) → None ≡ Some ch → A
-no_change A ch h = absurd cc
-
 got_session : (xs : List ControlledView) (n : ℕ) (closes : Bool) (ch : Change) → option_map (change closes) (slice_get xs n) ≡ Some ch → (ch.closes ≡ closes) × (ch.session ≡ get_or xs n no_controlled) × (n < length xs)
-got_session [] n closes ch h = no_change _ ch h
+got_session [] n closes ch h = absurd (none-some ch h)
 got_session (x ∷ xs) zero closes ch h = let same : change closes x ≡ ch = same_Some _ _ h in (ap (λ (c : Change). c.closes) (sym same), ap (λ (c : Change). c.session) (sym same), omega arith)
 got_session (x ∷ xs) (suc n) closes ch h = let r = got_session xs n closes ch h in (r.0, r.1, omega (arith, r.2))
 
@@ -169,15 +163,11 @@ asked_is w t u call ch h = by (nat_eq call (if u.is_open then 5 else 4)) h
   where
     by : (b : Bool) → (if b then option_map (change u.is_open) (slice_get (sessions_by w t) (turn_number u)) else None) ≡ Some ch → IsAsked w t u ch
     by true k = let r = got_session (sessions_by w t) (turn_number u) u.is_open ch k in record { closes = r.0; session = r.1; there = r.2 }
-    by false k = no_change _ ch k
+    by false k = absurd (none-some ch k)
 
 and_then : {A B : Type 0} (f : A → Option B) (o : Option A) (x : B) → option_and_then f o ≡ Some x → (a : A) × (o ≡ Some a) × (f a ≡ Some x)
 and_then f None x h = absurd cc
 and_then f (Some a) x h = (a, refl, h)
-
-if_some : {A : Type 0} (b : Bool) (o : Option A) (x : A) → (if b then o else None) ≡ Some x → o ≡ Some x
-if_some true o x h = h
-if_some false o x h = absurd cc
 
 next_is : (places : List PlaceNo) (ch : Change) (done : ℕ) (x : PlaceChange) → option_map (place_change ch) (slice_get places done) ≡ Some x → (done < length places) × (x ≡ place_change ch (get_or places done (record { 0 = 0 })))
 next_is [] ch done x h = absurd cc
@@ -190,7 +180,7 @@ change_asked w t u ch h = let call = and_then (change_for w t u) (call_of (memor
 
 pub due_next : (w : World) (t : ℕ) (u : TaskPart) (stage : Stage) (x : PlaceChange) → change_due w t u stage ≡ Some x → IsNext w t u x
 due_next w t u stage x h =
-    let made = and_then (next_place u.changed) (change_of w t u) x (if_some (will_execute w t u stage) _ x h) in
+    let made = and_then (next_place u.changed) (change_of w t u) x (exists_by (will_execute w t u stage) _ x h).1 in
     let ch : Change = made.0 in
     let ask : IsAsked w t u ch = change_asked w t u ch made.1 in
     let next = next_is ch.session.places ch u.changed x made.2 in
@@ -213,7 +203,7 @@ due_is w cells t u stage x plan is h =
       own = subst (λ (s : ℕ). IsOwn w t s x.place.0) (sym next.session) (subst (λ (q : PlaceNo). IsOwn w t (turn_of w t u).session q.0) (sym next.place) (own w t (turn_number u) u.changed plan next.there));
       window = λ e.
           let is_open : u.is_open ≡ true = sym next.closes ∙ e in
-          let at : has_window u u.changed ≡ true = ap (λ (b : Bool). if b then nat_le u.changed u.changed else nat_lt u.changed u.changed) is_open ∙ le_same u.changed in
+          let at : has_window u u.changed ≡ true = ap (λ (b : Bool). if b then nat_le u.changed u.changed else nat_lt u.changed u.changed) is_open ∙ le-leb u.changed u.changed (le_refl u.changed) in
           ap (λ (n : ℕ). n + 1) tag ∙ (is.planted u.changed next.there at ∙ ap (λ (n : ℕ). 2 * n) (sym next.session));
       lower = λ e.
           let shut : u.is_open ≡ false = sym next.closes ∙ e in

@@ -1,10 +1,9 @@
 -- The sets are those of whole sessions where their windows were planted before any other event.
 use Rattle.std.proofs.Common.{◌≡◌, ◌≢◌, ◌⊎◌, inl, inr, ℕ, zero, suc, ◌+◌, ◌*◌, ◌-◌, ◌<◌, Bool, true, false, ◌&&◌, ◌||◌, ◌==◌, nat_lt, nat_eq, if◌then◌else◌, Option, Some, None, List, [], ◌∷◌, ◌++◌, length, get_or, set, refl, sym, ◌∙◌, ap, subst, arith, eqb-true, eq-eqb, Contains, option_map}
-use Rattle.std.proofs.lemmas.Bool.Decides.{nat_tests}
 use Rattle.std.proofs.lemmas.Grind.{get_or-set_at}
 use Rattle.std.proofs.lemmas.List.{get_or-set_other, get_or-map, append-nil}
 use Rattle.std.proofs.lemmas.Option.{same_Some, cond_some}
-use Rattle.std.proofs.lemmas.Bool.{and_from, and_parts, ltb-true, both_ways}
+use Rattle.std.proofs.lemmas.Bool.{and_from, and_parts, ltb-true, both_ways, cases_eq, or_left, or_right, or_cases}
 use Rattle.cov_base.specs.Meaning.{FactSet, no_facts, has_fact, with_fact, is_full, fact_of, Visit}
 use Rattle.cov_base.specs.declared.numbers.PlaceNo.{PlaceNo}
 use Rattle.cov_base.specs.declared.numbers.SessNo.{SessNo}
@@ -17,8 +16,7 @@ use Rattle.module_area.specs.Rule.{Has, window_tag}
 use Rattle.module_area.specs.declared.cells.Cell.{Cell}
 use Rattle.module_area.specs.declared.parties.View.{View}
 use Rattle.module_area.specs.declared.places.Place.{Place}
-use Rattle.module_area.proofs.Laws.{same_tests, has-append, left-append, right-append, or_cases}
-use Rattle.module_area.proofs.Laws.{or_left, or_right}
+use Rattle.module_area.proofs.Laws.{same_tests, has-append, left-append, right-append}
 use Rattle.session_book.specs.Meaning.{SessionView, TaskView, session_of, no_session, no_task, is_whole, observes}
 use Rattle.phase_plan.specs.Meaning.{window_from, window_of, traces_from, session_set}
 use Rattle.brk_table.proofs.Laws.{one_begins}
@@ -40,7 +38,7 @@ use Rattle.interleave_core.proofs.Finds.{there}
 use Rattle.interleave_core.proofs.Logs.{logged, HasLog, found_at, one_log, changed_log, got_step, run_logs}
 use Rattle.interleave_core.proofs.Given.{its, cell_other}
 use Rattle.interleave_core.proofs.Ruled.{fetch_due, same_cells}
-use Rattle.interleave_core.proofs.Runs.{same_or, got, lifted_tasks, exists_by, through}
+use Rattle.interleave_core.proofs.Runs.{got, lifted_tasks, exists_by, through}
 
 -- ---- the tags
 
@@ -66,7 +64,7 @@ AllEntered w c = (t : ℕ) → t < length c.parts.tasks → Entered w (c.logs t)
 -- a cell with the same tag, or with that of its window, is as good
 up_cell : (w : World) (c : Parts) (p : ℕ) (x : Cell) → length c.cells ≡ length w.places → (p < length w.places → 0 < window_at (plan_in w) p → x.tag ≡ window_tag (window_at (plan_in w) p)) → (q : ℕ) → q < length w.places → 0 < window_at (plan_in w) q →
     (q ≢ p → (word_at c.cells q).tag ≡ window_tag (window_at (plan_in w) q)) → (word_at (set c.cells p x) q).tag ≡ window_tag (window_at (plan_in w) q)
-up_cell w c p x size own q lt pos other = elim (same_or q p) [
+up_cell w c p x size own q lt pos other = elim (cases_eq q p) [
   | inl same ↦
       let p_in : p < length c.cells = subst (λ (n : ℕ). p < n) (sym size) (subst (λ (n : ℕ). n < length w.places) same lt) in
       let here : word_at (set c.cells p x) q ≡ x = get_or-set_at c.cells p q x no_cell same p_in in
@@ -259,12 +257,6 @@ which_fact : (b : Bool) (x : FactSet) (g f : Fact) → has_fact (if b then with_
 which_fact true x g f h = elim (with_fact-cases x g f h) [ inl old ↦ inl old | inr new ↦ inr (refl, sym new) ]
 which_fact false x g f h = inl h
 
-equal_test : (a b : ℕ) → a ≡ b → (a == b) ≡ true
-equal_test a b h = grind (arith, nat_tests)
-
-equal_from : (a b : ℕ) → (a == b) ≡ true → a ≡ b
-equal_from a b h = grind (arith, nat_tests)
-
 place_number : (w : World) (a p : ℕ) → place_at w a ≡ Some p → (place_of w.places p).at ≡ a
 unfolding place_at
 place_number w a p h = let k = found_at 0 a p w.places h in let same : k.0 ≡ p = omega (arith, k.3) in subst (λ (n : ℕ). (place_of w.places n).at ≡ a) same k.2
@@ -287,7 +279,7 @@ noted_facts w p f (v ∷ vs) h = elim (has-append (noted_one p f) (note w v (pla
       let by = note_by w v (place_at w v.at) p f new in
       let fact = cond_some v.begun (fact_of (kind_at (plan_in w) p) v.went) f by.1 in
       this_fact (executes (place_of w.places p) v) (facts_at (place_of w.places p) vs) (fact_of (kind_at (plan_in w) p) v.went) f
-      (and_from v.begun (v.at == (place_of w.places p).at) fact.0 (equal_test v.at (place_of w.places p).at (sym (place_number w v.at p by.0)))) fact.1
+      (and_from v.begun (v.at == (place_of w.places p).at) fact.0 (eq-eqb v.at (place_of w.places p).at (sym (place_number w v.at p by.0)))) fact.1
   | inr old ↦ more_facts (executes (place_of w.places p) v) (facts_at (place_of w.places p) vs) (fact_of (kind_at (plan_in w) p) v.went) f (noted_facts w p f vs old)
 ]
 
@@ -297,7 +289,7 @@ facts_noted w p f (v ∷ vs) world lt h = elim (which_fact (executes (place_of w
   | inl old ↦ right-append (noted_one p f) (note w v (place_at w v.at)) (noted w vs) (facts_noted w p f vs world lt old)
   | inr new ↦
       let at = and_parts v.begun (v.at == (place_of w.places p).at) new.0 in
-      let number : place_at w v.at ≡ Some p = number_of_place w v.at p world lt (sym (equal_from v.at (place_of w.places p).at at.1)) in
+      let number : place_at w v.at ≡ Some p = number_of_place w v.at p world lt (sym (eqb-true v.at (place_of w.places p).at at.1)) in
       let fact : fact_at w p v ≡ Some f = ap (λ (b : Bool). if b then Some (fact_of (kind_at (plan_in w) p) v.went) else None) at.0 ∙ ap Some new.1 in
       left-append (noted_one p f) (note w v (place_at w v.at)) (noted w vs)
       (subst (λ (o : Option ℕ). Has (noted_one p f) (note w v o)) (sym number) (inl (ap (λ (o : Option Fact). record { place = p; fact = o }) fact)))

@@ -1,5 +1,5 @@
 -- What a task's pass leaves of the task's sessions, passes joined one after the other, and the bounds of the sets.
-use Rattle.std.proofs.Common.{◌≡◌, ◌↔◌, ℕ, ◌+◌, ◌*◌, ◌<◌, ◌≤◌, ◌^◌, Bool, true, false, ◌&&◌, ◌||◌, ◌==◌, if◌then◌else◌, nat_eq, Option, Some, None, List, [], ◌∷◌, ◌++◌, length, get_or, take, drop, All, inl, inr, refl, sym, ◌∙◌, ap, subst, arith, eqb-true, eq-eqb, zero-add, zero, suc, AllPairs, ne_eqb}
+use Rattle.std.proofs.Common.{◌≡◌, ◌↔◌, ℕ, ◌+◌, ◌*◌, ◌<◌, ◌≤◌, ◌^◌, Bool, true, false, ◌&&◌, ◌||◌, ◌==◌, if◌then◌else◌, nat_eq, Option, Some, None, List, [], ◌∷◌, ◌++◌, length, get_or, take, drop, All, inl, inr, refl, sym, ◌∙◌, ap, subst, arith, eqb-true, eq-eqb, zero-add}
 use Rattle.std.proofs.Math.Bool.{and-false, and-true}
 use Rattle.std.specs.List.{filter}
 use Rattle.std.proofs.lemmas.Bool.{or_cases, or_left, or_right, and_from, both_ways, cases_Bool, and_right}

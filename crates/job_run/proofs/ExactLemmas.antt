@@ -17,7 +17,7 @@ use Rattle.module_area.specs.Tied.{IsTied}
 use Rattle.module_area.proofs.Laws.{same_tests, any_shown, one_controller}
 use Rattle.task_run.specs.Answered.{known_tag, ArePairs, IsPair}
 use Rattle.task_run.specs.Meaning.{at_places, facts_under, is_under, tag_by, Walk}
-use Rattle.task_run.proofs.Laws.{has_fact-more, or_apart, rises_all, rises_between, tag_last, has_fact-none, has_fact-full_of, has_fact-union, is_of_kind-fact_of, same_sets}
+use Rattle.task_run.proofs.Laws.{has_fact-more, rises_all, rises_between, tag_last}
 use Rattle.task_run.specs.Controlled.{last_by, Follows}
 use Rattle.job_run.specs.Bounds.{HasFetched, HaveFetched}
 use Rattle.job_run.specs.Meaning.{IsFetch, AreFetches, facts_met, IsExact}
