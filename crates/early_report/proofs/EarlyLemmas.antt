@@ -1,5 +1,6 @@
 -- A controller's run instruction by instruction, with its drains.
 use Rattle.std.proofs.Common.{◌≡◌, ℕ, zero, suc, ◌+◌, ◌%◌, ◌<◌, Bool, true, false, if◌then◌else◌, ◌&&◌, nat_eq, is_some, unwrap_or, Option, Some, None, List, [], ◌∷◌, ◌++◌, length, get_or, map, All, AllPairs, refl, sym, ◌∙◌, ap, subst, arith, eqb-true, eq-eqb, ne_eqb}
+use Rattle.std.proofs.lemmas.Bool.{and_parts}
 use Rattle.std.specs.List.{filter, list_any}
 use Rattle.std.proofs.lemmas.List.{same_lists, get_or-map, get_or_default, length-map}
 use Rattle.std.proofs.lemmas.List.Folds.{list_any_none}
@@ -9,7 +10,7 @@ use Rattle.cov_base.specs.declared.numbers.SessNo.{SessNo}
 use Rattle.module_area.specs.Meaning.{PlanView, ControlledView, ControlView, number_of, sessions_of, control_after}
 use Rattle.module_area.specs.Rule.{IsPlan, AreApart}
 use Rattle.module_area.specs.Notes.{Notes, after_boundary, bearer, is_working, own_number}
-use Rattle.module_area.proofs.Laws.{and_left, any_shown, no_session}
+use Rattle.module_area.proofs.Laws.{any_shown, no_session}
 use Rattle.task_run.specs.Answered.{Turns}
 use Rattle.task_run.specs.Aside.{IsAside}
 use Rattle.task_run.specs.Meaning.{control_by, is_opened}
@@ -107,7 +108,7 @@ bears_by None h = absurd cc
 bears_by (Some t) h = refl
 
 pub bears_of : (n : Notes) → is_working n ≡ true → n.bears ≡ Some (bearer n)
-bears_of n w = bears_by n.bears (and_left (is_some n.bears) _ w)
+bears_of n w = bears_by n.bears (and_parts (is_some n.bears) _ w).0
 
 pub stand_first : (plan : PlanView) (n : Notes) (c : ControlView) (ds : List DrainView) → IsPlan plan → is_working n ≡ true → ds ≡ first_drains plan (bearer n) → StandAll plan n c [] 0 ds
 stand_first plan n c ds ok working is = subst (StandAll plan n c [] 0) (sym is) (λ k x l.

@@ -1,5 +1,6 @@
 -- What stands of a drain that follows an instruction while other drains follow it.
-use Rattle.std.proofs.Common.{◌≡◌, ℕ, ◌+◌, ◌<◌, Bool, true, false, ◌||◌, Option, List, [], ◌∷◌, length, get_or, take, inl, inr, refl, sym, ◌∙◌, ap, subst, arith}
+use Rattle.std.proofs.Common.{◌≡◌, ℕ, ◌+◌, ◌<◌, Bool, true, ◌||◌, Option, List, [], ◌∷◌, length, get_or, take, inl, inr, sym, ◌∙◌, ap, subst, arith}
+use Rattle.std.proofs.Math.Bool.{or-false}
 use Rattle.std.specs.List.{list_any}
 use Rattle.std.proofs.Math.ListN.{set}
 use mathlib.Core.Logic.{dite}
@@ -59,10 +60,6 @@ one_gone plan n m closed done i olds nows d e looking l at went before l' k x lt
     subst (λ j. Went plan m closed done (get_or olds j x) (get_or (set nows i e) j x)) (sym same)
     (subst (λ (z : DrainView × DrainView). Went plan m closed done z.0 z.1) (λ j. (sym (get_or_default olds i x d l' ∙ at) j, sym (get_or-set_same nows i e x l) j)) went))
 
-pub or_false : (b : Bool) → (b || false) ≡ b
-or_false true = refl
-or_false false = refl
-
 -- whether one of the first drains waits, with one more
 pub any_set : {X : Type 0} (f : X → Bool) (xs : List X) (i : ℕ) (y : X) → i < length xs → list_any f (take (i + 1) (set xs i y)) ≡ (list_any f (take i xs) || f y)
-any_set f xs i y l = ap (list_any f) (take_more_set xs i y l) ∙ (list_any-append f (take i xs) (y ∷ []) ∙ ap (λ b. list_any f (take i xs) || b) (or_false (f y)))
+any_set f xs i y l = ap (list_any f) (take_more_set xs i y l) ∙ (list_any-append f (take i xs) (y ∷ []) ∙ ap (λ b. list_any f (take i xs) || b) (or-false (f y)))

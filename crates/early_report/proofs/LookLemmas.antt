@@ -1,5 +1,6 @@
 -- What looks at tasks' words make of a pass's notes, and what they tell.
 use Rattle.std.proofs.Common.{◌≡◌, ◌≢◌, ℕ, zero, suc, ◌+◌, ◌%◌, ◌<◌, ◌≤◌, Bool, true, false, not, if◌then◌else◌, ◌&&◌, ◌||◌, nat_eq, nat_lt, Option, Some, None, List, [], ◌∷◌, ◌++◌, length, get_or, map, drop, All, inl, inr, refl, sym, ◌∙◌, ap, subst, arith, eqb-true, eq-eqb, lt-ltb, append_assoc}
+use Rattle.std.proofs.lemmas.Bool.{and_parts, and_from, or_left, or_right}
 use Rattle.std.specs.List.{list_any, list_all}
 use Rattle.std.proofs.Math.ListN.{set}
 use Rattle.std.proofs.lemmas.List.{drop_more, get_or-map}
@@ -8,7 +9,7 @@ use Rattle.std.proofs.lemmas.List.Elements.{All-tail, All-cons}
 use Rattle.cov_base.specs.declared.numbers.TaskNo.{TaskNo}
 use Rattle.module_area.specs.Meaning.{PlanView}
 use Rattle.module_area.specs.Notes.{Notes, NotedView, IsWord, after_note, is_closed, is_own, is_past, is_drained}
-use Rattle.module_area.proofs.Laws.{and_left, and_right, and_both, any_at, any_shown, or_left, or_right}
+use Rattle.module_area.proofs.Laws.{any_at, any_shown}
 use Rattle.early_report.specs.Meaning.{others}
 use Rattle.early_report.specs.Drains.{is_noted, Begins, Polls, IsLooking, is_odd}
 
@@ -46,7 +47,7 @@ any_map p q (x ∷ xs) each h = by_test (p x) refl h (any_map p q xs each)
     by_test false e k rest = or_right (q x) (list_any q xs) (rest k)
 
 and_more : (a b c : Bool) → (b ≡ true → c ≡ true) → (a && b) ≡ true → (a && c) ≡ true
-and_more a b c more h = and_both a c (and_left a b h) (more (and_right a b h))
+and_more a b c more h = and_from a c (and_parts a b h).0 (more (and_parts a b h).1)
 
 or_more : (a b c : Bool) → (b ≡ true → c ≡ true) → (a || b) ≡ true → (a || c) ≡ true
 or_more true b c more h = refl
@@ -67,9 +68,9 @@ noted_more plan old new more s t number e h = rw e (any_more (λ (e : NotedView)
 drained_more : (plan : PlanView) (o : Option ℕ) (more noted : List NotedView) (s : ℕ) (tasks : List TaskNo) →
     list_all (λ (u : TaskNo). is_own o u.0 || is_past plan noted s u.0) tasks ≡ true → list_all (λ (u : TaskNo). is_own o u.0 || is_past plan (more ++ noted) s u.0) tasks ≡ true
 drained_more plan o more noted s [] h = refl
-drained_more plan o more noted s (u ∷ us) h = and_both _ _
-    (or_more (is_own o u.0) (is_past plan noted s u.0) _ (past_more plan more noted s u.0) (and_left _ _ h))
-    (drained_more plan o more noted s us (and_right (is_own o u.0 || is_past plan noted s u.0) _ h))
+drained_more plan o more noted s (u ∷ us) h = and_from _ _
+    (or_more (is_own o u.0) (is_past plan noted s u.0) _ (past_more plan more noted s u.0) (and_parts _ _ h).0)
+    (drained_more plan o more noted s us (and_parts (is_own o u.0 || is_past plan noted s u.0) _ h).1)
 
 pub is_drained_more : (plan : PlanView) (old new : Notes) (more : List NotedView) (s : ℕ) → new.noted ≡ more ++ old.noted → new.bears ≡ old.bears → is_drained plan old s ≡ true → is_drained plan new s ≡ true
 is_drained_more plan old new more s e bears h = rw (e, bears) (drained_more plan old.bears more old.noted s plan.tasks h)
@@ -80,7 +81,7 @@ odd_past plan n s t number h odd = any_map
     (λ (e : NotedView). nat_eq e.task t && (nat_eq e.number number && is_closed plan e.seen s))
     (λ (e : NotedView). nat_eq e.task t && (is_closed plan e.seen s && (nat_eq (e.number % 2) 1 || list_any (λ (d : NotedView). nat_eq d.task t && nat_lt e.number d.number) n.noted))) n.noted
     (λ e k. and_more (nat_eq e.task t) (nat_eq e.number number && is_closed plan e.seen s) _
-    (λ x. and_both (is_closed plan e.seen s) _ (and_right (nat_eq e.number number) _ x) (or_left (nat_eq (e.number % 2) 1) _ (ap (λ k. nat_eq (k % 2) 1) (eqb-true e.number number (and_left _ _ x)) ∙ odd))) k) h
+    (λ x. and_from (is_closed plan e.seen s) _ (and_parts (nat_eq e.number number) _ x).1 (or_left (nat_eq (e.number % 2) 1) _ (ap (λ k. nat_eq (k % 2) 1) (eqb-true e.number number (and_parts _ _ x).0) ∙ odd))) k) h
 
 -- and so does one whose number another look finds passed
 pub gone_past : (plan : PlanView) (n : Notes) (s t number found : ℕ) → is_noted plan n s t number ≡ true → IsWord n t found → found ≢ number → is_past plan (after_note n t found).noted s t ≡ true
@@ -88,18 +89,18 @@ gone_past plan n s t number found h word other =
     let none : NotedView = record { task = 0; number = 0; seen = n.seen } in
     let at = any_at (λ (e : NotedView). nat_eq e.task t && (nat_eq e.number number && is_closed plan e.seen s)) n.noted none h in
     let e : NotedView = get_or n.noted at.0 none in
-    let its : nat_eq e.task t ≡ true = and_left _ _ at.2 in
-    let rest : (nat_eq e.number number && is_closed plan e.seen s) ≡ true = and_right (nat_eq e.task t) _ at.2 in
-    let same : e.number ≡ number = eqb-true e.number number (and_left _ _ rest) in
+    let its : nat_eq e.task t ≡ true = (and_parts _ _ at.2).0 in
+    let rest : (nat_eq e.number number && is_closed plan e.seen s) ≡ true = (and_parts (nat_eq e.task t) _ at.2).1 in
+    let same : e.number ≡ number = eqb-true e.number number (and_parts _ _ rest).0 in
     let least : e.number ≤ found = word.noted at.0 none at.1 (eqb-true e.task t its) in
     let less : nat_lt e.number found ≡ true = lt-ltb e.number found (omega (arith, same, least, other)) in
-    let seen : is_closed plan e.seen s ≡ true = and_right (nat_eq e.number number) _ rest in
+    let seen : is_closed plan e.seen s ≡ true = (and_parts (nat_eq e.number number) _ rest).1 in
     let first : list_any (λ (d : NotedView). nat_eq d.task t && nat_lt e.number d.number) (after_note n t found).noted ≡ true =
-    or_left (nat_eq t t && nat_lt e.number found) _ (and_both (nat_eq t t) (nat_lt e.number found) (eq-eqb t t refl) less) in
+    or_left (nat_eq t t && nat_lt e.number found) _ (and_from (nat_eq t t) (nat_lt e.number found) (eq-eqb t t refl) less) in
     any_more (λ (e : NotedView). nat_eq e.task t && (is_closed plan e.seen s && (nat_eq (e.number % 2) 1 || list_any (λ (d : NotedView). nat_eq d.task t && nat_lt e.number d.number) (after_note n t found).noted)))
     (record { task = t; number = found; seen = n.seen } ∷ []) n.noted
     (any_shown (λ (e : NotedView). nat_eq e.task t && (is_closed plan e.seen s && (nat_eq (e.number % 2) 1 || list_any (λ (d : NotedView). nat_eq d.task t && nat_lt e.number d.number) (after_note n t found).noted)))
-    n.noted none at.0 at.1 (and_both _ _ its (and_both _ _ seen (or_right (nat_eq (e.number % 2) 1) _ first))))
+    n.noted none at.0 at.1 (and_from _ _ its (and_from _ _ seen (or_right (nat_eq (e.number % 2) 1) _ first))))
 
 -- the looks with which a drain begins
 pub Begins-looks : (old new : Notes) (ts : List TaskNo) (es : List (TaskNo × ℕ)) → Begins old new ts es → IsLooking old new
@@ -122,7 +123,7 @@ Begins-noted plan s old new (t ∷ ts) [] closed b = absurd b
 Begins-noted plan s old new (t ∷ ts) (e ∷ es) closed b =
     let rest = Begins-looks (after_note old t.0 e.1) new ts es b.2 in
     let here : is_noted plan (after_note old t.0 e.1) s e.0.0 e.1 ≡ true =
-    or_left (nat_eq t.0 e.0.0 && (nat_eq e.1 e.1 && is_closed plan old.seen s)) _ (and_both _ _ (eq-eqb t.0 e.0.0 (sym (ap (λ (u : TaskNo). u.0) b.0))) (and_both _ _ (eq-eqb e.1 e.1 refl) closed)) in
+    or_left (nat_eq t.0 e.0.0 && (nat_eq e.1 e.1 && is_closed plan old.seen s)) _ (and_from _ _ (eq-eqb t.0 e.0.0 (sym (ap (λ (u : TaskNo). u.0) b.0))) (and_from _ _ (eq-eqb e.1 e.1 refl) closed)) in
     All-cons (λ (e : TaskNo × ℕ). is_noted plan new s e.0.0 e.1 ≡ true) e es
     (noted_more plan (after_note old t.0 e.1) new rest.more s e.0.0 e.1 (noted_by (after_note old t.0 e.1) new rest) here)
     (Begins-noted plan s (after_note old t.0 e.1) new ts es closed b.2)
@@ -190,8 +191,8 @@ all_others o t f (u ∷ us) own all = by_test (nat_eq u.0 t) refl all (all_other
   where
     by_test : (b : Bool) → nat_eq u.0 t ≡ b → All (λ (u : TaskNo). f u.0 ≡ true) (if not b then u ∷ others us t else others us t) →
         (All (λ (u : TaskNo). f u.0 ≡ true) (others us t) → list_all (λ (u : TaskNo). is_own o u.0 || f u.0) us ≡ true) → list_all (λ (u : TaskNo). is_own o u.0 || f u.0) (u ∷ us) ≡ true
-    by_test true e here rest = and_both _ _ (or_left (is_own o u.0) (f u.0) (rw own (eq-eqb t u.0 (sym (eqb-true u.0 t e))))) (rest here)
-    by_test false e here rest = and_both _ _ (or_right (is_own o u.0) (f u.0) (here 0 u (omega arith))) (rest (All-tail (λ (u : TaskNo). f u.0 ≡ true) u (others us t) here))
+    by_test true e here rest = and_from _ _ (or_left (is_own o u.0) (f u.0) (rw own (eq-eqb t u.0 (sym (eqb-true u.0 t e))))) (rest here)
+    by_test false e here rest = and_from _ _ (or_right (is_own o u.0) (f u.0) (here 0 u (omega arith))) (rest (All-tail (λ (u : TaskNo). f u.0 ≡ true) u (others us t) here))
 
 All-tasks : (P : TaskNo → Type 0) (es : List (TaskNo × ℕ)) → All (λ (e : TaskNo × ℕ). P e.0) es → All P (map (λ (e : TaskNo × ℕ). e.0) es)
 All-tasks P [] all = λ i d l. absurd (omega arith)

@@ -2,13 +2,13 @@
 use Rattle.std.proofs.Common.{◌≡◌, ℕ, suc, ◌+◌, ◌*◌, ◌<◌, ◌≤◌, Bool, true, false, ◌&&◌, ◌||◌, nat_eq, List, [], ◌∷◌, length, get_or, drop, All, refl, sym, ◌∙◌, ap, subst, arith, eqb-true, eq-eqb, le-leb}
 use Rattle.std.specs.List.{list_any}
 use Rattle.std.proofs.lemmas.List.{drop_more}
-use Rattle.std.proofs.lemmas.Bool.{not_from_false}
+use Rattle.std.proofs.lemmas.Bool.{not_from_false, and_from, or_left, or_right}
 use Rattle.cov_base.specs.Meaning.{FactSet}
 use Rattle.cov_base.specs.declared.numbers.PlaceNo.{PlaceNo}
 use Rattle.module_area.specs.Meaning.{PlanView, ControlledView, has_place, is_controlled, places_in, places_under}
 use Rattle.module_area.specs.Rule.{IsPlan}
 use Rattle.module_area.specs.Notes.{Notes, IsFound, after_read, is_closed, is_final, same_bit, same_set}
-use Rattle.module_area.proofs.Laws.{and_both, any_shown, or_left, or_right, no_session, closed_place}
+use Rattle.module_area.proofs.Laws.{any_shown, no_session, closed_place}
 use Rattle.early_report.specs.DrainView.{DrainView}
 use Rattle.early_report.specs.Drains.{has_controlled, IsDrainOf, is_over, Reads, IsLooking}
 
@@ -37,7 +37,7 @@ controlled_at plan s there i p l =
     let size = ap (λ (ps : List PlaceNo). length ps) r.places in
     let has : has_place c.places (get_or c.places i p).0 ≡ true = any_shown (λ (q : PlaceNo). nat_eq q.0 (get_or c.places i p).0) c.places p i (omega (arith, size, l)) (eq-eqb _ _ refl) in
     subst (λ (ps : List PlaceNo). is_controlled plan s (get_or ps i p).0 ≡ true) (sym r.places)
-    (any_shown (λ (c : ControlledView). nat_eq c.session s && has_place c.places (get_or (get_or plan.controlled r.index no_session).places i p).0) plan.controlled no_session r.index r.within (and_both _ _ (eq-eqb c.session s r.is_it) has))
+    (any_shown (λ (c : ControlledView). nat_eq c.session s && has_place c.places (get_or (get_or plan.controlled r.index no_session).places i p).0) plan.controlled no_session r.index r.within (and_from _ _ (eq-eqb c.session s r.is_it) has))
 
 -- a session that is closed by these tags has an even tag or a later one at each of its places
 pub closed_at : (plan : PlanView) (seen : ℕ → ℕ) (s : ℕ) → has_controlled plan s ≡ true → is_closed plan seen s ≡ true → All (λ (p : PlaceNo). 2 * s ≤ seen p.0) (places_under plan s)
@@ -57,16 +57,16 @@ module _ (plan : PlanView) (s : ℕ) (ok : IsPlan plan) (there : has_controlled 
 -- what the pass of a drained drain reads is final
 pub final_there : (plan : PlanView) (n : Notes) (d : DrainView) → IsDrainOf plan n d → is_over d.stage ≡ true → All (λ (p : PlaceNo). is_final plan n d.session p.0 ≡ true) (places_under plan d.session)
 final_there plan n d tie over i p l =
-    and_both _ _ (controlled_at plan d.session tie.closed.controlled i p l)
-    (and_both _ _ (le-leb (2 * d.session) _ (closed_at plan n.seen d.session tie.closed.controlled tie.closed.seen i p l))
-    (and_both _ _ (tie.drained over) (not_from_false _ (tie.closed.idle _))))
+    and_from _ _ (controlled_at plan d.session tie.closed.controlled i p l)
+    (and_from _ _ (le-leb (2 * d.session) _ (closed_at plan n.seen d.session tie.closed.controlled tie.closed.seen i p l))
+    (and_from _ _ (tie.drained over) (not_from_false _ (tie.closed.idle _))))
 
 same_bit-same : (b : Bool) → same_bit b b ≡ true
 same_bit-same true = refl
 same_bit-same false = refl
 
 same_set-same : (x : FactSet) → same_set x x ≡ true
-same_set-same x = and_both _ _ (same_bit-same x.ran) (and_both _ _ (same_bit-same x.went) (same_bit-same x.stayed))
+same_set-same x = and_from _ _ (same_bit-same x.ran) (and_from _ _ (same_bit-same x.went) (same_bit-same x.stayed))
 
 -- one read more
 pub read_known : (plan : PlanView) (n : Notes) (s p : ℕ) (x : FactSet) → is_final plan n s p ≡ true → (after_read plan n s p x).settled s p x ≡ true

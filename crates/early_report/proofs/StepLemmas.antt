@@ -1,5 +1,7 @@
 -- How drains stand behind an instruction and a boundary.
 use Rattle.std.proofs.Common.{◌≡◌, ℕ, ◌*◌, ◌≤◌, Bool, true, false, if◌then◌else◌, ◌&&◌, ◌==◌, Option, Some, None, option_map, unwrap_or, List, [], All, refl, sym, ◌∙◌, ap, subst, arith, eqb-true}
+use Rattle.std.proofs.Math.Bool.{and-false}
+use Rattle.std.proofs.lemmas.Bool.{and_parts}
 use Rattle.cov_base.specs.Meaning.{Visit}
 use Rattle.cov_base.specs.declared.numbers.PlaceNo.{PlaceNo}
 use Rattle.cov_base.specs.declared.numbers.SessNo.{SessNo}
@@ -8,7 +10,7 @@ use Rattle.module_area.specs.Rule.{IsPlan}
 use Rattle.module_area.specs.Control.{after_closes, after_call}
 use Rattle.module_area.specs.Notes.{Notes, after_boundary, is_closed}
 use Rattle.module_area.specs.Tied.{IsTied}
-use Rattle.module_area.proofs.Laws.{and_left, and_right, has_here, at_place, under_place, closed_of_places}
+use Rattle.module_area.proofs.Laws.{has_here, at_place, under_place, closed_of_places}
 use Rattle.task_run.specs.Answered.{Turns}
 use Rattle.task_run.specs.Meaning.{is_opened}
 use Rattle.task_run.proofs.Laws.{step_known, step_over}
@@ -21,10 +23,6 @@ use Rattle.early_report.specs.declared.drains.Stage.TheVariants.{Unused, Begun, 
 use Rattle.early_report.proofs.FollowLemmas.{own_later}
 use Rattle.early_report.proofs.ReadLemmas.{closed_at}
 use Rattle.early_report.proofs.TieLemmas.{tied_later}
-
-and_false : (b : Bool) → (b && false) ≡ false
-and_false true = refl
-and_false false = refl
 
 -- by these tags the session is over at each of its places, so it is closed
 pub closed_by : (plan : PlanView) (seen : ℕ → ℕ) (s : ℕ) → IsPlan plan → All (λ (p : PlaceNo). 2 * s ≤ seen p.0) (places_under plan s) → is_closed plan seen s ≡ true
@@ -45,27 +43,24 @@ opened_stays : (c : ControlView) (o : Option SessNo) (next : Option SessNo) → 
 opened_stays c None next = refl
 opened_stays c (Some u) next = refl
 
-not_both : (k : ℕ) → (k == 4) ≡ true → (k == 5) ≡ true → ⊥
-not_both k e f = let a = eqb-true k 4 e in let b = eqb-true k 5 f in absurd (omega (arith, a, b))
-
 -- the call is SVC 5
 abbrev is_five : Option ℕ → Bool
 is_five call = unwrap_or (option_map (λ k. k == 5) call) false
 
 closes_at : (c : ControlView) (o : Option SessNo) (call : Option ℕ) (s : ℕ) → is_opened s (closed_since o (control_after (record c { opened = o }) call).opened) ≡ (is_opened s o && is_five call)
-closes_at c o None s = ap (is_opened s) (closed_same o) ∙ sym (and_false (is_opened s o))
+closes_at c o None s = ap (is_opened s) (closed_same o) ∙ sym (and-false (is_opened s o))
 closes_at c o (Some k) s = by_test (k == 4) (k == 5) refl refl
   where
     by_test : (f g : Bool) → (k == 4) ≡ f → (k == 5) ≡ g →
         is_opened s (closed_since o (if f then opening (record c { opened = o }) (to_open (record c { opened = o })) else (if g then closing (record c { opened = o }) else record c { opened = o })).opened) ≡ (is_opened s o && g)
-    by_test true true ef eg = absurd (not_both k ef eg)
-    by_test true false ef eg = ap (is_opened s) (opened_stays c o _) ∙ sym (and_false (is_opened s o))
+    by_test true true ef eg = absurd (omega (arith, eqb-true k 4 ef, eqb-true k 5 eg))
+    by_test true false ef eg = ap (is_opened s) (opened_stays c o _) ∙ sym (and-false (is_opened s o))
     by_test false true ef eg = ap (is_opened s) (closed_none o) ∙ and_true (is_opened s o)
       where
         and_true : (b : Bool) → b ≡ (b && true)
         and_true true = refl
         and_true false = refl
-    by_test false false ef eg = ap (is_opened s) (closed_same o) ∙ sym (and_false (is_opened s o))
+    by_test false false ef eg = ap (is_opened s) (closed_same o) ∙ sym (and-false (is_opened s o))
 
 pub closed_is : (c : ControlView) (call : Option ℕ) (s : ℕ) → is_opened s (closed_since c.opened (control_after c call).opened) ≡ closes c call s
 closed_is c call s = closes_at c c.opened call s
@@ -94,9 +89,9 @@ closed_after plan mid new s ok notes own =
 
 pub closed_now : (plan : PlanView) (old new : Notes) (visits : List Visit) (c : ControlView) (call : Option ℕ) (s : ℕ) → IsPlan plan → Turns plan old new visits c call → closes c call s ≡ true → IsOwn plan old s → HasClosed plan (after_boundary new false) s
 closed_now plan old new visits c call s ok t closes own =
-    let a = open_is s c.opened (and_left (is_opened s c.opened) (is_five call) closes) in
+    let a = open_is s c.opened (and_parts (is_opened s c.opened) (is_five call) closes).0 in
     let notes : new ≡ after_closes t.mid s (places_under plan s) =
-    t.notes ∙ (after_five plan t.mid c call a.0 (and_right (is_opened s c.opened) (is_five call) closes) a.1 ∙ ap (λ k. after_closes t.mid k (places_under plan k)) a.2) in
+    t.notes ∙ (after_five plan t.mid c call a.0 (and_parts (is_opened s c.opened) (is_five call) closes).1 a.1 ∙ ap (λ k. after_closes t.mid k (places_under plan k)) a.2) in
     closed_after plan t.mid new s ok notes (own_later plan old new s (step_known plan old new visits c call t).bears own)
 
 -- a session that was closed before stays so

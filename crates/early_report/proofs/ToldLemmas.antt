@@ -1,6 +1,6 @@
 -- What a run's drains tell at its end.
 use Rattle.std.proofs.Common.{◌≡◌, ℕ, suc, ◌<◌, ◌≤◌, Bool, true, false, ◌||◌, nat_eq, Option, Some, None, List, [], ◌∷◌, length, get_or, map, All, AllPairs, inl, inr, refl, sym, ◌∙◌, ap, subst, arith, eqb-true, eq-eqb, ⊎_elim}
-use Rattle.std.proofs.lemmas.Bool.{both_ways}
+use Rattle.std.proofs.lemmas.Bool.{both_ways, or_left, or_cases}
 use Rattle.std.proofs.lemmas.List.{get_or-map, length-map, same_lists}
 use Rattle.cov_base.specs.Meaning.{FactSet}
 use Rattle.cov_base.specs.declared.numbers.PlaceNo.{PlaceNo}
@@ -12,7 +12,7 @@ use Rattle.module_area.specs.Rule.{IsPlan, has_task}
 use Rattle.module_area.specs.Ended.{AreSettled}
 use Rattle.module_area.specs.Notes.{Notes, bearer, root_notes}
 use Rattle.module_area.specs.Tied.{IsTied, keeps_session_as}
-use Rattle.module_area.proofs.Laws.{any_at, any_shown, or_cases, or_left, first_tied}
+use Rattle.module_area.proofs.Laws.{any_at, any_shown, first_tied}
 use Rattle.task_run.specs.Aside.{IsAside}
 use Rattle.task_run.specs.Meaning.{Course}
 use Rattle.task_run.specs.Ran.{RanAs, walk_from}

@@ -1,10 +1,11 @@
 use Rattle.std.proofs.Common.{◌≡◌, ℕ, ◌<◌, Bool, true, false, ◌||◌, length, get_or, take, refl, sym, ◌∙◌, ap, subst, arith}
+use Rattle.std.proofs.Math.Bool.{or-false}
 use Rattle.std.specs.List.{list_any}
 use Rattle.std.proofs.lemmas.List.{get_or-set_other, length-set}
 use Rattle.module_area.specs.Notes.{Notes}
 use Rattle.early_report.specs.DrainView.{DrainView}
 use Rattle.early_report.specs.Followed.{IsReady, is_begun}
-use Rattle.early_report.proofs.FollowLemmas.{ready_looking, one_gone, any_set, or_false}
+use Rattle.early_report.proofs.FollowLemmas.{ready_looking, one_gone, any_set}
 use Rattle.early_report.proofs.LookLemmas.{looking_trans}
 use Rattle.early_report.proofs.runner.follow_all.Goals as goal
 use Rattle.early_report.proofs.runner.follow_all.Goals.{then-follow, else-follow}
@@ -43,6 +44,6 @@ loop-i-preserved g c =
           let before : Bool = list_any (λ (d : DrainView). is_begun d.stage) (take i c.loop-i.drains.items) in
           elim c.if-follow.branch [
             | then-follow w ↦ w.waits-is ∙ sym (one ∙ (ap (λ b. before || b) (sym c.follow.ensures.waits ∙ w.if-follow.true) ∙ or_true before))
-            | else-follow w ↦ w.waits-is ∙ (c.loop-i.invariant.waits ∙ sym (one ∙ (ap (λ b. before || b) (sym c.follow.ensures.waits ∙ w.if-follow.false) ∙ or_false before)))
+            | else-follow w ↦ w.waits-is ∙ (c.loop-i.invariant.waits ∙ sym (one ∙ (ap (λ b. before || b) (sym c.follow.ensures.waits ∙ w.if-follow.false) ∙ or-false before)))
           ];
     }

@@ -1,6 +1,6 @@
 use Rattle.module_area.specs.Meaning.{places_under}
+use Rattle.std.proofs.lemmas.Bool.{or_left, or_right}
 use Rattle.module_area.specs.Notes.{after_join, after_split}
-use Rattle.module_area.proofs.Laws.{or_left, or_right}
 use Rattle.early_report.proofs.ActLemmas.{closed_stays, tied_stays, known_stays}
 use Rattle.early_report.proofs.FollowLemmas.{known_later}
 use Rattle.early_report.proofs.ReadLemmas.{from_one, of_plan, places_of_plan}
