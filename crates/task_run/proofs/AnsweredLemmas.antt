@@ -1,5 +1,6 @@
 -- The pairs of one visit, and of visits one after the other.
 use Rattle.std.proofs.Common.{◌≡◌, ◌≢◌, ℕ, ◌+◌, ◌*◌, ◌/◌, ◌≤◌, Bool, true, false, ◌&&◌, ◌||◌, if◌then◌else◌, nat_eq, List, [], ◌∷◌, ◌++◌, inl, inr, refl, sym, ◌∙◌, ap, subst, arith}
+use Rattle.std.proofs.Math.Bool.{or_assoc}
 use Rattle.std.proofs.lemmas.Bool.{or_cases, or_left, or_right, and_parts, and_from, eqb-true, eq-eqb, both_ways}
 use Rattle.std.proofs.lemmas.List.{append_assoc, append-nil}
 use Rattle.cov_base.specs.Meaning.{breakpoint, no_facts, has_fact, same_fact, fact_of, Visit}
@@ -18,7 +19,7 @@ use Rattle.task_run.specs.Answered.{known_tag, ArePairs, LeavesSessions, Answere
 use Rattle.task_run.specs.Meaning.{at_places, is_under, facts_under}
 use Rattle.task_run.proofs.RiseLemmas.{rises_append, rises_fetched}
 use Rattle.task_run.proofs.NotesLemmas.{Adds, Adds-settled, seen_fetched, all_three, three_from}
-use Rattle.task_run.proofs.ObservedLemmas.{has_fact-more, or_apart, shown_later, Observes-none, Observes-plain, Observes-kept, Observes-settled, Observes-append}
+use Rattle.task_run.proofs.ObservedLemmas.{has_fact-more, shown_later, Observes-none, Observes-plain, Observes-kept, Observes-settled, Observes-append}
 
 -- what is planted and closed stays
 
@@ -95,7 +96,7 @@ facts_under-append plan old last s p f (x ∷ xs) ys (v ∷ vs) ws a =
     let here : Bool = is_under s p x v && same_fact f g in
     has_fact-more (is_under s p x v) g f (facts_under plan s p (xs ++ ys) (vs ++ ws))
     ∙ ap (λ b. here || b) (facts_under-append plan old last s p f xs ys vs ws a.1)
-    ∙ or_apart here (has_fact (facts_under plan s p xs vs) f) (has_fact (facts_under plan s p ys ws) f)
+    ∙ sym (or_assoc here (has_fact (facts_under plan s p xs vs) f) (has_fact (facts_under plan s p ys ws) f))
     ∙ ap (λ b. b || has_fact (facts_under plan s p ys ws) f) (sym (has_fact-more (is_under s p x v) g f (facts_under plan s p xs vs)))
 
 -- what one visit shows under a session

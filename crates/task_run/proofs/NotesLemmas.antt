@@ -1,6 +1,6 @@
 -- What a fetch and a settled trap do to the notes.
 use Rattle.std.proofs.Common.{◌≡◌, ◌⊎◌, ℕ, ◌+◌, ◌≤◌, Bool, true, false, ◌&&◌, ◌||◌, if◌then◌else◌, nat_eq, inl, inr, refl, sym, subst, arith}
-use Rattle.std.proofs.lemmas.Bool.{or_cases, or_left, or_right, and_from, eqb-true, cond_both, both_ways, false≢true}
+use Rattle.std.proofs.lemmas.Bool.{or_cases, or_left, or_right, and_from, eqb-true, cond_both, both_ways, and_parts}
 use Rattle.cov_base.specs.Meaning.{FactSet, with_fact, is_full, same_fact}
 use Rattle.cov_base.specs.declared.facts.Fact.{Fact}
 use Rattle.module_area.specs.declared.cells.Cell.{Cell}
@@ -44,10 +44,7 @@ pub record Adds (old new : Notes) (s p : ℕ) (f : Fact) : Type 0 where
   pub settled : new.settled ≡ old.settled
 
 pub all_three : (x y z : Bool) → (x && y && z) ≡ true → (x ≡ true) × (y ≡ true) × (z ≡ true)
-all_three true true true h = (refl, refl, refl)
-all_three true true false h = absurd (false≢true h)
-all_three true false z h = absurd (false≢true h)
-all_three false y z h = absurd (false≢true h)
+all_three x y z h = let both = and_parts (x && y) z h in let first = and_parts x y both.0 in (first.0, first.1, both.1)
 
 pub three_from : (x y z : Bool) → x ≡ true → y ≡ true → z ≡ true → (x && y && z) ≡ true
 three_from x y z h k l = rw (h, k, l) refl

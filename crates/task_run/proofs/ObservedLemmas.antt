@@ -1,5 +1,6 @@
 -- One visit of a pass, and visits one after the other.
 use Rattle.std.proofs.Common.{◌≡◌, ◌≢◌, ◌⊎◌, ℕ, ◌+◌, ◌*◌, ◌/◌, Bool, true, false, ◌&&◌, ◌||◌, if◌then◌else◌, ◌==◌, nat_eq, List, [], ◌∷◌, ◌++◌, inl, inr, refl, sym, ◌∙◌, ap, subst, arith}
+use Rattle.std.proofs.Math.Bool.{or_comm, or_assoc}
 use Rattle.std.proofs.lemmas.Bool.{or_cases, or_left, or_right, and_parts, and_from, eqb-true, eq-eqb, cond_both, both_ways}
 use Rattle.cov_base.specs.Meaning.{breakpoint, FactSet, no_facts, has_fact, with_fact, same_fact, fact_of, Visit}
 use Rattle.cov_base.specs.declared.facts.Fact.{Fact}
@@ -17,19 +18,9 @@ use Rattle.task_run.proofs.PlaceLemmas.{none_begins}
 
 -- facts in sets
 
-or_turned : (a b : Bool) → (a || b) ≡ (b || a)
-or_turned true true = refl
-or_turned true false = refl
-or_turned false true = refl
-or_turned false false = refl
-
-pub or_apart : (a b c : Bool) → (a || (b || c)) ≡ ((a || b) || c)
-or_apart true b c = refl
-or_apart false b c = refl
-
 -- the fact of an execution, if it is one
 pub has_fact-more : (b : Bool) (g f : Fact) (s : FactSet) → has_fact (if b then with_fact s g else s) f ≡ ((b && same_fact f g) || has_fact s f)
-has_fact-more true g f s = has_fact-with_fact s g f ∙ or_turned (has_fact s f) (same_fact f g)
+has_fact-more true g f s = has_fact-with_fact s g f ∙ or_comm (has_fact s f) (same_fact f g)
 has_fact-more false g f s = refl
 
 pub facts_at-more : (place : Place) (v : Visit) (vs : List Visit) (f : Fact) →
@@ -43,7 +34,7 @@ facts_at-append place (v ∷ xs) ys f =
     let shows : Bool = executes place v && same_fact f (fact_of place.kind v.went) in
     facts_at-more place v (xs ++ ys) f
     ∙ ap (λ b. shows || b) (facts_at-append place xs ys f)
-    ∙ or_apart shows (has_fact (facts_at place xs) f) (has_fact (facts_at place ys) f)
+    ∙ sym (or_assoc shows (has_fact (facts_at place xs) f) (has_fact (facts_at place ys) f))
     ∙ ap (λ b. b || has_fact (facts_at place ys) f) (sym (facts_at-more place v xs f))
 
 pub visits_at_places-append : (places : List Place) (xs ys : List Visit) → visits_at_places places (xs ++ ys) ≡ visits_at_places places xs + visits_at_places places ys

@@ -1,5 +1,5 @@
 -- The tags of a task's sessions while its calls open and close them.
-use Rattle.std.proofs.Common.{◌≡◌, ◌≢◌, ◌⊎◌, ◌↔◌, ℕ, ◌+◌, ◌-◌, ◌*◌, ◌<◌, ◌≤◌, Bool, true, false, ◌==◌, if◌then◌else◌, nat_eq, Option, Some, None, List, [], ◌∷◌, take, drop, get_or, All, inl, inr, refl, sym, ◌∙◌, ap, subst, arith, eqb-true, eq-eqb}
+use Rattle.std.proofs.Common.{◌≡◌, ◌≢◌, ◌⊎◌, ◌↔◌, ℕ, ◌+◌, ◌-◌, ◌*◌, ◌<◌, ◌≤◌, Bool, true, false, ◌==◌, if◌then◌else◌, nat_eq, Option, Some, None, List, [], ◌∷◌, take, drop, get_or, All, inl, inr, refl, sym, ◌∙◌, ap, subst, arith, eqb-true, eq-eqb, eq-or-lt_of_le}
 use Rattle.std.proofs.lemmas.Bool.{cases_Bool, both_ways, cases_lt}
 use Rattle.std.proofs.lemmas.List.{get_or-drop, length-drop, get_or_default}
 use Rattle.std.proofs.lemmas.Option.{same_Some}
@@ -26,9 +26,6 @@ pub record IsBound (plan : PlanView) (n : Notes) (c : ControlView) : Type 0 wher
 abbrev session : ℕ → SessNo
 session k = record { 0 = k }
 
-low_or : (i n : ℕ) → i < n + 1 → (i < n) ⊎ (i ≡ n)
-low_or i n l = grind arith
-
 is_one : (o : Option SessNo) (s : SessNo) → (o ≡ Some s) ⊎ (o ≢ Some s)
 is_one None s = inr (λ e. absurd cc)
 is_one (Some t) s = elim (cases_Bool (nat_eq t.0 s.0)) [
@@ -54,9 +51,9 @@ bound_open plan n c s is b to = let a = next_at plan n c b.tied s to in record {
 }
   where
     lower : (i : ℕ) (t : SessNo) → i < c.next + 1 → get_or c.sessions i t ≡ t → Some s ≢ Some t → i < c.next
-    lower i t lt at other = let a = next_at plan n c b.tied s to in elim (low_or i c.next lt) [
-      | inl l ↦ l
-      | inr e ↦ absurd (other (ap (λ (z : SessNo). Some z) (sym (sym at ∙ (ap (λ j. get_or c.sessions j t) e ∙ (get_or_default c.sessions c.next t s a.1 ∙ a.2))))))
+    lower i t lt at other = let a = next_at plan n c b.tied s to in elim (eq-or-lt_of_le {n = i} {m = c.next} (omega (arith, lt))) [
+      | inr l ↦ l
+      | inl e ↦ absurd (other (ap (λ (z : SessNo). Some z) (sym (sym at ∙ (ap (λ j. get_or c.sessions j t) e ∙ (get_or_default c.sessions c.next t s a.1 ∙ a.2))))))
     ]
 
 close_over : (b : Bool) (s t k : ℕ) → (b ≡ true → k + 1 ≡ 2 * s) → 2 * t ≤ k → 2 * t ≤ (if b then 2 * s else k)
