@@ -1,6 +1,7 @@
 -- Each kind of step that changes a cell keeps the rule.
 use Rattle.std.proofs.Common.{◌≡◌, ◌≢◌, ◌⊎◌, ℕ, ◌+◌, ◌*◌, ◌<◌, ◌≤◌, ◌&&◌, Bool, true, false, nat_eq, if◌then◌else◌, List, ◌∷◌, length, set, sym, refl, ap, ◌∙◌, subst, inl, inr, ⊎_elim, arith, eq-eqb, ne_eqb}
 use Rattle.std.proofs.Math.Bool.{and-false}
+use Rattle.std.proofs.lemmas.Bool.{or_right}
 use mathlib.Core.Option.{some}
 use mathlib.Core.Logic.{dite}
 use native.Mathlib.Decide.{ℕ_discrete}
@@ -14,7 +15,7 @@ use Rattle.module_area.specs.Meaning.{PlanView, original_at, kind_at, is_over, i
 use Rattle.module_area.specs.Rule.{Has, add_if, times, last_tag, window_tag, lifting, planting, planted, lifted, closed, IsForm, Once, Keeps, Owes, Held}
 use Rattle.module_area.specs.Parties.{closing}
 use Rattle.module_area.proofs.PartyLemmas.{has-add_if}
-use Rattle.module_area.proofs.StepLemmas.{Grows, kept_grows, back, into, moved, once_same, ties_same, one_keeper, planted_not, same_window, full_some, one_if, breakpoint_form, or_right}
+use Rattle.module_area.proofs.StepLemmas.{Grows, kept_grows, back, into, moved, once_same, ties_same, one_keeper, planted_not, same_window, full_some, one_if, breakpoint_form}
 
 abbrev Cells : Type 0
 Cells = ℕ → Cell

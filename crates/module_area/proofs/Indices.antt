@@ -1,5 +1,5 @@
 -- Sets stand at different indices, and tests on booleans.
-use Rattle.std.proofs.Common.{◌≡◌, ℕ, ◌+◌, ◌-◌, ◌*◌, ◌<◌, ◌≤◌, Bool, true, false, ◌&&◌, refl, sym, arith, le_refl}
+use Rattle.std.proofs.Common.{◌≡◌, ℕ, ◌+◌, ◌-◌, ◌*◌, ◌<◌, ◌≤◌, Bool, true, false, refl, sym, arith, le_refl}
 use Rattle.std.proofs.lemmas.Nat.{row_fits, same_from_place}
 use Rattle.module_area.specs.Meaning.{index_of}
 
@@ -13,17 +13,6 @@ same_index places t q s p t0 s0 q_in p_in e =
     let same = same_from_place (t - 1) q (s - 1) p places q_in p_in e in
     let row : t - 1 ≡ s - 1 = same.0 in
     (omega arith, same.1)
-
-pub and_left : (a b : Bool) → (a && b) ≡ true → a ≡ true
-and_left true b h = refl
-and_left false b h = h
-
-pub and_right : (a b : Bool) → (a && b) ≡ true → b ≡ true
-and_right true b h = h
-and_right false b h = absurd cc
-
-pub and_both : (a b : Bool) → a ≡ true → b ≡ true → (a && b) ≡ true
-and_both a b h k = rw (h, k) refl
 
 pub same_tests : (a b : Bool) → (a ≡ true → b ≡ true) → (b ≡ true → a ≡ true) → a ≡ b
 same_tests true b h k = sym (h refl)

@@ -7,13 +7,13 @@ pub use Rattle.module_area.proofs.DrainLemmas.{mark_drained, cell_drained, fetch
 pub use Rattle.module_area.proofs.DrainLemmas.{read_drained, split_drained, join_drained}
 pub use Rattle.module_area.proofs.EndedLemmas.{session_has_sets, pairs_are_places}
 pub use Rattle.module_area.proofs.ForkLemmas.{splits, joins}
-pub use Rattle.module_area.proofs.Indices.{index_below, same_index, and_left, and_right, and_both, same_tests}
+pub use Rattle.module_area.proofs.Indices.{index_below, same_index, same_tests}
 pub use Rattle.module_area.proofs.PartyLemmas.{more-add_if, here-add_if, has-append, left-append, right-append, set_else, at_longer, at_put}
 pub use Rattle.module_area.proofs.PartyLemmas.{all_set, all_snoc, all_two, total-set, total_two, total_only, kept_tag, dropped_tag, no_tag}
 pub use Rattle.module_area.proofs.PartyLemmas.{first_tag}
 pub use Rattle.module_area.proofs.PlanLemmas.{any_at, any_shown, number, no_session, one_controller, no_controller, controlled_at}
 pub use Rattle.module_area.proofs.PlanLemmas.{no_controlled, over_cases, tested_controller, controller_of, over_window, over_small}
-pub use Rattle.module_area.proofs.StepLemmas.{spent_not_root, spent_not_task, or_cases, or_left, or_right, full_some}
+pub use Rattle.module_area.proofs.StepLemmas.{spent_not_root, spent_not_task, full_some}
 pub use Rattle.module_area.proofs.StepLemmas.{breakpoint_form, first_only, quiet, fetches, marks}
 pub use Rattle.module_area.proofs.TieLemmas.{places_at, has_here, may_plant, may_close, from_one, tied_close, next_at, next_kept, next_later, tied_open}
 pub use Rattle.module_area.proofs.TieLemmas.{open_kept}

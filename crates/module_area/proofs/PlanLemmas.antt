@@ -2,12 +2,12 @@
 use Rattle.std.proofs.Common.{◌≡◌, ◌⊎◌, ℕ, suc, ◌<◌, ◌≤◌, Bool, true, false, ◌&&◌, ◌||◌, nat_eq, nat_lt, List, [], ◌∷◌, length, get_or, Contains, sym, refl, ap, ◌∙◌, inl, inr, ⊎_elim, arith, eqb-true, eq-eqb, lt_of_not-le}
 use Rattle.std.specs.List.{list_any}
 use Rattle.std.proofs.lemmas.List.Folds.{list_any_at}
+use Rattle.std.proofs.lemmas.Bool.{and_from, and_parts}
 use mathlib.Core.Logic.{dite}
 use native.Mathlib.Decide.{dec_le}
 use Rattle.cov_base.specs.declared.numbers.PlaceNo.{PlaceNo}
 use Rattle.module_area.specs.Meaning.{PlanView, ControlledView, has_place, is_controlled, is_over, window_at}
 use Rattle.module_area.specs.Rule.{IsPlan, is_controller}
-use Rattle.module_area.proofs.Indices.{and_left, and_right, and_both}
 
 any_step : {X : Type 0} (f : X → Bool) (x : X) (xs : List X) (d : X) (b : Bool) → f x ≡ b → (b || list_any f xs) ≡ true
     → (list_any f xs ≡ true → (k : ℕ) × (k < length xs) × (f (get_or xs k d) ≡ true)) → (k : ℕ) × (k < length (x ∷ xs)) × (f (get_or (x ∷ xs) k d) ≡ true)
@@ -35,7 +35,7 @@ session_at plan i = get_or plan.controlled i no_session
 
 controller_at : (plan : PlanView) (t p : ℕ) → is_controller plan t p ≡ true → (i : ℕ) × (i < length plan.controlled) × ((session_at plan i).by ≡ t) × Contains (session_at plan i).places (number p)
 controller_at plan t p h = let a = any_at (λ (c : ControlledView). nat_eq c.by t && has_place c.places p) plan.controlled no_session h in
-    (a.0, a.1, eqb-true _ _ (and_left _ _ a.2), place_in (session_at plan a.0).places p (and_right (nat_eq (session_at plan a.0).by t) _ a.2))
+    (a.0, a.1, eqb-true _ _ (and_parts _ _ a.2).0, place_in (session_at plan a.0).places p (and_parts (nat_eq (session_at plan a.0).by t) _ a.2).1)
 
 -- a place is under one controller
 pub one_controller : (plan : PlanView) (t u p : ℕ) → IsPlan plan → is_controller plan t p ≡ true → is_controller plan u p ≡ true → t ≡ u
@@ -53,7 +53,7 @@ no_controller plan t p ok pos h = let a = controller_at plan t p h in let c = a.
 
 pub controlled_at : (plan : PlanView) (s p : ℕ) → is_controlled plan s p ≡ true → (i : ℕ) × (i < length plan.controlled) × ((session_at plan i).session ≡ s) × Contains (session_at plan i).places (number p)
 controlled_at plan s p h = let a = any_at (λ (c : ControlledView). nat_eq c.session s && has_place c.places p) plan.controlled no_session h in
-    (a.0, a.1, eqb-true _ _ (and_left _ _ a.2), place_in (session_at plan a.0).places p (and_right (nat_eq (session_at plan a.0).session s) _ a.2))
+    (a.0, a.1, eqb-true _ _ (and_parts _ _ a.2).0, place_in (session_at plan a.0).places p (and_parts (nat_eq (session_at plan a.0).session s) _ a.2).1)
 
 pub no_controlled : (plan : PlanView) (s p : ℕ) → IsPlan plan → 0 < window_at plan p → is_controlled plan s p ≡ true → ⊥
 no_controlled plan s p ok pos h = let a = controlled_at plan s p h in let c = a.3 in
@@ -64,23 +64,23 @@ pub over_cases : (plan : PlanView) (s p : ℕ) → is_over plan s p ≡ true →
 over_cases plan s p h = by_test (nat_lt 0 s && nat_eq (window_at plan p) s) (is_controlled plan s p) refl refl h
   where
     by_test : (a b : Bool) → (nat_lt 0 s && nat_eq (window_at plan p) s) ≡ a → is_controlled plan s p ≡ b → (a || b) ≡ true → (window_at plan p ≡ s) ⊎ (is_controlled plan s p ≡ true)
-    by_test true b ea eb x = inl (eqb-true _ _ (and_right (nat_lt 0 s) _ ea))
+    by_test true b ea eb x = inl (eqb-true _ _ (and_parts (nat_lt 0 s) _ ea).1)
     by_test false b ea eb x = inr (eb ∙ x)
 
 -- the controlled session at an index has a controller
 controller_there : (plan : PlanView) (i p : ℕ) → i < length plan.controlled → has_place (session_at plan i).places p ≡ true → is_controller plan (session_at plan i).by p ≡ true
 controller_there plan i p l h = any_shown (λ (c : ControlledView). nat_eq c.by (session_at plan i).by && has_place c.places p) plan.controlled no_session i l
-    (and_both _ _ (eq-eqb (session_at plan i).by (session_at plan i).by refl) h)
+    (and_from _ _ (eq-eqb (session_at plan i).by (session_at plan i).by refl) h)
 
 -- some controlled session of the test over the place gives a controller of the test
 pub tested_controller : (plan : PlanView) (f : ℕ → Bool) (p : ℕ) → list_any (λ (c : ControlledView). f c.by && has_place c.places p) plan.controlled ≡ true → (t : ℕ) × (is_controller plan t p ≡ true) × (f t ≡ true)
 tested_controller plan f p h = let a = any_at (λ (c : ControlledView). f c.by && has_place c.places p) plan.controlled no_session h in
-    ((session_at plan a.0).by, controller_there plan a.0 p a.1 (and_right (f (session_at plan a.0).by) _ a.2), and_left _ _ a.2)
+    ((session_at plan a.0).by, controller_there plan a.0 p a.1 (and_parts (f (session_at plan a.0).by) _ a.2).1, (and_parts _ _ a.2).0)
 
 -- a controlled session over a place has a controller there
 pub controller_of : (plan : PlanView) (s p : ℕ) → is_controlled plan s p ≡ true → (t : ℕ) × (is_controller plan t p ≡ true)
 controller_of plan s p h = let a = any_at (λ (c : ControlledView). nat_eq c.session s && has_place c.places p) plan.controlled no_session h in
-    ((session_at plan a.0).by, controller_there plan a.0 p a.1 (and_right (nat_eq (session_at plan a.0).session s) _ a.2))
+    ((session_at plan a.0).by, controller_there plan a.0 p a.1 (and_parts (nat_eq (session_at plan a.0).session s) _ a.2).1)
 
 -- a place with a window is under its whole session alone
 pub over_window : (plan : PlanView) (s p : ℕ) → IsPlan plan → 0 < window_at plan p → is_over plan s p ≡ true → window_at plan p ≡ s

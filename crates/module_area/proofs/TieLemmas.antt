@@ -10,12 +10,11 @@ use Rattle.module_area.specs.Rule.{IsPlan, AreApart}
 use Rattle.module_area.specs.Notes.{Notes, keeps_as}
 use Rattle.std.specs.Prelude.{slice_get}
 use Rattle.std.proofs.lemmas.Option.{slice_get_within, get_or_from_slice_get, same_Some}
+use Rattle.std.proofs.lemmas.Bool.{and_from, and_parts, or_right}
 use Rattle.module_area.specs.Control.{after_plants, after_closes}
 use Rattle.module_area.specs.Tied.{keeps_session_as, keeps_session, IsTied}
 use Rattle.module_area.specs.Allowed.{MayPlant, MayClose}
-use Rattle.module_area.proofs.Indices.{and_left, and_right, and_both}
 use Rattle.module_area.proofs.PlanLemmas.{any_at, any_shown, no_session}
-use Rattle.module_area.proofs.StepLemmas.{or_right}
 
 -- the places of the session at an index, whose sessions rise
 pub places_at : (cs : List ControlledView) (s i : ℕ) → AllPairs AreApart cs → i < length cs → (get_or cs i no_session).session ≡ s → places_in cs s ≡ (get_or cs i no_session).places
@@ -28,9 +27,9 @@ places_at (c ∷ cs) s (suc i) apart l e = let low = (apart 0 (suc i) no_session
 kept_at : (plan : PlanView) (bears : Option ℕ) (out : ℕ → Bool) (s : ℕ) → keeps_session_as plan bears out s ≡ true
     → (i : ℕ) × (i < length plan.controlled) × ((get_or plan.controlled i no_session).session ≡ s) × ((p : ℕ) → has_place (get_or plan.controlled i no_session).places p ≡ true → keeps_as plan bears out p ≡ true)
 kept_at plan (Some t) out s h = let a = any_at (λ (c : ControlledView). nat_eq c.session s && nat_eq c.by t) plan.controlled no_session h in let c : ControlledView = get_or plan.controlled a.0 no_session in
-    (a.0, a.1, eqb-true _ _ (and_left _ _ a.2), λ p has. any_shown (λ (c : ControlledView). nat_eq c.by t && has_place c.places p) plan.controlled no_session a.0 a.1 (and_both (nat_eq c.by t) (has_place c.places p) (and_right (nat_eq c.session s) _ a.2) has))
+    (a.0, a.1, eqb-true _ _ (and_parts _ _ a.2).0, λ p has. any_shown (λ (c : ControlledView). nat_eq c.by t && has_place c.places p) plan.controlled no_session a.0 a.1 (and_from (nat_eq c.by t) (has_place c.places p) (and_parts (nat_eq c.session s) _ a.2).1 has))
 kept_at plan None out s h = let a = any_at (λ (c : ControlledView). nat_eq c.session s && not (out c.by)) plan.controlled no_session h in let c : ControlledView = get_or plan.controlled a.0 no_session in
-    (a.0, a.1, eqb-true _ _ (and_left _ _ a.2), λ p has. or_right (nat_lt 0 (window_at plan p)) _ (any_shown (λ (c : ControlledView). not (out c.by) && has_place c.places p) plan.controlled no_session a.0 a.1 (and_both (not (out c.by)) (has_place c.places p) (and_right (nat_eq c.session s) _ a.2) has)))
+    (a.0, a.1, eqb-true _ _ (and_parts _ _ a.2).0, λ p has. or_right (nat_lt 0 (window_at plan p)) _ (any_shown (λ (c : ControlledView). not (out c.by) && has_place c.places p) plan.controlled no_session a.0 a.1 (and_from (not (out c.by)) (has_place c.places p) (and_parts (nat_eq c.session s) _ a.2).1 has)))
 
 pub has_here : (places : List PlaceNo) (k : ℕ) (d : PlaceNo) → k < length places → has_place places (get_or places k d).0 ≡ true
 has_here places k d l = any_shown (λ (q : PlaceNo). nat_eq q.0 (get_or places k d).0) places d k l (eq-eqb (get_or places k d).0 (get_or places k d).0 refl)
@@ -51,7 +50,7 @@ module _ (plan : PlanView) (n : Notes) (ok : IsPlan plan) (s : ℕ) (kept : keep
   under = let a = kept_at plan n.bears n.out s kept in places_at plan.controlled s a.0 ok.apart a.1 a.2
 
   controlled_here : (p : ℕ) → has_place its.places p ≡ true → is_controlled plan s p ≡ true
-  controlled_here p has = let a = kept_at plan n.bears n.out s kept in any_shown (λ (c : ControlledView). nat_eq c.session s && has_place c.places p) plan.controlled no_session a.0 a.1 (and_both _ _ (eq-eqb _ _ a.2) has)
+  controlled_here p has = let a = kept_at plan n.bears n.out s kept in any_shown (λ (c : ControlledView). nat_eq c.session s && has_place c.places p) plan.controlled no_session a.0 a.1 (and_from _ _ (eq-eqb _ _ a.2) has)
 
   -- what the next session's places allow
   pub may_plant : All (λ p. n.last p.0 + 1 < 2 * s) (places_under plan s) → MayPlant plan n s (places_under plan s)

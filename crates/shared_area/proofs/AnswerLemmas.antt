@@ -1,5 +1,6 @@
 -- What the rule says of the word that a step finds.
 use Rattle.std.proofs.Common.{◌≡◌, ◌≢◌, ◌⊎◌, ℕ, ◌+◌, ◌*◌, ◌/◌, ◌<◌, ◌≤◌, Bool, true, false, not, ◌&&◌, nat_lt, None, List, length, refl, ap, subst, inl, inr, ⊎_elim, arith, ltb-true}
+use Rattle.std.proofs.lemmas.Bool.{or_cases}
 use mathlib.Core.Option.{some}
 use lib.ListN.{get_elem?}
 use Rattle.cov_base.specs.Meaning.{FactSet, is_within, breakpoint}
@@ -13,7 +14,6 @@ use Rattle.module_area.specs.Rule.{IsPlan, Has, last_tag, window_tag, planted, I
 use Rattle.module_area.specs.declared.tallies.Tally.{Tally}
 use Rattle.module_area.specs.Notes.{IsAnswer, IsFound, no_tally, keeps_as, keeps}
 use Rattle.module_area.proofs.Laws.{no_controlled, over_window, over_small, tested_controller, breakpoint_form}
-use Rattle.module_area.proofs.Laws.{or_cases}
 use Rattle.shared_area.specs.Told.{bears_as, seen_at, notes_in}
 use Rattle.shared_area.proofs.NoteLemmas.{pair_there, mark_there, number_there, not_there, seen_most}
 use Rattle.shared_area.proofs.WordLemmas.{same_cell}

@@ -1,5 +1,6 @@
 -- The rule in the end, when all passes are joined to the root.
 use Rattle.std.proofs.Common.{◌≡◌, ◌≢◌, ◌⊎◌, ℕ, ◌+◌, ◌*◌, ◌<◌, ◌≤◌, Bool, true, false, ◌&&◌, nat_lt, if◌then◌else◌, List, length, sym, refl, ap, ◌∙◌, subst, inl, inr, ⊎_elim, arith, ltb-true, lt_of_not-le}
+use Rattle.std.proofs.lemmas.Bool.{and_parts}
 use mathlib.Core.Option.{some, some-injective}
 use mathlib.Core.Logic.{dite}
 use native.Mathlib.Decide.{ℕ_discrete, dec_le}
@@ -12,7 +13,7 @@ use Rattle.module_area.specs.declared.parties.Role.{Role}
 use Rattle.module_area.specs.declared.parties.Role.TheVariants.{Root, Task, Spent}
 use Rattle.module_area.specs.Meaning.{PlanView, original_at, kind_at, window_at, is_over, count_below, count_pairs}
 use Rattle.module_area.specs.Rule.{IsPlan, Has, times, last_tag, blank, untouched, planted, lifted, IsForm, Once, KeepsAs, IsRole, Owes, Held, has_number}
-use Rattle.module_area.proofs.Laws.{no_controlled, over_window, over_cases, over_small, controller_of, and_left, and_right, total_only}
+use Rattle.module_area.proofs.Laws.{no_controlled, over_window, over_cases, over_small, controller_of, total_only}
 use Rattle.module_area.proofs.Laws.{first_only, full_some}
 use Rattle.shared_area.specs.Told.{has_pair}
 use Rattle.shared_area.proofs.NoteLemmas.{pair_there, pair_shown, number_there, not_there, last_has}
@@ -94,7 +95,7 @@ module _ (plan : PlanView) (cell : ℕ → Cell) (sets : ℕ → ℕ → FactSet
 
   pub lifts_least : ((s q : ℕ) → Has (s, q) v.full → Has (s, q) v.free) → count_below (λ p. nat_lt 0 (window_at plan p) && is_full (kind_at plan p) (sets (window_at plan p) p)) (length plan.places) ≤ length v.lifted
   lifts_least tried = let a = count_least (λ p. nat_lt 0 (window_at plan p) && is_full (kind_at plan p) (sets (window_at plan p) p)) (λ p. times (window_at plan p) p v.lifted) (length plan.places)
-      (λ p l h. end_lifts p l (ltb-true 0 (window_at plan p) (and_left (nat_lt 0 (window_at plan p)) _ h)) tried (and_right (nat_lt 0 (window_at plan p)) _ h)) in
+      (λ p l h. end_lifts p l (ltb-true 0 (window_at plan p) (and_parts (nat_lt 0 (window_at plan p)) _ h).0) tried (and_parts (nat_lt 0 (window_at plan p)) _ h).1) in
       let b = some_sum (window_at plan) (length plan.places) v.lifted in omega (arith, a, b)
 
   pub lifts_most : length v.lifted ≤ count_pairs (λ s p. is_full (kind_at plan p) (sets s p)) plan.sessions (length plan.places)

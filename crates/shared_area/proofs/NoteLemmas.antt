@@ -4,6 +4,7 @@ use mathlib.Core.Path.{fun_ext}
 use Rattle.std.proofs.lemmas.List.{map-append}
 use Rattle.std.proofs.Math.Bool.{and_comm, or_assoc, or_comm, or-false}
 use Rattle.std.specs.Cmp.{nat_eq_equiv}
+use Rattle.std.proofs.lemmas.Bool.{and_from, and_parts, or_cases, or_left, or_right}
 use Rattle.cov_base.specs.declared.facts.Fact.{Fact}
 use Rattle.cov_base.specs.Meaning.{FactSet, same_fact, is_full, with_fact}
 use Rattle.cov_base.proofs.Laws.{same_fact-self, same_fact-true}
@@ -15,8 +16,7 @@ use Rattle.module_area.specs.Meaning.{PlanView, original_at, kind_at, tag_sessio
 use Rattle.module_area.specs.Rule.{is_controller, Has, add_if, is_lifted, window_tag, last_tag, fetching, marking, planting, has_number}
 use Rattle.module_area.specs.Parties.{chosen, closing, giving, newcomer, joining, bounding, reading, role_task}
 use Rattle.module_area.specs.Notes.{no_tally, is_free_under, after_fetch, after_mark, after_plant, after_close, after_split, split_notes, after_boundary, after_read, after_join, bearer, is_final, same_bit, same_set}
-use Rattle.module_area.proofs.Laws.{and_left, and_right, and_both, same_tests, kept_tag, dropped_tag, no_tag, first_tag}
-use Rattle.module_area.proofs.Laws.{or_cases, or_left, or_right}
+use Rattle.module_area.proofs.Laws.{same_tests, kept_tag, dropped_tag, no_tag, first_tag}
 use Rattle.shared_area.specs.Told.{has_mark, has_pair, has_settled, seen_at, told_note, bears_as, notes_in, is_given}
 
 same_bit-true : (a b : Bool) → same_bit a b ≡ true → a ≡ b
@@ -26,45 +26,45 @@ same_bit-true false true h = absurd cc
 same_bit-true false false h = refl
 
 same_set-true : (a b : FactSet) → same_set a b ≡ true → a ≡ b
-same_set-true a b h = let rest = and_right (same_bit a.ran b.ran) _ h in λ i. record {
-  ran = same_bit-true a.ran b.ran (and_left (same_bit a.ran b.ran) _ h) i;
-  went = same_bit-true a.went b.went (and_left (same_bit a.went b.went) _ rest) i;
-  stayed = same_bit-true a.stayed b.stayed (and_right (same_bit a.went b.went) _ rest) i;
+same_set-true a b h = let rest = (and_parts (same_bit a.ran b.ran) _ h).1 in λ i. record {
+  ran = same_bit-true a.ran b.ran (and_parts (same_bit a.ran b.ran) _ h).0 i;
+  went = same_bit-true a.went b.went (and_parts (same_bit a.went b.went) _ rest).0 i;
+  stayed = same_bit-true a.stayed b.stayed (and_parts (same_bit a.went b.went) _ rest).1 i;
 }
 
 -- ---- the tests are membership
 pub pair_there : (s p : ℕ) (xs : List (ℕ × ℕ)) → has_pair s p xs ≡ true → Has (s, p) xs
 pair_there s p [] h = absurd cc
 pair_there s p (x ∷ xs) h = ⊎_elim (λ a. inr (pair_there s p xs a))
-    (λ b. inl (λ i. (sym (eqb-true s x.0 (and_left (nat_eq s x.0) (nat_eq p x.1) b)) i, sym (eqb-true p x.1 (and_right (nat_eq s x.0) (nat_eq p x.1) b)) i)))
+    (λ b. inl (λ i. (sym (eqb-true s x.0 (and_parts (nat_eq s x.0) (nat_eq p x.1) b).0) i, sym (eqb-true p x.1 (and_parts (nat_eq s x.0) (nat_eq p x.1) b).1) i)))
     (or_cases (has_pair s p xs) (nat_eq s x.0 && nat_eq p x.1) h)
 
 pub pair_shown : (s p : ℕ) (xs : List (ℕ × ℕ)) → Has (s, p) xs → has_pair s p xs ≡ true
 pair_shown s p [] h = absurd h
 pair_shown s p (x ∷ xs) (inr h) = or_left (has_pair s p xs) _ (pair_shown s p xs h)
 pair_shown s p (x ∷ xs) (inl e) = or_right (has_pair s p xs) (nat_eq s x.0 && nat_eq p x.1)
-    (and_both (nat_eq s x.0) (nat_eq p x.1) (eq-eqb s x.0 (sym (ap (λ (z : ℕ × ℕ). z.0) e))) (eq-eqb p x.1 (sym (ap (λ (z : ℕ × ℕ). z.1) e))))
+    (and_from (nat_eq s x.0) (nat_eq p x.1) (eq-eqb s x.0 (sym (ap (λ (z : ℕ × ℕ). z.0) e))) (eq-eqb p x.1 (sym (ap (λ (z : ℕ × ℕ). z.1) e))))
 
 pub mark_there : (s p : ℕ) (f : Fact) (xs : List (ℕ × ℕ × Fact)) → has_mark s p f xs ≡ true → Has (s, p, f) xs
 mark_there s p f [] h = absurd cc
 mark_there s p f (x ∷ xs) h = ⊎_elim (λ a. inr (mark_there s p f xs a))
-    (λ b. let first = and_left (nat_eq s x.0 && nat_eq p x.1) (same_fact f x.2) b in
-    inl (λ i. (sym (eqb-true s x.0 (and_left (nat_eq s x.0) (nat_eq p x.1) first)) i, sym (eqb-true p x.1 (and_right (nat_eq s x.0) (nat_eq p x.1) first)) i, sym (same_fact-true f x.2 (and_right (nat_eq s x.0 && nat_eq p x.1) (same_fact f x.2) b)) i)))
+    (λ b. let first = (and_parts (nat_eq s x.0 && nat_eq p x.1) (same_fact f x.2) b).0 in
+    inl (λ i. (sym (eqb-true s x.0 (and_parts (nat_eq s x.0) (nat_eq p x.1) first).0) i, sym (eqb-true p x.1 (and_parts (nat_eq s x.0) (nat_eq p x.1) first).1) i, sym (same_fact-true f x.2 (and_parts (nat_eq s x.0 && nat_eq p x.1) (same_fact f x.2) b).1) i)))
     (or_cases (has_mark s p f xs) (nat_eq s x.0 && nat_eq p x.1 && same_fact f x.2) h)
 
 pub mark_shown : (s p : ℕ) (f : Fact) (xs : List (ℕ × ℕ × Fact)) → Has (s, p, f) xs → has_mark s p f xs ≡ true
 mark_shown s p f [] h = absurd h
 mark_shown s p f (x ∷ xs) (inr h) = or_left (has_mark s p f xs) _ (mark_shown s p f xs h)
 mark_shown s p f (x ∷ xs) (inl e) = or_right (has_mark s p f xs) (nat_eq s x.0 && nat_eq p x.1 && same_fact f x.2)
-    (and_both (nat_eq s x.0 && nat_eq p x.1) (same_fact f x.2)
-    (and_both (nat_eq s x.0) (nat_eq p x.1) (eq-eqb s x.0 (sym (ap (λ (z : ℕ × ℕ × Fact). z.0) e))) (eq-eqb p x.1 (sym (ap (λ (z : ℕ × ℕ × Fact). z.1) e))))
+    (and_from (nat_eq s x.0 && nat_eq p x.1) (same_fact f x.2)
+    (and_from (nat_eq s x.0) (nat_eq p x.1) (eq-eqb s x.0 (sym (ap (λ (z : ℕ × ℕ × Fact). z.0) e))) (eq-eqb p x.1 (sym (ap (λ (z : ℕ × ℕ × Fact). z.1) e))))
     (subst (λ z. same_fact f z ≡ true) (sym (ap (λ (z : ℕ × ℕ × Fact). z.2) e)) (same_fact-self f)))
 
 pub settled_there : (s p : ℕ) (x : FactSet) (ys : List (ℕ × ℕ × FactSet)) → has_settled s p x ys ≡ true → Has (s, p, x) ys
 settled_there s p x [] h = absurd cc
 settled_there s p x (y ∷ ys) h = ⊎_elim (λ a. inr (settled_there s p x ys a))
-    (λ b. let first = and_left (nat_eq s y.0 && nat_eq p y.1) (same_set y.2 x) b in
-    inl (λ i. (sym (eqb-true s y.0 (and_left (nat_eq s y.0) (nat_eq p y.1) first)) i, sym (eqb-true p y.1 (and_right (nat_eq s y.0) (nat_eq p y.1) first)) i, same_set-true y.2 x (and_right (nat_eq s y.0 && nat_eq p y.1) (same_set y.2 x) b) i)))
+    (λ b. let first = (and_parts (nat_eq s y.0 && nat_eq p y.1) (same_set y.2 x) b).0 in
+    inl (λ i. (sym (eqb-true s y.0 (and_parts (nat_eq s y.0) (nat_eq p y.1) first).0) i, sym (eqb-true p y.1 (and_parts (nat_eq s y.0) (nat_eq p y.1) first).1) i, same_set-true y.2 x (and_parts (nat_eq s y.0 && nat_eq p y.1) (same_set y.2 x) b).1 i)))
     (or_cases (has_settled s p x ys) (nat_eq s y.0 && nat_eq p y.1 && same_set y.2 x) h)
 
 pub number_there : (t : ℕ) (us : List ℕ) → has_number t us ≡ true → Has t us
@@ -121,11 +121,11 @@ session_odd s t e = (omega arith, omega arith)
 
 lifted_tests : (b : Bool) (s q p t : ℕ) → ((b && nat_eq (t % 2) 1) && (nat_eq s (tag_session t) && nat_eq q p)) ≡ (nat_eq q p && (b && nat_eq (t + 1) (2 * s)))
 lifted_tests b s q p t = same_tests _ _
-    (λ h. let first = and_left (b && nat_eq (t % 2) 1) _ h in let rest = and_right (b && nat_eq (t % 2) 1) _ h in
-    and_both (nat_eq q p) _ (and_right (nat_eq s (tag_session t)) _ rest)
-    (and_both b _ (and_left b _ first) (eq-eqb _ _ (odd_session s t (eqb-true _ _ (and_right b _ first)) (eqb-true _ _ (and_left (nat_eq s (tag_session t)) _ rest))))))
-    (λ h. let at = and_left (nat_eq q p) _ h in let r = and_right (nat_eq q p) _ h in let x = session_odd s t (eqb-true _ _ (and_right b _ r)) in
-    and_both (b && nat_eq (t % 2) 1) _ (and_both b _ (and_left b _ r) (eq-eqb _ _ x.0)) (and_both (nat_eq s (tag_session t)) _ (eq-eqb _ _ x.1) at))
+    (λ h. let first = (and_parts (b && nat_eq (t % 2) 1) _ h).0 in let rest = (and_parts (b && nat_eq (t % 2) 1) _ h).1 in
+    and_from (nat_eq q p) _ (and_parts (nat_eq s (tag_session t)) _ rest).1
+    (and_from b _ (and_parts b _ first).0 (eq-eqb _ _ (odd_session s t (eqb-true _ _ (and_parts b _ first).1) (eqb-true _ _ (and_parts (nat_eq s (tag_session t)) _ rest).0)))))
+    (λ h. let at = (and_parts (nat_eq q p) _ h).0 in let r = (and_parts (nat_eq q p) _ h).1 in let x = session_odd s t (eqb-true _ _ (and_parts b _ r).1) in
+    and_from (b && nat_eq (t % 2) 1) _ (and_from b _ (and_parts b _ r).0 (eq-eqb _ _ x.0)) (and_from (nat_eq s (tag_session t)) _ (eq-eqb _ _ x.1) at))
 
 pair_add_if : (c : Bool) (s q t p : ℕ) (xs : List (ℕ × ℕ)) → has_pair s q (add_if c (t, p) xs) ≡ (has_pair s q xs || (c && (nat_eq s t && nat_eq q p)))
 pair_add_if true s q t p xs = refl
@@ -190,8 +190,8 @@ out_after false false false h = refl
 
 pub given_has : (t : ℕ) (given joined : List ℕ) → is_given given joined ≡ true → has_number t joined ≡ true → has_number t given ≡ true
 given_has t given [] h j = absurd cc
-given_has t given (u ∷ us) h j = ⊎_elim (λ a. given_has t given us (and_right (has_number u given) _ h) a)
-    (λ e. subst (λ z. has_number z given ≡ true) (sym (eqb-true t u e)) (and_left (has_number u given) _ h)) (or_cases (has_number t us) (nat_eq t u) j)
+given_has t given (u ∷ us) h j = ⊎_elim (λ a. given_has t given us (and_parts (has_number u given) _ h).1 a)
+    (λ e. subst (λ z. has_number z given ≡ true) (sym (eqb-true t u e)) (and_parts (has_number u given) _ h).0) (or_cases (has_number t us) (nat_eq t u) j)
 
 not_given : (t : ℕ) (given joined : List ℕ) (b : Bool) → has_number t joined ≡ b → is_given given joined ≡ true → has_number t given ≡ false → b ≡ false
 not_given t given joined true e h no_t = let x = given_has t given joined h e in absurd cc
@@ -204,7 +204,7 @@ split_root t v tally h no_t = let out : (λ u. (has_number u v.given || nat_eq u
 
 pub more_given : (t : ℕ) (given joined : List ℕ) → is_given given joined ≡ true → is_given (t ∷ given) joined ≡ true
 more_given t given [] h = refl
-more_given t given (u ∷ us) h = and_both (has_number u (t ∷ given)) _ (or_left (has_number u given) (nat_eq u t) (and_left (has_number u given) _ h)) (more_given t given us (and_right (has_number u given) _ h))
+more_given t given (u ∷ us) h = and_from (has_number u (t ∷ given)) _ (or_left (has_number u given) (nat_eq u t) (and_parts (has_number u given) _ h).0) (more_given t given us (and_parts (has_number u given) _ h).1)
 
 -- ---- the last tags that are handed over
 handed_by : (f : ℕ → Bool) (p : ℕ) (xs : List (ℕ × ℕ)) (b : Bool) → f p ≡ b → last_tag p (chosen f xs) ≡ (if b then last_tag p xs else 0)

@@ -1,7 +1,7 @@
 -- What a pass's notes say of tasks past a session holds by the rule, and so a set that they call final stays.
 use Rattle.std.proofs.Common.{◌≡◌, ◌≢◌, ◌⊎◌, ℕ, zero, suc, ◌*◌, ◌%◌, ◌<◌, ◌≤◌, Bool, true, false, not, ◌&&◌, ◌||◌, nat_eq, nat_lt, nat_le, if◌then◌else◌, Some, None, Option, List, [], ◌∷◌, length, get_or, map, max, sym, refl, ap, ◌∙◌, subst, inl, inr, ⊎_elim, arith, eqb-true, eq-eqb, ltb-true}
 use Rattle.std.specs.List.{list_any, list_all}
-use Rattle.std.proofs.lemmas.Bool.{leb-true, not-true}
+use Rattle.std.proofs.lemmas.Bool.{leb-true, not-true, and_from, and_parts, or_cases}
 use Rattle.std.proofs.lemmas.List.{get_or-map, length-map}
 use Rattle.std.proofs.lemmas.List.Sums.{AllPass-from_list_all}
 use mathlib.Core.Option.{some}
@@ -19,7 +19,7 @@ use Rattle.module_area.specs.Meaning.{PlanView, ControlledView, is_controlled}
 use Rattle.module_area.specs.Rule.{has_task, Has, window_tag, Held}
 use Rattle.module_area.specs.Drained.{Noted, IsOverAt, IsClosed, IsPast, Drained}
 use Rattle.module_area.specs.Notes.{NotedView, is_own, is_at, is_closed, is_past, is_drained, is_final, no_tally}
-use Rattle.module_area.proofs.Laws.{and_left, and_right, and_both, any_at, no_session, number, controlled_at, or_cases, all_past}
+use Rattle.module_area.proofs.Laws.{any_at, no_session, number, controlled_at, all_past}
 use Rattle.shared_area.specs.Words.{position}
 use Rattle.shared_area.specs.Told.{seen_at, told_note, bears_as, notes_in}
 use Rattle.shared_area.proofs.Picked.{no_task}
@@ -53,7 +53,7 @@ own_role Spent t h = absurd cc
 
 at_pending : (o : Option (ℕ × ℕ)) (p t : ℕ) → is_at o p t ≡ false → o ≢ Some (p, t)
 at_pending None p t h e = cc
-at_pending (Some x) p t h e = let same : x ≡ (p, t) = cc in let hit = and_both _ _ (eq-eqb x.0 p (ap (λ (z : ℕ × ℕ). z.0) same)) (eq-eqb x.1 t (ap (λ (z : ℕ × ℕ). z.1) same)) in let never : true ≡ false = sym hit ∙ h in absurd cc
+at_pending (Some x) p t h e = let same : x ≡ (p, t) = cc in let hit = and_from _ _ (eq-eqb x.0 p (ap (λ (z : ℕ × ℕ). z.0) same)) (eq-eqb x.1 t (ap (λ (z : ℕ × ℕ). z.1) same)) in let never : true ≡ false = sym hit ∙ h in absurd cc
 
 module _ (plan : PlanView) (s : ℕ) (pos : 0 < s) where
   over_by : (seen : List (ℕ × ℕ)) (c : ControlledView) (p : ℕ) (b : Bool) → nat_eq c.session s ≡ b → c.session ≡ s → (not b || list_all (λ (q : PlaceNo). nat_le (2 * s) (seen_at q.0 seen)) c.places) ≡ true
@@ -75,16 +75,16 @@ module _ (plan : PlanView) (s : ℕ) (pos : 0 < s) where
   past_there : (v : View) (t : ℕ) → is_past plan (map told_note v.noted) s t ≡ true → IsPast plan v s t
   past_there v t h = let F : NotedView → Bool = λ e. nat_eq e.task t && (is_closed plan e.seen s && (nat_eq (e.number % 2) 1 || list_any (λ (d : NotedView). nat_eq d.task t && nat_lt e.number d.number) (map told_note v.noted))) in
       let a = any_at F (map told_note v.noted) (told_note no_note) h in let n = note_at v.noted a.0 a.1 in let x : Noted = get_or v.noted a.0 no_note in
-      let told : F (told_note x) ≡ true = ap F (sym n.1) ∙ a.2 in let rest = and_right (nat_eq x.0 t) _ told in (
+      let told : F (told_note x) ≡ true = ap F (sym n.1) ∙ a.2 in let rest = (and_parts (nat_eq x.0 t) _ told).1 in (
         x,
         n.0,
-        eqb-true x.0 t (and_left (nat_eq x.0 t) _ told),
-        closed_there x.2 (and_left (is_closed plan (λ p. seen_at p x.2) s) _ rest),
+        eqb-true x.0 t (and_parts (nat_eq x.0 t) _ told).0,
+        closed_there x.2 (and_parts (is_closed plan (λ p. seen_at p x.2) s) _ rest).0,
         ⊎_elim (λ odd. inl (eqb-true (x.1 % 2) 1 odd))
             (λ more. let G : NotedView → Bool = λ d. nat_eq d.task t && nat_lt x.1 d.number in let b = any_at G (map told_note v.noted) (told_note no_note) more in let m = note_at v.noted b.0 b.1 in let y : Noted = get_or v.noted b.0 no_note in
             let later : G (told_note y) ≡ true = ap G (sym m.1) ∙ b.2 in
-            inr (y.1, y.2, subst (λ k. Has (k, y.1, y.2) v.noted) (eqb-true y.0 t (and_left (nat_eq y.0 t) _ later)) m.0, ltb-true x.1 y.1 (and_right (nat_eq y.0 t) _ later)))
-            (or_cases (nat_eq (x.1 % 2) 1) _ (and_right (is_closed plan (λ p. seen_at p x.2) s) _ rest)),
+            inr (y.1, y.2, subst (λ k. Has (k, y.1, y.2) v.noted) (eqb-true y.0 t (and_parts (nat_eq y.0 t) _ later).0) m.0, ltb-true x.1 y.1 (and_parts (nat_eq y.0 t) _ later).1))
+            (or_cases (nat_eq (x.1 % 2) 1) _ (and_parts (is_closed plan (λ p. seen_at p x.2) s) _ rest).1),
       )
 
   drained_there : (v : View) → is_drained plan (notes_in v no_tally) s ≡ true → (t : ℕ) → has_task plan.tasks t ≡ true → (v.role ≡ Task t → ⊥) → IsPast plan v s t
@@ -97,9 +97,9 @@ module _ (plan : PlanView) (s : ℕ) (pos : 0 < s) where
     -- a set that the notes call final: its session is over there, and nobody has an answer of it there
     pub final_there : (p : ℕ) → p < length plan.places → is_final plan (notes_in v no_tally) s p ≡ true
         → (p < length plan.places) × (0 < s) × (2 * s ≤ (cell p).tag) × ((j : ℕ) (u : View) → get_elem? views j ≡ some u → u.pending ≢ Some (p, window_tag s))
-    final_there p l final = let its = and_left (is_controlled plan s p) _ final in let rest = and_right (is_controlled plan s p) _ final in
-        let over = leb-true (2 * s) (seen_at p v.seen) (and_left (nat_le (2 * s) (seen_at p v.seen)) _ rest) in let rest' = and_right (nat_le (2 * s) (seen_at p v.seen)) _ rest in
-        let drained = and_left (is_drained plan (notes_in v no_tally) s) _ rest' in let mine = and_right (is_drained plan (notes_in v no_tally) s) _ rest' in
+    final_there p l final = let its = (and_parts (is_controlled plan s p) _ final).0 in let rest = (and_parts (is_controlled plan s p) _ final).1 in
+        let over = leb-true (2 * s) (seen_at p v.seen) (and_parts (nat_le (2 * s) (seen_at p v.seen)) _ rest).0 in let rest' = (and_parts (nat_le (2 * s) (seen_at p v.seen)) _ rest).1 in
+        let drained = (and_parts (is_drained plan (notes_in v no_tally) s) _ rest').0 in let mine = (and_parts (is_drained plan (notes_in v no_tally) s) _ rest').1 in
         let high = seen_most p (cell p).tag v.seen (λ t has. ((h.kept id v at).seen p t has).1) in (
           l,
           pos,

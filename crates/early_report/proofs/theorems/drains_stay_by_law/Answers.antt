@@ -1,5 +1,5 @@
-use Rattle.module_area.specs.Meaning.{places_under}
 use Rattle.std.proofs.lemmas.Bool.{or_left, or_right}
+use Rattle.module_area.specs.Meaning.{places_under}
 use Rattle.module_area.specs.Notes.{after_join, after_split}
 use Rattle.early_report.proofs.ActLemmas.{closed_stays, tied_stays, known_stays}
 use Rattle.early_report.proofs.FollowLemmas.{known_later}
