@@ -1,5 +1,5 @@
 -- What a step makes of a pass, as a contract sees it.
-use Rattle.std.proofs.Common.{◌≡◌, ◌≢◌, ℕ, zero, ◌+◌, Bool, true, false, ◌&&◌, nat_eq, if◌then◌else◌, ◌∷◌, ◌++◌, length, sym, refl, ap, ◌∙◌, arith, eq-eqb, ne_eqb, length-append}
+use Rattle.std.proofs.Common.{◌≡◌, ◌≢◌, ℕ, zero, ◌+◌, Bool, true, false, ◌&&◌, nat_eq, if◌then◌else◌, ◌∷◌, ◌++◌, length, sym, refl, ap, ◌∙◌, arith, eq-eqb, ne_eqb, length-append, add_comm}
 use mathlib.Core.Path.{fun_ext}
 use native.Mathlib.Decide.{ℕ_discrete}
 use Rattle.cov_base.specs.declared.facts.Fact.{Fact}
@@ -58,9 +58,6 @@ is_its_own Conditional Stayed Stayed h i = absurd (let z : true ≡ false = i in
 abbrev one : ℕ
 one = 1
 
-one_if : (b : Bool) (t : ℕ) → (if b then 1 else 0) + t ≡ t + (if b then 1 else 0)
-one_if b t = omega arith
-
 module _ (plan : PlanView) (p : ℕ) (f : Fact) (kind : is_of_kind (kind_at plan p) f ≡ true) (v : CountView) where
   abbrev n : ℕ
   n = length plan.places
@@ -69,9 +66,9 @@ module _ (plan : PlanView) (p : ℕ) (f : Fact) (kind : is_of_kind (kind_at plan
       → (if b then (if nat_eq (count_word n q g) (count_word n p f) then 1 else 0) + times (count_word n q g) v.added else 0) ≡ (if b then times (count_word n q g) v.added else 0) + (if is_same p f q g then 1 else 0)
   counted_here q g true e (yes same) = let its : is_of_kind (kind_at plan p) g ≡ true = ap (λ z. is_of_kind (kind_at plan z) g) (sym same) ∙ e in
       let word : nat_eq (count_word n q g) (count_word n p f) ≡ same_fact g f = ap (λ z. nat_eq (count_word n z g) (count_word n p f)) same ∙ index_same n p (kind_at plan p) f g kind its in
-      ap (λ b. (if b then 1 else 0) + times (count_word n q g) v.added) word ∙ (one_if (same_fact g f) (times (count_word n q g) v.added) ∙ ap (λ b. times (count_word n q g) v.added + (if b && same_fact g f then 1 else 0)) (sym (eq-eqb q p same)))
+      ap (λ b. (if b then 1 else 0) + times (count_word n q g) v.added) word ∙ (add_comm (if same_fact g f then 1 else 0) (times (count_word n q g) v.added) ∙ ap (λ b. times (count_word n q g) v.added + (if b && same_fact g f then 1 else 0)) (sym (eq-eqb q p same)))
   counted_here q g true e (no other) = ap (λ b. (if b then 1 else 0) + times (count_word n q g) v.added) (ne_eqb (count_word n q g) (count_word n p f) (index_apart n p q f g other))
-      ∙ (one_if false (times (count_word n q g) v.added) ∙ ap (λ b. times (count_word n q g) v.added + (if b && same_fact g f then 1 else 0)) (sym (ne_eqb q p other)))
+      ∙ (add_comm (if false then 1 else 0) (times (count_word n q g) v.added) ∙ ap (λ b. times (count_word n q g) v.added + (if b && same_fact g f then 1 else 0)) (sym (ne_eqb q p other)))
   counted_here q g false e (yes same) = let its : is_of_kind (kind_at plan p) g ≡ false = ap (λ z. is_of_kind (kind_at plan z) g) (sym same) ∙ e in
       let apart = is_its_own (kind_at plan p) f g kind its in let none : ◌≡◌ {A = ℕ} (if is_same p f q g then 1 else 0) 0 = ap (λ b. if nat_eq q p && b then one else zero) apart ∙ never (nat_eq q p) in omega arith
     where
