@@ -1,9 +1,9 @@
 -- What the loops over claims keep.
-use Rattle.std.proofs.Common.{◌≡◌, ◌≢◌, ℕ, ◌+◌, ◌-◌, ◌<◌, ◌≤◌, Bool, true, false, Option, Some, None, List, [], ◌∷◌, ◌++◌, length, take, drop, get_or, min, ◌⊎◌, inl, inr, refl, sym, ◌∙◌, ap, subst, arith, length-take, length-drop}
+use Rattle.std.proofs.Common.{◌≡◌, ℕ, ◌+◌, ◌-◌, ◌<◌, ◌≤◌, Bool, true, false, Option, Some, None, List, [], ◌∷◌, ◌++◌, length, take, drop, get_or, min, ◌⊎◌, inl, inr, refl, sym, ◌∙◌, ap, subst, arith, length-take, length-drop}
 use Rattle.std.specs.Str.{bytes_eq}
 use Rattle.std.proofs.Math.ListN.{drop_of_length-le}
-use Rattle.std.proofs.lemmas.Bool.{cases_lt}
-use Rattle.std.proofs.lemmas.List.{drop-drop, at_drop_more}
+use Rattle.std.proofs.lemmas.Bool.{cases_lt, false_from_ne_true}
+use Rattle.std.proofs.lemmas.List.{at_drop_more}
 use Rattle.std.proofs.lemmas.Slice.Eq.{bytes_eq-Decides}
 use Rattle.cov_base.specs.declared.facts.Fact.{Fact}
 use Rattle.cov_base.specs.declared.facts.Fact.TheVariants.{Ran, Went, Stayed}
@@ -15,14 +15,11 @@ use Rattle.evidence_check.specs.Meaning.{past, past_place, past_places, place_cl
 use Rattle.evidence_check.specs.declared.firsts.First.{First}
 use Rattle.evidence_check.proofs.ClaimLemmas.{refuted_none, refuted_some}
 
-other_test : (x y : List ℕ) → x ≢ y → bytes_eq x y ≡ false
-other_test x y h = grind (arith, bytes_eq-Decides)
-
 -- fewer bytes than an entry's are none
 pub short_entry : (bs : List ℕ) (at : ℕ) (v : First) → length bs - at < 7 → false ≡ bytes_eq (take 7 (drop at bs)) (entry_bytes v)
 short_entry bs at v short =
     let size : length (take 7 (drop at bs)) ≤ length (drop at bs) = simp length-take (omega arith) in
-    sym (other_test (take 7 (drop at bs)) (entry_bytes v) (λ e. let same : length (take 7 (drop at bs)) ≡ 7 = ap length e in omega (arith, size, same, length-drop at bs)))
+    sym (false_from_ne_true _ (λ e. let same : length (take 7 (drop at bs)) ≡ 7 = ap length ((bytes_eq-Decides (take 7 (drop at bs)) (entry_bytes v)).0 e) in omega (arith, size, same, length-drop at bs)))
 
 pub past_of : (has : Bool) (xs bs : List ℕ) → has ≡ true → xs ≡ drop 7 bs → xs ≡ past has bs
 past_of true xs bs e is = is
@@ -32,9 +29,6 @@ pub short_past : (bs : List ℕ) (at : ℕ) → length bs - at < 7 → drop (len
 short_past bs at short =
     let all : length (drop at bs) ≤ 7 = omega (arith, length-drop at bs) in
     drop_of_length-le bs (omega arith) ∙ sym (drop_of_length-le (drop at bs) all)
-
-pub whole_past : (bs : List ℕ) (at : ℕ) → drop (at + 7) bs ≡ drop 7 (drop at bs)
-whole_past bs at = sym (drop-drop 7 at bs)
 
 -- i places were checked, and the entries of the others begin at `at`
 pub record PlacesSoFar (bs : List ℕ) (firsts : ℕ → Fact → Option First) (from row first : ℕ) (ps : List MarkedPlace) (at i : ℕ) : Type 0 where

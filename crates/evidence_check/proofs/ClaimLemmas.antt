@@ -1,7 +1,6 @@
 -- The claims of places one after another, and what they come to.
 use Rattle.std.proofs.Common.{◌≡◌, ℕ, ◌+◌, ◌≤◌, zero, suc, Bool, true, false, if◌then◌else◌, is_some, Option, Some, None, List, [], ◌∷◌, ◌++◌, length, take, drop, map, refl, sym, ◌∙◌, ap, subst, arith, append_assoc}
 use Rattle.std.specs.List.{flat_map}
-use Rattle.std.specs.Str.{bytes_eq}
 use Rattle.std.proofs.lemmas.List.{take-append-drop}
 use Rattle.std.proofs.lemmas.Slice.Eq.{bytes_eq-Decides}
 use Rattle.cov_base.specs.Meaning.{FactSet, has_fact}
@@ -47,23 +46,20 @@ refuted_left (c ∷ cs) ys h = keeps c.good (c.row, c.fact) (first_refuted (cs +
 refuted_right : (xs ys : List Claim) → first_refuted (xs ++ ys) ≡ None → first_refuted ys ≡ None
 refuted_right xs ys h = sym (refuted_none xs ys (refuted_left xs ys h)) ∙ h
 
-went_on : (c : Bool) (x : Option (ℕ × Fact)) (d : ℕ × Fact) → (if c then x else Some d) ≡ None → (c ≡ true) × (x ≡ None)
+pub went_on : {A : Type 0} (c : Bool) (x : Option A) (d : A) → (if c then x else Some d) ≡ None → (c ≡ true) × (x ≡ None)
 went_on true x d h = (refl, h)
 went_on false x d h = absurd cc
 
-same_test : (x y : List ℕ) → x ≡ y → bytes_eq x y ≡ true
-same_test x y h = grind (arith, bytes_eq-Decides)
-
 -- a claim that holds: the set has the fact exactly where a visit shows it, and the entries begin with that visit's
 agreed : (has : Bool) (first : Option First) (bs : List ℕ) → agrees has first bs ≡ true → (has ≡ is_some first) × (bs ≡ fact_bytes first ++ past has bs)
-agreed true (Some v) bs h = (refl, sym (take-append-drop 7 bs) ∙ ap (λ t. t ++ drop 7 bs) (same_bytes (take 7 bs) (entry_bytes v) h))
+agreed true (Some v) bs h = (refl, sym (take-append-drop 7 bs) ∙ ap (λ t. t ++ drop 7 bs) ((bytes_eq-Decides (take 7 bs) (entry_bytes v)).0 h))
 agreed true None bs h = absurd cc
 agreed false (Some v) bs h = absurd cc
 agreed false None bs h = (refl, refl)
 
 agrees_with : (first : Option First) (rest : List ℕ) → agrees (is_some first) first (fact_bytes first ++ rest) ≡ true
 agrees_with None rest = refl
-agrees_with (Some v) rest = same_test (take 7 (entry_bytes v ++ rest)) (entry_bytes v) refl
+agrees_with (Some v) rest = (bytes_eq-Decides (take 7 (entry_bytes v ++ rest)) (entry_bytes v)).1 refl
 
 past_with : (first : Option First) (rest : List ℕ) → past (is_some first) (fact_bytes first ++ rest) ≡ rest
 past_with None rest = refl

@@ -15,7 +15,7 @@ few_places m h = marks_places m.modules (kept_modules m h)
 pub few_modules : (m : MarksView) → keeps_rules m ≡ true → length m.modules ≤ 16
 few_modules m h = marks_count m.modules (kept_modules m h)
 
-bit-most : (b : Bool) → (if b then 1 else 0) ≤ 1
+pub bit-most : (b : Bool) → (if b then 1 else 0) ≤ 1
 bit-most true = omega arith
 bit-most false = omega arith
 

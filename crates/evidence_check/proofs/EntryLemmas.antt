@@ -11,11 +11,8 @@ use Rattle.evidence_check.specs.Found.{found_at, AreFirsts}
 use Rattle.evidence_check.specs.declared.firsts.First.{First}
 use Rattle.evidence_check.specs.declared.firsts.Found.{Found}
 
-left : (past n : ℕ) → n < past → past - n ≡ suc (past - (n + 1))
-left past n lt = omega arith
-
 pub places_next : (firsts : ℕ → Fact → Option First) (n past : ℕ) → n < past → places_entries firsts n (past - n) ≡ place_entries (firsts n) ++ places_entries firsts (n + 1) (past - (n + 1))
-places_next firsts n past lt = rw (left past n lt) refl
+places_next firsts n past lt = let left : past - n ≡ suc (past - (n + 1)) = omega arith in rw left refl
 
 same_place : (f g : Fact → Option First) → ((a : Fact) → f a ≡ g a) → place_entries f ≡ place_entries g
 same_place f g same = rw (same Ran, same Went, same Stayed) refl

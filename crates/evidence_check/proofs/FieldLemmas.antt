@@ -1,15 +1,15 @@
 -- The fields of evidence, entry by entry.
-use Rattle.std.proofs.Common.{◌≡◌, ℕ, ◌+◌, ◌-◌, ◌<◌, ◌≤◌, zero, suc, Bool, true, false, ◌&&◌, nat_eq, nat_le, nat_lt, if◌then◌else◌, slice_index, Some, None, List, ◌∷◌, ◌++◌, length, drop, refl, sym, ◌∙◌, ap, arith, length-drop}
-use Rattle.std.proofs.lemmas.Bool.Decides.{nat_tests}
+use Rattle.std.proofs.Common.{◌≡◌, ℕ, ◌+◌, ◌-◌, ◌<◌, ◌≤◌, zero, suc, Bool, true, false, ◌&&◌, nat_eq, nat_le, nat_lt, if◌then◌else◌, slice_index, Some, None, List, ◌∷◌, ◌++◌, length, drop, refl, sym, ◌∙◌, ap, arith, length-drop, leb-true, eqb-true, eq-eqb}
 use Rattle.std.proofs.lemmas.List.{drop-drop}
-use Rattle.std.proofs.lemmas.Bool.{lt-ltb, le-leb, ltb-true}
+use Rattle.std.proofs.lemmas.Bool.{lt-ltb, le-leb, ltb-true, and_parts}
 use Rattle.byteorder.specs.Endian.{big_bytes, big_number}
 use Rattle.byteorder.specs.Numbers.{big_number-reads_back}
 use Rattle.cov_base.specs.declared.limits.TheConstants.{BUDGET_LIMIT}
 use Rattle.marks_file.specs.Meaning.{first_bad}
-use Rattle.marks_file.proofs.Laws.{first_none, first_some, none_left, none_right, all_good}
+use Rattle.marks_file.proofs.Laws.{first_none, first_some, none_left, none_right, all_good, whole}
 use Rattle.evidence_check.specs.Meaning.{entry_bytes, entry_fields, entries_fields}
 use Rattle.evidence_check.specs.declared.firsts.First.{First}
+use Rattle.evidence_check.proofs.CountLemmas.{bit-most}
 
 -- the bytes begin with an entry whose fields keep their rules
 pub record IsEntry (tasks : ℕ) (bs : List ℕ) : Type 0 where
@@ -24,17 +24,14 @@ entry_read tasks at bs h =
     let t2 = nat_le 6 (length bs) && nat_lt (big_number 4 (drop 2 bs)) BUDGET_LIMIT in
     let t3 = nat_le 7 (length bs) && nat_le (slice_index bs 6) 1 in
     let h1 : (t1 && (t2 && (t3 && true))) ≡ true = all_good (entry_fields tasks at bs) h in
-    let h2 = both-right t1 (t2 && (t3 && true)) h1 in
-    let h3 = both-left t3 true (both-right t2 (t3 && true) h2) in
+    let h2 = (and_parts t1 (t2 && (t3 && true)) h1).1 in
+    let h3 = (and_parts t3 true (and_parts t2 (t3 && true) h2).1).0 in
     record {
-      room = le_of_test 7 (length bs) (both-left (nat_le 7 (length bs)) _ h3);
-      task = ltb-true (big_number 2 bs) tasks (both-right (nat_le 2 (length bs)) _ (both-left t1 (t2 && (t3 && true)) h1));
-      number = ltb-true (big_number 4 (drop 2 bs)) BUDGET_LIMIT (both-right (nat_le 6 (length bs)) _ (both-left t2 (t3 && true) h2));
-      last = le_of_test (slice_index bs 6) 1 (both-right (nat_le 7 (length bs)) _ h3);
+      room = leb-true 7 (length bs) (and_parts (nat_le 7 (length bs)) _ h3).0;
+      task = ltb-true (big_number 2 bs) tasks (and_parts (nat_le 2 (length bs)) _ (and_parts t1 (t2 && (t3 && true)) h1).0).1;
+      number = ltb-true (big_number 4 (drop 2 bs)) BUDGET_LIMIT (and_parts (nat_le 6 (length bs)) _ (and_parts t2 (t3 && true) h2).0).1;
+      last = leb-true (slice_index bs 6) 1 (and_parts (nat_le 7 (length bs)) _ h3).1;
     }
-
-pub whole : (k n : ℕ) (b : Bool) → k ≤ n → b ≡ true → (nat_le k n && b) ≡ true
-whole k n b h e = rw (le-leb k n h, e) refl
 
 entry_none : (tasks at : ℕ) (bs : List ℕ) → IsEntry tasks bs → first_bad (entry_fields tasks at bs) ≡ None
 entry_none tasks at bs r =
@@ -46,39 +43,29 @@ abbrev pub AreEntries : ℕ → ℕ → List ℕ → Type 0
 AreEntries tasks zero bs = length bs ≡ 0
 AreEntries tasks (suc n) bs = IsEntry tasks bs × AreEntries tasks n (drop 7 bs)
 
-is_zero : (n : ℕ) → nat_eq n 0 ≡ true → n ≡ 0
-is_zero n h = grind (arith, nat_tests)
-
-test_of_zero : (n : ℕ) → n ≡ 0 → nat_eq n 0 ≡ true
-test_of_zero n h = grind (arith, nat_tests)
-
 passed : (b : Bool) (at : ℕ) → (if b then None else Some at) ≡ None → b ≡ true
 passed true at h = refl
 passed false at h = absurd cc
 
 pub entries_read : (tasks at n : ℕ) (bs : List ℕ) → first_bad (entries_fields tasks at n bs) ≡ None → AreEntries tasks n bs
-entries_read tasks at zero bs h = is_zero (length bs) (passed (nat_eq (length bs) 0) at h)
+entries_read tasks at zero bs h = eqb-true (length bs) 0 (passed (nat_eq (length bs) 0) at h)
 entries_read tasks at (suc n) bs h = (
   entry_read tasks at bs (none_left (entry_fields tasks at bs) (entries_fields tasks (at + 7) n (drop 7 bs)) h),
   entries_read tasks (at + 7) n (drop 7 bs) (none_right (entry_fields tasks at bs) (entries_fields tasks (at + 7) n (drop 7 bs)) h),
 )
 
 pub entries_none : (tasks at n : ℕ) (bs : List ℕ) → AreEntries tasks n bs → first_bad (entries_fields tasks at n bs) ≡ None
-entries_none tasks at zero bs h = rw (test_of_zero (length bs) h) refl
+entries_none tasks at zero bs h = rw (eq-eqb (length bs) 0 h) refl
 entries_none tasks at (suc n) bs h =
     first_none (entry_fields tasks at bs) (entries_fields tasks (at + 7) n (drop 7 bs)) (entry_none tasks at bs h.0) ∙ entries_none tasks (at + 7) n (drop 7 bs) h.1
 
 -- an entry that was written has good fields
-last_most : (b : Bool) → (if b then 1 else 0) ≤ 1
-last_most true = omega arith
-last_most false = omega arith
-
 pub entry_written : (tasks : ℕ) (v : First) (rest : List ℕ) → tasks ≤ 65536 → v.task < tasks → v.before < BUDGET_LIMIT → IsEntry tasks (entry_bytes v ++ rest)
 entry_written tasks v rest few task before =
     let last : List ℕ = (if v.subject then 1 else 0) ∷ rest in
     let t : big_number 2 (entry_bytes v ++ rest) ≡ v.task = big_number-reads_back 2 v.task (big_bytes 4 v.before ++ last) (omega arith) in
     let n : big_number 4 (drop 2 (entry_bytes v ++ rest)) ≡ v.before = big_number-reads_back 4 v.before last (omega arith) in
-    record { room = omega arith; task = omega (arith, t); number = omega (arith, n); last = last_most v.subject }
+    record { room = omega arith; task = omega (arith, t); number = omega (arith, n); last = bit-most v.subject }
 
 -- i entries were read, and the others begin at `at`
 pub record EntriesSoFar (input : List ℕ) (tasks from count at i : ℕ) : Type 0 where

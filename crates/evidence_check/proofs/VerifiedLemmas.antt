@@ -1,43 +1,38 @@
 -- Marks and evidence pass exactly where they are the session's.
-use Rattle.std.proofs.Common.{◌≡◌, ℕ, ◌+◌, Bool, true, false, if◌then◌else◌, Option, Some, None, List, [], ◌++◌, length, take, drop, refl, sym, ◌∙◌, ap, subst, arith, append-nil}
+use Rattle.std.proofs.Common.{◌≡◌, ℕ, ◌+◌, Bool, true, if◌then◌else◌, Option, Some, None, List, [], ◌++◌, length, take, drop, refl, sym, ◌∙◌, ap, subst, arith, append-nil}
+use Rattle.std.proofs.lemmas.Bool.{and_parts}
 use Rattle.std.specs.List.{flat_map}
 use Rattle.std.specs.Str.{bytes_eq}
 use Rattle.std.proofs.lemmas.List.{take-append-drop, nil_from_length}
 use Rattle.std.proofs.lemmas.Slice.Eq.{bytes_eq-Decides}
 use Rattle.brk_table.specs.Meaning.{TablesView}
 use Rattle.marks_file.specs.Meaning.{MarkedView, field, first_bad}
+use Rattle.marks_file.proofs.Laws.{whole}
 use Rattle.session_book.specs.Meaning.{JobView, session_of}
 use Rattle.session_book.specs.JobView.{IsJob}
 use Rattle.session_marks.specs.FromFile.{IsOwn}
 use Rattle.session_marks.specs.Meaning.{session_marks}
 use Rattle.evidence_check.specs.Meaning.{facts_of_modules, modules_claims, first_refuted, evidence_magic, module_entries, entries_fields, evidence_fields, session_first, session_facts, IsVerified}
 use Rattle.evidence_check.specs.Verified.{Passes}
-use Rattle.evidence_check.proofs.ClaimLemmas.{AreOf, past_modules, modules_agreed, modules_skipped, modules_back}
+use Rattle.evidence_check.proofs.ClaimLemmas.{AreOf, went_on, past_modules, modules_agreed, modules_skipped, modules_back}
 use Rattle.evidence_check.proofs.FactLemmas.{first_is_shown}
-use Rattle.evidence_check.proofs.FieldLemmas.{AreEntries, entries_read, entries_none, whole}
+use Rattle.evidence_check.proofs.FieldLemmas.{AreEntries, entries_read, entries_none}
 use Rattle.evidence_check.proofs.VisitLemmas.{session_is_first}
-
-went_on : (g : Bool) (at : ℕ) (x : Option ℕ) → (if g then x else Some at) ≡ None → (g ≡ true) × (x ≡ None)
-went_on true at x h = (refl, h)
-went_on false at x h = absurd cc
 
 chosen : (g : Bool) (at : ℕ) (x : Option ℕ) → g ≡ true → (if g then x else Some at) ≡ x
 chosen g at x e = rw e refl
 
-same_test : (x y : List ℕ) → x ≡ y → bytes_eq x y ≡ true
-same_test x y h = grind (arith, bytes_eq-Decides)
-
 -- what has good fields begins with the magic, behind which the entries stand
 fields_read : (tasks count : ℕ) (bs : List ℕ) → first_bad (evidence_fields tasks count bs) ≡ None → (bs ≡ evidence_magic ++ drop 8 bs) × AreEntries tasks count (drop 8 bs)
 fields_read tasks count bs h =
-    let both = went_on (field 0 bs 0 8 (bytes_eq (take 8 bs) evidence_magic)).good 0 (first_bad (entries_fields tasks 8 count (drop 8 bs))) h in
-    let front : take 8 bs ≡ evidence_magic = same_bytes (take 8 bs) evidence_magic (both-right _ (bytes_eq (take 8 bs) evidence_magic) both.0) in
+    let both = went_on (field 0 bs 0 8 (bytes_eq (take 8 bs) evidence_magic)).good (first_bad (entries_fields tasks 8 count (drop 8 bs))) 0 h in
+    let front : take 8 bs ≡ evidence_magic = (bytes_eq-Decides (take 8 bs) evidence_magic).0 (and_parts _ (bytes_eq (take 8 bs) evidence_magic) both.0).1 in
     (sym (take-append-drop 8 bs) ∙ ap (λ t. t ++ drop 8 bs) front, entries_read tasks 8 count (drop 8 bs) both.1)
 
 fields_none : (tasks count : ℕ) (rest : List ℕ) → AreEntries tasks count rest → first_bad (evidence_fields tasks count (evidence_magic ++ rest)) ≡ None
 fields_none tasks count rest h =
     let bs : List ℕ = evidence_magic ++ rest in
-    chosen (field 0 bs 0 8 (bytes_eq (take 8 bs) evidence_magic)).good 0 (first_bad (entries_fields tasks 8 count rest)) (whole 8 (length bs) (bytes_eq (take 8 bs) evidence_magic) (omega arith) (same_test (take 8 bs) evidence_magic refl))
+    chosen (field 0 bs 0 8 (bytes_eq (take 8 bs) evidence_magic)).good 0 (first_bad (entries_fields tasks 8 count rest)) (whole 8 (length bs) (bytes_eq (take 8 bs) evidence_magic) (omega arith) ((bytes_eq-Decides (take 8 bs) evidence_magic).1 refl))
     ∙ entries_none tasks 8 count rest h
 
 are_of : (j : JobView) (tables : TablesView) (s : ℕ) → AreOf (session_first j tables.places s) (session_facts j tables.places s)
