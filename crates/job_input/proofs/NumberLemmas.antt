@@ -1,5 +1,5 @@
 -- The number that a word is the decimal of.
-use Rattle.std.proofs.Common.{◌≡◌, ℕ, ◌<◌, ◌^◌, Bool, true, false, ◌&&◌, nat_lt, nat_eq, if◌then◌else◌, Some, None, Result, Ok, Err, List, [], ◌∷◌, decimal, refl, sym, ◌∙◌, ap, subst, arith, rules}
+use Rattle.std.proofs.Common.{◌≡◌, ℕ, ◌<◌, ◌^◌, Bool, true, false, ◌&&◌, nat_lt, if◌then◌else◌, Some, None, Result, Ok, Err, List, decimal, refl, sym, ◌∙◌, ap, arith, rules}
 use Rattle.std.specs.Str.{bytes_eq, all_ascii_digits}
 use Rattle.std.specs.Str.Parse.{digits_value, ParsesUnsigned}
 use Rattle.std.proofs.lemmas.Bool.Decides.{nat_tests}
@@ -11,18 +11,12 @@ use Rattle.job_input.specs.Meaning.{number_word}
 own : IsNumeralModel (λ ds. all_ascii_digits ds ≡ true) (digits_value 10)
 own = numerals_by_value (λ ds. all_ascii_digits ds ≡ true) (search rules)
 
-bytes_same : (bytes : List ℕ) → bytes_eq bytes bytes ≡ true
-bytes_same [] = refl
-bytes_same (b ∷ bytes) =
-    let one : nat_eq b b ≡ true = grind (arith, nat_tests) in
-    rw (one, bytes_same bytes) refl
-
 -- a word that is the decimal of a number
 pub number_found : (w : List ℕ) (n : ℕ) → n < 2 ^ 32 → w ≡ decimal n → number_word w ≡ Some n
 number_found w n h e =
     let value : digits_value 10 w ≡ n = ap (digits_value 10) e ∙ digits_value-decimal own n (omega arith) in
     let below : nat_lt n 4294967296 ≡ true = grind (arith, nat_tests) in
-    let same : bytes_eq w (decimal n) ≡ true = subst (λ ds. bytes_eq w ds ≡ true) e (bytes_same w) in
+    let same : bytes_eq w (decimal n) ≡ true = (bytes_eq-Decides w (decimal n)).1 e in
     rw (value, below, same) refl
 
 -- a word that is that of none
