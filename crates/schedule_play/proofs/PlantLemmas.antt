@@ -1,8 +1,7 @@
 -- The places that are planted before the first item.
-use Rattle.std.proofs.Common.{◌≡◌, ◌≢◌, eqb-true, ℕ, suc, ◌+◌, ◌-◌, ◌<◌, ◌≤◌, Bool, true, false, ◌&&◌, nat_eq, nat_lt, if◌then◌else◌, Some, None, option_map, List, [], ◌∷◌, length, All, refl, sym, ap, ◌∙◌, arith}
+use Rattle.std.proofs.Common.{◌≡◌, ◌≢◌, eqb-true, ℕ, suc, ◌+◌, ◌-◌, ◌<◌, ◌≤◌, Bool, true, false, ◌&&◌, nat_eq, nat_lt, if◌then◌else◌, Some, None, option_map, List, [], ◌∷◌, length, All, refl, sym, ap, ◌∙◌, arith, eq-eqb}
 use Rattle.std.specs.List.{find, flat_map, range_with_len}
 use Rattle.std.proofs.lemmas.Bool.{lt-ltb}
-use Rattle.std.proofs.lemmas.Bool.Decides.{nat_tests}
 use Rattle.std.proofs.lemmas.List.Elements.{All-head, All-tail}
 use Rattle.module_area.specs.Meaning.{word_at, ControlledView, window_at}
 use Rattle.interleave_core.specs.Meaning.{World, Parts, plan_in, controller_of, Stepped, parts_step, run_on, by_controller, whole_step, with_cell, breakpoint_of}
@@ -28,9 +27,6 @@ whole_window w s p is lt e = controller_none (plan_in w).controlled s (λ k d l 
 all_four : (a b c d : Bool) → a ≡ true → b ≡ true → c ≡ true → d ≡ true → (a && (b && (c && d))) ≡ true
 all_four a b c d p q r s = rw (p, q, r, s) refl
 
-same_number : (a b : ℕ) → a ≡ b → nat_eq a b ≡ true
-same_number a b h = grind (arith, nat_tests)
-
 abbrev plant_of : ℕ → ℕ → Event
 plant_of s p = event.Plant (record { 0 = s }) (record { 0 = p })
 
@@ -42,7 +38,7 @@ pub plant_possible : (w : World) (c : Parts) (s p : ℕ) → IsWorld w → p < l
 plant_possible w c s p is lt e some fresh =
     ap (by_controller w c false s p (whole_step w c s p)) (whole_window w s p is lt e)
     ∙ ap (λ (b : Bool). if b then Some (planted c s p) else None)
-    (all_four (nat_lt p (length w.places)) (nat_lt 0 s) (nat_eq (window_at (plan_in w) p) s) (nat_eq (word_at c.cells p).tag 0) (lt-ltb p (length w.places) lt) (lt-ltb 0 s some) (same_number (window_at (plan_in w) p) s (sym e)) (same_number (word_at c.cells p).tag 0 fresh))
+    (all_four (nat_lt p (length w.places)) (nat_lt 0 s) (nat_eq (window_at (plan_in w) p) s) (nat_eq (word_at c.cells p).tag 0) (lt-ltb p (length w.places) lt) (lt-ltb 0 s some) (eq-eqb (window_at (plan_in w) p) s (sym e)) (eq-eqb (word_at c.cells p).tag 0 fresh))
 
 pub never_refused : (w : World) (c : Parts) (s p : ℕ) → IsWorld w → p < length w.places → s ≡ window_at (plan_in w) p → 0 < s → (word_at c.cells p).tag ≡ 0 → parts_step w c (plant_of s p) ≡ None → ⊥
 never_refused w c s p is lt e some fresh none = let n : None ≡ Some (planted c s p) = sym none ∙ plant_possible w c s p is lt e some fresh in absurd cc
