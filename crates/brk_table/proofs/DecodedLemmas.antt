@@ -8,17 +8,6 @@ use Rattle.brk_table.specs.declared.kept.Kept.{Kept}
 use Rattle.brk_table.specs.Meaning.{TablesView}
 use Rattle.brk_table.specs.Decoded.{AreDecoded, AreFirstDecoded, AreAtPlaces, AreFrom, IsThere}
 
--- one more of them
-pub decoded_more : (codes : List Code) (kept : List Kept) (n : ℕ) (x : Kept) → AreFirstDecoded codes kept n → ((c : Code) → x.decoded.code ≡ get_or codes n c) → AreFirstDecoded codes (kept ++ x ∷ []) (n + 1)
-decoded_more codes kept n x first is = record {
-  count = let a = length-append kept (x ∷ []) in let e = first.count in omega arith;
-  each = λ i c k l. elim (cases_lt i n) [
-    | inl b ↦ ap (λ (z : Kept). z.decoded.code) (get_or_append_left kept (x ∷ []) k i (let e = first.count in omega arith)) ∙ first.each i c k b
-    | inr h ↦ (let at : i ≡ n = omega arith in let none : i - n ≡ 0 = omega arith in
-        ap (λ (z : Kept). z.decoded.code) (get_or-append_right kept (x ∷ []) n i k first.count h ∙ ap (λ j. get_or (x ∷ []) j k) none) ∙ is c ∙ ap (λ j. get_or codes j c) (sym at))
-  ];
-}
-
 -- all of them, and two behind
 pub decoded_all : (codes : List Code) (kept : List Kept) (x y : Kept) → AreFirstDecoded codes kept (length codes) → x.key ≡ 16777216 → y.key ≡ 16777216 → AreDecoded codes ((kept ++ x ∷ []) ++ y ∷ [])
 decoded_all codes kept x y first ex ey =

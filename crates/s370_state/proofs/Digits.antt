@@ -1,7 +1,6 @@
 -- The digits of packed decimal fields, a byte at a time.
 use Rattle.std.proofs.Common.{if◌then◌else◌, ◌≡◌, ℕ, ◌+◌, ◌-◌, ◌*◌, ◌/◌, ◌%◌, ◌^◌, ◌<◌, ◌≤◌, zero, suc, Bool, true, false, ◌&&◌, Option, Some, None, List, [], ◌∷◌, ◌++◌, length, length-append, take, drop, slice_index, slice_set, refl, ap, sym, ◌∙◌, arith, lit<, append_assoc, add-one, inl, inr, eq-or-lt_of_le}
 use Rattle.std.proofs.Math.Nat.{pow-suc, pow-le-pow_right}
-use Rattle.std.proofs.lemmas.Nat.{pow-add, mul-pow}
 use Rattle.std.proofs.lemmas.Bool.Decides.{nat_tests}
 use Rattle.std.proofs.lemmas.List.{take_more_set, drop-set, drop-drop}
 use Rattle.std.proofs.Math.Seq.{take-add, take-suc}
@@ -78,9 +77,6 @@ pairs_fit n v l h = let b : 100 ^ n ≤ 100 ^ 14 = pow-le-pow_right {n = 100} (l
 
 pub pairs_most : (n v : ℕ) → n ≤ 15 → v < 100 ^ n → v < 1000000000000000000000000000000
 pairs_most n v l h = let b : 100 ^ n ≤ 100 ^ 15 = pow-le-pow_right {n = 100} (lit< tt) {i = n} {j = 15} l in omega (arith, b, h)
-
-hundreds : (n : ℕ) → 100 ^ n ≡ 10 ^ (n + n)
-hundreds n = mul-pow 10 10 n ∙ sym (pow-add 10 n n)
 
 pub field_good : (m : Memory) (bytes : List ℕ) (a l b v : ℕ) → b ≡ byte_at m bytes (wrap (a + l)) → list_all is_digit (halves_at m bytes a l) ≡ true → v ≡ decimal 0 (halves_at m bytes a l) → (is_digit (b / 16) && is_sign (b % 16)) ≡ true →
     Some (record { magnitude = v * 10 + b / 16; minus = is_minus (b % 16) }) ≡ field_at m bytes a l
