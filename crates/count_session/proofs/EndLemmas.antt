@@ -1,11 +1,11 @@
 -- The rule in the end, when all passes are joined to the root.
-use Rattle.std.proofs.Common.{◌≡◌, ℕ, zero, suc, [], ◌∷◌, ◌++◌, Bool, if◌then◌else◌, length-append, ◌<◌, ◌≤◌, true, List, length, get_or, sym, ap, ◌∙◌, subst, arith}
-use mathlib.Core.Option.{some, some-injective, some-ne-none}
+use Rattle.std.proofs.Common.{◌≡◌, ℕ, [], ◌∷◌, ◌++◌, Bool, if◌then◌else◌, length-append, ◌<◌, ◌≤◌, true, List, length, get_or, sym, ap, ◌∙◌, subst, arith}
+use mathlib.Core.Option.{some, some-injective}
 use lib.ListN.{get_elem?}
 use Rattle.atomic_table.specs.Table.{State, Final, Seen}
 use Rattle.module_area.specs.Rule.{total}
 use Rattle.module_area.specs.Meaning.{PlanView, kind_at}
-use Rattle.module_area.proofs.Laws.{total_only}
+use Rattle.module_area.proofs.Laws.{total_only, read_at}
 use Rattle.cov_base.specs.declared.facts.Fact.{Fact}
 use Rattle.cov_base.specs.declared.facts.Fact.TheVariants.{Ran, Went, Stayed}
 use Rattle.cov_base.specs.FactKind.{is_of_kind}
@@ -37,11 +37,6 @@ ended plan id v words slots is_root joined h = let s : State NoSlot CountView = 
     subst (λ (ws : List ℕ). (i : ℕ) → length plan.places ≤ i → i < length ws → get_or ws i 0 ≡ times i v.added) h.2 (root_sum plan s h.1.0 id v h.1.1 is_root joined)
 
 -- ---- the counts as they are read in the end
-read_at : (l : List ℕ) (i w : ℕ) → get_elem? l i ≡ some w → get_or l i 0 ≡ w
-read_at [] i w e = absurd (some-ne-none w (sym e))
-read_at (y ∷ ys) zero w e = some-injective y w e
-read_at (y ∷ ys) (suc i) w e = read_at ys i w e
-
 pub read_more : (plan : PlanView) (words : List ℕ) (counts : List PlaceCount) (p : ℕ) (c : PlaceCount) → AreRead plan words counts → length counts ≡ p → c.kind ≡ kind_at plan p
     → get_elem? words (count_word (length plan.places) p Ran) ≡ some c.first → get_elem? words (count_word (length plan.places) p Stayed) ≡ some c.stayed → AreRead plan words (counts ++ c ∷ [])
 read_more plan words counts p c old size kind first stayed q l = let long = length-append counts (c ∷ []) in dite (ℕ_discrete q (length counts))

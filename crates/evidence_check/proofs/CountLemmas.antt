@@ -1,5 +1,5 @@
 -- How many facts the sets of a marks file have.
-use Rattle.std.proofs.Common.{◌≡◌, ℕ, ◌+◌, ◌*◌, ◌<◌, ◌≤◌, zero, suc, Bool, true, false, if◌then◌else◌, List, [], ◌∷◌, length, get_or, drop, arith}
+use Rattle.std.proofs.Common.{◌≡◌, ℕ, ◌+◌, ◌*◌, ◌<◌, ◌≤◌, zero, suc, true, List, [], ◌∷◌, length, get_or, drop, arith}
 use Rattle.std.proofs.lemmas.List.{at_drop_more}
 use Rattle.cov_base.specs.Meaning.{FactSet}
 use Rattle.module_area.specs.Meaning.{fact_count}
@@ -7,6 +7,7 @@ use Rattle.marks_file.specs.Meaning.{MarkedView, MarksView, keeps_rules, place_t
 use Rattle.marks_file.specs.declared.marks.MarkedPlace.{MarkedPlace}
 use Rattle.marks_file.proofs.Laws.{kept_modules, marks_count, marks_places}
 use Rattle.evidence_check.specs.Meaning.{facts_of_places, facts_of_modules}
+use Rattle.task_run.proofs.Laws.{one_at_most}
 
 -- a marks file has at most 65,536 places, and 16 modules
 pub few_places : (m : MarksView) → keeps_rules m ≡ true → place_total m.modules ≤ 65536
@@ -15,12 +16,8 @@ few_places m h = marks_places m.modules (kept_modules m h)
 pub few_modules : (m : MarksView) → keeps_rules m ≡ true → length m.modules ≤ 16
 few_modules m h = marks_count m.modules (kept_modules m h)
 
-pub bit-most : (b : Bool) → (if b then 1 else 0) ≤ 1
-bit-most true = omega arith
-bit-most false = omega arith
-
 fact_count-most : (s : FactSet) → fact_count s ≤ 3
-fact_count-most s = omega (arith, bit-most s.ran, bit-most s.went, bit-most s.stayed)
+fact_count-most s = omega (arith, one_at_most s.ran, one_at_most s.went, one_at_most s.stayed)
 
 pub facts_of_places-most : (ps : List MarkedPlace) → facts_of_places ps ≤ 3 * length ps
 facts_of_places-most [] = omega arith

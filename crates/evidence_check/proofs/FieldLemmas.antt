@@ -9,7 +9,7 @@ use Rattle.marks_file.specs.Meaning.{first_bad}
 use Rattle.marks_file.proofs.Laws.{first_none, first_some, none_left, none_right, all_good, whole}
 use Rattle.evidence_check.specs.Meaning.{entry_bytes, entry_fields, entries_fields}
 use Rattle.evidence_check.specs.declared.firsts.First.{First}
-use Rattle.evidence_check.proofs.CountLemmas.{bit-most}
+use Rattle.task_run.proofs.Laws.{one_at_most}
 
 -- the bytes begin with an entry whose fields keep their rules
 pub record IsEntry (tasks : ℕ) (bs : List ℕ) : Type 0 where
@@ -65,7 +65,7 @@ entry_written tasks v rest few task before =
     let last : List ℕ = (if v.subject then 1 else 0) ∷ rest in
     let t : big_number 2 (entry_bytes v ++ rest) ≡ v.task = big_number-reads_back 2 v.task (big_bytes 4 v.before ++ last) (omega arith) in
     let n : big_number 4 (drop 2 (entry_bytes v ++ rest)) ≡ v.before = big_number-reads_back 4 v.before last (omega arith) in
-    record { room = omega arith; task = omega (arith, t); number = omega (arith, n); last = bit-most v.subject }
+    record { room = omega arith; task = omega (arith, t); number = omega (arith, n); last = one_at_most v.subject }
 
 -- i entries were read, and the others begin at `at`
 pub record EntriesSoFar (input : List ℕ) (tasks from count at i : ℕ) : Type 0 where

@@ -16,7 +16,7 @@ use Rattle.marks_file.specs.declared.fault.MarksFault.TheVariants.{BadMarks, NoM
 use Rattle.marks_file.specs.declared.version.Version.{Version}
 use Rattle.marks_file.specs.declared.version.Version.TheVariants.{First, Second}
 use Rattle.marks_file.proofs.Parts.{is_module, is_session_name, module_size}
-use Rattle.marks_file.proofs.MarksLemmas.{marks_count}
+use Rattle.marks_file.proofs.MarksLemmas.{marks_count, same_cons}
 use Rattle.marks_file.proofs.FieldLemmas.{header_none, first_none}
 use Rattle.marks_file.proofs.SpellLemmas.{AreBytes, bytes_later, ArePlacesRead, places_read}
 use Rattle.marks_file.proofs.ModuleLemmas.{IsHeaderRead, header_read_back, length-filled, table_spelled}
@@ -91,9 +91,6 @@ module_read at earlier m rest h =
     } in
     subst (λ t. IsModuleRead at earlier m rest t) (sym (append_assoc (module_row m) flat rest)) whole
 
-joined_modules : (a b : MarkedView) (xs ys : List MarkedView) → a ≡ b → xs ≡ ys → a ∷ xs ≡ b ∷ ys
-joined_modules a b xs ys e f = rw (e, f) refl
-
 pub record AreModulesRead (at : ℕ) (earlier ms : List MarkedView) (bs : List ℕ) : Type 0 where
   pub value : modules_at (length ms) bs ≡ ms
   pub good : first_bad (modules_fields at earlier (length ms) bs) ≡ None
@@ -109,7 +106,7 @@ modules_read at earlier (m ∷ ms) rest h =
     let more = modules_read (at + size) (earlier ++ m ∷ []) ms rest (and_parts (is_module earlier m) _ h).1 in
     let joined : (module_bytes m ++ flat_map module_bytes ms) ++ rest ≡ bs = append_assoc (module_bytes m) (flat_map module_bytes ms) rest in
     record {
-      value = ap (λ t. modules_at (suc n) t) joined ∙ joined_modules (module_at bs) m (modules_at n (drop size bs)) ms one.value (ap (λ t. modules_at n t) one.rest_is ∙ more.value);
+      value = ap (λ t. modules_at (suc n) t) joined ∙ same_cons (module_at bs) m (modules_at n (drop size bs)) ms one.value (ap (λ t. modules_at n t) one.rest_is ∙ more.value);
       good = ap (λ t. first_bad (modules_fields at earlier (suc n) t)) joined
           ∙ (first_none (module_fields at earlier bs) (modules_fields (at + size) (earlier ++ module_at bs ∷ []) n (drop size bs)) one.good
           ∙ (ap (λ x. first_bad (modules_fields (at + size) (earlier ++ x ∷ []) n (drop size bs))) one.value

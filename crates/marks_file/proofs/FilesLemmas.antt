@@ -13,7 +13,8 @@ use Rattle.marks_file.specs.declared.marks.MarkedPlace.{MarkedPlace}
 use Rattle.marks_file.specs.declared.version.Version.{Version}
 use Rattle.marks_file.proofs.Parts.{is_session_name}
 use Rattle.marks_file.proofs.FileLemmas.{same_marks}
-use Rattle.marks_file.proofs.UnionLemmas.{length-unite_places, same_rows, joined_rows}
+use Rattle.marks_file.proofs.UnionLemmas.{length-unite_places}
+use Rattle.marks_file.proofs.MarksLemmas.{same_cons, same_append}
 
 abbrev pub runs_of : File → ℕ
 runs_of f = f.marks.runs
@@ -22,7 +23,7 @@ runs_of f = f.marks.runs
 places_kept : (ps qs : List MarkedPlace) → map place_row (unite_places ps qs) ≡ map place_row ps
 places_kept [] qs = refl
 places_kept (p ∷ ps) [] = refl
-places_kept (p ∷ ps) (q ∷ qs) = same_rows (place_row p) (place_row p) (map place_row (unite_places ps qs)) (map place_row ps) refl (places_kept ps qs)
+places_kept (p ∷ ps) (q ∷ qs) = same_cons (place_row p) (place_row p) (map place_row (unite_places ps qs)) (map place_row ps) refl (places_kept ps qs)
 
 pub row_kept : (m n : MarkedView) → module_row (unite_module m n) ≡ module_row m
 row_kept m n = ap (λ k. m.name ++ (big_bytes 4 m.base ++ (big_bytes 4 m.size ++ big_bytes 4 k))) (length-unite_places m.places n.places)
@@ -30,7 +31,7 @@ row_kept m n = ap (λ k. m.name ++ (big_bytes 4 m.base ++ (big_bytes 4 m.size ++
 pub rows_kept : (ms ns : List MarkedView) → rows (unite ms ns) ≡ rows ms
 rows_kept [] ns = refl
 rows_kept (m ∷ ms) [] = refl
-rows_kept (m ∷ ms) (n ∷ ns) = joined_rows (module_rows (unite_module m n)) (module_rows m) (rows (unite ms ns)) (rows ms) (same_rows (module_row (unite_module m n)) (module_row m) (map place_row (unite_places m.places n.places)) (map place_row m.places) (row_kept m n) (places_kept m.places n.places)) (rows_kept ms ns)
+rows_kept (m ∷ ms) (n ∷ ns) = same_append (module_rows (unite_module m n)) (module_rows m) (rows (unite ms ns)) (rows ms) (same_cons (module_row (unite_module m n)) (module_row m) (map place_row (unite_places m.places n.places)) (map place_row m.places) (row_kept m n) (places_kept m.places n.places)) (rows_kept ms ns)
 
 -- files of one table were read up to `at`, and this is their union
 pub record FilesSoFar (bytes : List ℕ) (at : ℕ) (all : MarksView) : Type 0 where

@@ -10,6 +10,12 @@ use Rattle.marks_file.proofs.Parts.{is_module, is_session_name}
 pub filled_name : (field : List ℕ) → is_filled field ≡ true → padded (unpadded field) ≡ field
 filled_name field h = (bytes_eq-Decides _ _).0 (and_parts (is_name (unpadded field)) _ h).1
 
+pub same_cons : {X : Type 0} (x y : X) (xs ys : List X) → x ≡ y → xs ≡ ys → x ∷ xs ≡ y ∷ ys
+same_cons x y xs ys e f = λ i. e i ∷ f i
+
+pub same_append : {X : Type 0} (xs ys us vs : List X) → xs ≡ ys → us ≡ vs → xs ++ us ≡ ys ++ vs
+same_append xs ys us vs e f = λ i. e i ++ f i
+
 pub place_total-append : (ms : List MarkedView) (m : MarkedView) → place_total (ms ++ m ∷ []) ≡ place_total ms + length m.places
 place_total-append [] m = omega arith
 place_total-append (x ∷ ms) m = let e = place_total-append ms m in omega (arith, e)

@@ -13,6 +13,7 @@ use Rattle.marks_file.specs.Meaning.{kind_number, kind_of_number, is_location, i
 use Rattle.marks_file.specs.declared.marks.MarkedPlace.{MarkedPlace}
 use Rattle.marks_file.proofs.Parts.{is_place}
 use Rattle.marks_file.proofs.FieldLemmas.{IsPlaceRecord, place_record, place_none, first_none, none_left, none_right}
+use Rattle.marks_file.proofs.MarksLemmas.{same_cons}
 
 -- each of these is a byte
 abbrev pub AreBytes : List ℕ → Type 0
@@ -157,9 +158,6 @@ place_is_record size end p rest few h =
       set = ap (λ k. is_set k (number_of_facts p.set)) e3 ∙ set;
     }
 
-joined_list : (a b : MarkedPlace) (xs ys : List MarkedPlace) → a ≡ b → xs ≡ ys → a ∷ xs ≡ b ∷ ys
-joined_list a b xs ys e f = rw (e, f) refl
-
 pub length-places_at : (n : ℕ) (bs : List ℕ) → length (places_at n bs) ≡ n
 length-places_at zero bs = refl
 length-places_at (suc n) bs = ap suc (length-places_at n (drop 9 bs))
@@ -206,6 +204,6 @@ places_read at size end (p ∷ ps) rest few h =
     let none = place_none at size end (place_bytes p ++ after) (place_is_record size end p after few is) in
     let others : first_bad (places_fields (at + 9) size (end_location (marked_place_at (place_bytes p ++ after))) (length ps) after) ≡ None = ap (λ q. first_bad (places_fields (at + 9) size (end_location q) (length ps) after)) one ∙ more.good in
     record {
-      value = ap (λ bs. places_at (suc (length ps)) bs) joined ∙ joined_list _ _ _ _ one more.value;
+      value = ap (λ bs. places_at (suc (length ps)) bs) joined ∙ same_cons _ _ _ _ one more.value;
       good = ap (λ bs. first_bad (places_fields at size end (suc (length ps)) bs)) joined ∙ (first_none first _ none ∙ others);
     }

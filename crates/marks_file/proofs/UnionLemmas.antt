@@ -10,30 +10,23 @@ use Rattle.cov_base.specs.declared.facts.Kind.TheVariants.{Straight, Conditional
 use Rattle.marks_file.specs.Meaning.{MarkedView, kind_number, is_location, is_length, is_original, is_set, are_places, end_location, is_new_name, is_base, is_clear, is_size, is_count, place_total, are_modules, is_module_count, are_marks, place_row, module_row, module_rows, rows, unite_place, unite_places, unite_module, unite}
 use Rattle.marks_file.specs.declared.marks.MarkedPlace.{MarkedPlace}
 use Rattle.marks_file.proofs.Parts.{is_place, is_module}
-use Rattle.marks_file.proofs.MarksLemmas.{place_total-append}
+use Rattle.marks_file.proofs.MarksLemmas.{place_total-append, same_cons, same_append}
 use Rattle.marks_file.proofs.SpellLemmas.{set_read}
 use Rattle.marks_file.specs.Combine.{SamePlaces, SameTables}
 use Rattle.marks_file.specs.Marks.{HasRow}
 use Rattle.marks_file.proofs.DifferenceLemmas.{row_count}
 
--- tables of the same rows
-pub same_rows : (x y : List ℕ) (xs ys : List (List ℕ)) → x ≡ y → xs ≡ ys → x ∷ xs ≡ y ∷ ys
-same_rows x y xs ys e f = rw (e, f) refl
-
 places_rows : (ps qs : List MarkedPlace) → SamePlaces ps qs → map place_row ps ≡ map place_row qs
 places_rows [] [] h = refl
 places_rows [] (q ∷ qs) h = absurd h
 places_rows (p ∷ ps) [] h = absurd h
-places_rows (p ∷ ps) (q ∷ qs) h = same_rows (place_row p) (place_row q) (map place_row ps) (map place_row qs) h.0 (places_rows ps qs h.1)
-
-pub joined_rows : (xs ys us vs : List (List ℕ)) → xs ≡ ys → us ≡ vs → xs ++ us ≡ ys ++ vs
-joined_rows xs ys us vs e f = rw (e, f) refl
+places_rows (p ∷ ps) (q ∷ qs) h = same_cons (place_row p) (place_row q) (map place_row ps) (map place_row qs) h.0 (places_rows ps qs h.1)
 
 pub tables_rows : (ms ns : List MarkedView) → SameTables ms ns → rows ms ≡ rows ns
 tables_rows [] [] h = refl
 tables_rows [] (n ∷ ns) h = absurd h
 tables_rows (m ∷ ms) [] h = absurd h
-tables_rows (m ∷ ms) (n ∷ ns) h = joined_rows (module_rows m) (module_rows n) (rows ms) (rows ns) (same_rows (module_row m) (module_row n) (map place_row m.places) (map place_row n.places) h.0.0 (places_rows m.places n.places h.0.1)) (tables_rows ms ns h.1)
+tables_rows (m ∷ ms) (n ∷ ns) h = same_append (module_rows m) (module_rows n) (rows ms) (rows ns) (same_cons (module_row m) (module_row n) (map place_row m.places) (map place_row n.places) h.0.0 (places_rows m.places n.places h.0.1)) (tables_rows ms ns h.1)
 
 -- tables of the same rows are the same
 

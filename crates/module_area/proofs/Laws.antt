@@ -7,7 +7,7 @@ pub use Rattle.module_area.proofs.DrainLemmas.{mark_drained, cell_drained, fetch
 pub use Rattle.module_area.proofs.DrainLemmas.{read_drained, split_drained, join_drained}
 pub use Rattle.module_area.proofs.EndedLemmas.{session_has_sets, pairs_are_places}
 pub use Rattle.module_area.proofs.ForkLemmas.{splits, joins}
-pub use Rattle.module_area.proofs.Indices.{index_below, same_index, same_tests}
+pub use Rattle.module_area.proofs.Indices.{index_below, same_index, read_at, same_tests}
 pub use Rattle.module_area.proofs.PartyLemmas.{more-add_if, here-add_if, has-append, left-append, right-append, set_else, at_longer, at_put}
 pub use Rattle.module_area.proofs.PartyLemmas.{all_set, all_snoc, all_two, total-set, total_two, total_only, kept_tag, dropped_tag, no_tag}
 pub use Rattle.module_area.proofs.PartyLemmas.{first_tag}

@@ -8,7 +8,7 @@ use Rattle.cov_base.specs.Lists.{Differ}
 use Rattle.cov_base.specs.Meaning.{FactSet}
 use Rattle.marks_file.specs.Meaning.{modules_bytes, MarkedView, are_marks, rows, Difference, first_difference, unite}
 use Rattle.marks_file.specs.declared.marks.MarkedPlace.{MarkedPlace}
-use Rattle.marks_file.proofs.Laws.{marks_have_rows, one_table, union_is_marks, length-unite, files_turned, same_rows, same_tables}
+use Rattle.marks_file.proofs.Laws.{marks_have_rows, one_table, union_is_marks, length-unite, files_turned, same_cons, same_tables}
 use Rattle.brk_table.specs.Meaning.{TableView, TablesView, first_place, place_count}
 use Rattle.session_book.specs.Meaning.{JobView, session_of}
 use Rattle.session_marks.specs.Meaning.{marked_module, session_marks, session_rows}
@@ -27,7 +27,7 @@ equal_rows n (x ∷ xs) [] h = absurd cc
 equal_rows n [] (y ∷ ys) h = absurd cc
 equal_rows n (x ∷ xs) (y ∷ ys) h =
     let same = went_on (bytes_eq x y) (first_difference (n + 1) xs ys) (record { row = n; left = Some x; right = Some y }) h in
-    same_rows x y xs ys ((bytes_eq-Decides x y).0 same.0) (equal_rows (n + 1) xs ys same.1)
+    same_cons x y xs ys ((bytes_eq-Decides x y).0 same.0) (equal_rows (n + 1) xs ys same.1)
 
 -- these places' sets from number n on, and the others before them
 put_sets : (ℕ → FactSet) → ℕ → List MarkedPlace → ℕ → FactSet

@@ -6,7 +6,7 @@ use Rattle.cov_base.specs.Meaning.{FactSet, number_of_facts, is_within}
 use Rattle.cov_base.specs.declared.facts.Kind.{Kind}
 use Rattle.marks_file.specs.Meaning.{MarkedView, is_location, is_length, is_original, is_set, are_places, end_location, is_new_name, is_base, is_size, is_count, are_modules, is_module_count, are_marks, place_row, module_row, module_rows, rows, first_difference, unite}
 use Rattle.marks_file.specs.declared.marks.MarkedPlace.{MarkedPlace}
-use Rattle.marks_file.proofs.Laws.{is_place, is_module, set_read, same_rows, joined_rows, length-unite_places, none_differs}
+use Rattle.marks_file.proofs.Laws.{is_place, is_module, set_read, same_cons, same_append, length-unite_places, none_differs}
 use Rattle.module_area.specs.Meaning.{place_of}
 use Rattle.module_area.specs.declared.places.Place.{Place}
 use Rattle.brk_table.specs.Meaning.{TablesView, first_place, place_count}
@@ -20,7 +20,7 @@ use Rattle.session_marks.proofs.SetsLemmas.{empty, no_more_modules}
 -- the rows are the same whatever the sets are
 places_rows : (base : ℕ) (places : List Place) (sets others : ℕ → FactSet) (n count : ℕ) → map place_row (marked_places base places sets n count) ≡ map place_row (marked_places base places others n count)
 places_rows base places sets others n zero = refl
-places_rows base places sets others n (suc count) = same_rows (place_row (marked_place base places sets n)) (place_row (marked_place base places others n)) _ _ refl (places_rows base places sets others (n + 1) count)
+places_rows base places sets others n (suc count) = same_cons (place_row (marked_place base places sets n)) (place_row (marked_place base places others n)) _ _ refl (places_rows base places sets others (n + 1) count)
 
 row_of_count : (m : MarkedView) (ps qs : List MarkedPlace) → length ps ≡ length qs → module_row (record m { places = ps }) ≡ module_row (record m { places = qs })
 row_of_count m ps qs e = rw e refl
@@ -37,8 +37,8 @@ module_row_same j tables sets others m =
 modules_rows : (j : JobView) (tables : TablesView) (sets others : ℕ → FactSet) (ms : List ℕ) → rows (map (marked_module j tables sets) ms) ≡ rows (map (marked_module j tables others) ms)
 modules_rows j tables sets others [] = refl
 modules_rows j tables sets others (m ∷ ms) =
-    joined_rows (module_rows (marked_module j tables sets m)) (module_rows (marked_module j tables others m)) (rows (map (marked_module j tables sets) ms)) (rows (map (marked_module j tables others) ms))
-    (same_rows (module_row (marked_module j tables sets m)) (module_row (marked_module j tables others m)) _ _ (module_row_same j tables sets others m) (places_rows (module_of j m).base tables.places sets others (first_place tables.tables m) (place_count tables.tables m)))
+    same_append (module_rows (marked_module j tables sets m)) (module_rows (marked_module j tables others m)) (rows (map (marked_module j tables sets) ms)) (rows (map (marked_module j tables others) ms))
+    (same_cons (module_row (marked_module j tables sets m)) (module_row (marked_module j tables others m)) _ _ (module_row_same j tables sets others m) (places_rows (module_of j m).base tables.places sets others (first_place tables.tables m) (place_count tables.tables m)))
     (modules_rows j tables sets others ms)
 
 -- no row of the session's marks differs

@@ -13,6 +13,7 @@ use Rattle.brk_table.proofs.Laws.{first-here, count-here, first-past, count-past
 use Rattle.session_book.specs.Meaning.{JobView, module_of}
 use Rattle.session_marks.specs.Meaning.{marked_places, marked_place, marked_module}
 use Rattle.session_marks.specs.FromFile.{HasSetsAt, HaveSetsAt, IsOutside}
+use Rattle.marks_file.proofs.Laws.{same_cons}
 
 abbrev pub empty : ℕ → FactSet
 empty n = no_facts
@@ -26,12 +27,6 @@ pub no_more_modules : (ms : List MarkedView) → unite ms [] ≡ ms
 no_more_modules [] = refl
 no_more_modules (m ∷ ms) = refl
 
-joined_places : (p q : MarkedPlace) (ps qs : List MarkedPlace) → p ≡ q → ps ≡ qs → p ∷ ps ≡ q ∷ qs
-joined_places p q ps qs e f = rw (e, f) refl
-
-joined_modules : (m n : MarkedView) (ms ns : List MarkedView) → m ≡ n → ms ≡ ns → m ∷ ms ≡ n ∷ ns
-joined_modules m n ms ns e f = rw (e, f) refl
-
 -- empty sets add nothing
 none_added : (s : FactSet) → union s no_facts ≡ s
 none_added s = rw (or-false s.ran, or-false s.went, or-false s.stayed) refl
@@ -40,14 +35,14 @@ places_kept : (base : ℕ) (places : List Place) (n count : ℕ) (qs : List Mark
 places_kept base places n count [] = refl
 places_kept base places n zero (q ∷ qs) = refl
 places_kept base places n (suc count) (q ∷ qs) =
-    joined_places (unite_place q (marked_place base places empty n)) q (unite_places qs (marked_places base places empty (n + 1) count)) qs
+    same_cons (unite_place q (marked_place base places empty n)) q (unite_places qs (marked_places base places empty (n + 1) count)) qs
     (ap (λ s. record q { set = s }) (none_added q.set)) (places_kept base places (n + 1) count qs)
 
 pub file_kept : (j : JobView) (tables : TablesView) (ms : List ℕ) (file : List MarkedView) → unite file (map (marked_module j tables empty) ms) ≡ file
 file_kept j tables ms [] = refl
 file_kept j tables [] (f ∷ fs) = refl
 file_kept j tables (m ∷ ms) (f ∷ fs) =
-    joined_modules (unite_module f (marked_module j tables empty m)) f (unite fs (map (marked_module j tables empty) ms)) fs
+    same_cons (unite_module f (marked_module j tables empty m)) f (unite fs (map (marked_module j tables empty) ms)) fs
     (ap (λ ps. record f { places = ps }) (places_kept (module_of j m).base tables.places (first_place tables.tables m) (place_count tables.tables m) f.places)) (file_kept j tables ms fs)
 
 -- the places with these sets
@@ -59,7 +54,7 @@ filled base places sets n (suc count) [] h =
     let ps = marked_places base places empty (n + 1) count in
     let here : sets n ≡ no_facts = ap sets (omega arith) ∙ h 0 p (omega arith) in
     let later : HasSetsAt sets (n + 1) (unite_places ps []) = λ k d l. ap sets (omega arith) ∙ (h (suc k) d (omega (arith, ap length (no_more_places ps), l)) ∙ ap (λ xs. (get_or xs k d).set) (sym (no_more_places ps))) in
-    joined_places (marked_place base places sets n) p (marked_places base places sets (n + 1) count) ps
+    same_cons (marked_place base places sets n) p (marked_places base places sets (n + 1) count) ps
     (ap (λ s. record p { set = s }) here)
     (filled base places sets (n + 1) count [] later ∙ no_more_places ps)
 filled base places sets n (suc count) (q ∷ qs) h =
@@ -67,7 +62,7 @@ filled base places sets n (suc count) (q ∷ qs) h =
     let ps = marked_places base places empty (n + 1) count in
     let here : sets n ≡ union no_facts q.set = ap sets (omega arith) ∙ h 0 p (omega arith) in
     let later : HasSetsAt sets (n + 1) (unite_places ps qs) = λ k d l. ap sets (omega arith) ∙ h (suc k) d (omega arith) in
-    joined_places (marked_place base places sets n) (unite_place p q) (marked_places base places sets (n + 1) count) (unite_places ps qs)
+    same_cons (marked_place base places sets n) (unite_place p q) (marked_places base places sets (n + 1) count) (unite_places ps qs)
     (ap (λ s. record p { set = s }) here)
     (filled base places sets (n + 1) count qs later)
 
@@ -85,13 +80,13 @@ modules_filled j tables sets (m ∷ ms) [] h =
     let more = map (marked_module j tables empty) ms in
     let here : HasSetsAt sets (first_place tables.tables m) own.places = h 0 m own (omega arith) in
     let later : HaveSetsAt tables.tables sets (length ms) ms (unite more []) = λ i n d l. subst (λ xs. HasSetsAt sets (first_place tables.tables (get_or ms i n)) (get_or xs i d).places) (sym (no_more_modules more)) (h (suc i) n d (omega arith)) in
-    joined_modules (marked_module j tables sets m) own (map (marked_module j tables sets) ms) more
+    same_cons (marked_module j tables sets m) own (map (marked_module j tables sets) ms) more
     (module_filled j tables sets m [] (subst (HasSetsAt sets (first_place tables.tables m)) (sym (no_more_places own.places)) here) ∙ ap (λ ps. record own { places = ps }) (no_more_places own.places))
     (modules_filled j tables sets ms [] later ∙ no_more_modules more)
 modules_filled j tables sets (m ∷ ms) (f ∷ fs) h =
     let own = marked_module j tables empty m in
     let more = map (marked_module j tables empty) ms in
-    joined_modules (marked_module j tables sets m) (unite_module own f) (map (marked_module j tables sets) ms) (unite more fs)
+    same_cons (marked_module j tables sets m) (unite_module own f) (map (marked_module j tables sets) ms) (unite more fs)
     (module_filled j tables sets m f.places (h 0 m own (omega arith)))
     (modules_filled j tables sets ms fs (λ i n d l. h (suc i) n d (omega arith)))
 

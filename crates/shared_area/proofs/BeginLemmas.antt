@@ -1,7 +1,7 @@
 -- The words of a new area keep the rule, and how the sets are read in the end.
 use Rattle.std.proofs.Common.{◌≡◌, ℕ, zero, suc, ◌+◌, ◌-◌, ◌*◌, ◌/◌, ◌%◌, ◌<◌, Bool, true, false, nat_eq, if◌then◌else◌, List, [], ◌∷◌, ◌++◌, length, get_or, take, sym, refl, ap, ◌∙◌, subst, arith, length-append, suc-mul}
 use mathlib.Core.Logic.{dite}
-use mathlib.Core.Option.{some, some-injective, some-ne-none}
+use mathlib.Core.Option.{some}
 use native.Mathlib.Decide.{ℕ_discrete}
 use lib.ListN.{get_elem?}
 use Rattle.std.proofs.Math.Seq.{get_or-append_seam}
@@ -17,7 +17,7 @@ use Rattle.cov_base.specs.Meaning.{FactSet, has_fact, no_facts}
 use Rattle.module_area.specs.declared.parties.Role.TheVariants.{Root}
 use Rattle.module_area.specs.Meaning.{PlanView, original_at, kind_at}
 use Rattle.module_area.specs.Rule.{IsPlan, has_task, blank, untouched}
-use Rattle.module_area.proofs.Laws.{begins, begins_drained, first_cell, zero_behind, starting_count}
+use Rattle.module_area.proofs.Laws.{begins, begins_drained, first_cell, zero_behind, starting_count, read_at}
 use Rattle.module_area.specs.Words.{cell_of, starting, AllFit}
 use Rattle.shared_area.specs.Words.{bit_of, has_bit, facts_of, set_word, base_of, word_count, front, task_word, cells_in, sets_in, numbers_in}
 use Rattle.shared_area.specs.Sets.{AreSets}
@@ -65,11 +65,6 @@ module _ (plan : PlanView) (ok : IsPlan plan) (fits : AllFit plan (length plan.p
   }
 
 -- ---- the sets as they are read in the end
-read_at : (l : List ℕ) (i w : ℕ) → get_elem? l i ≡ some w → get_or l i 0 ≡ w
-read_at [] i w e = absurd (some-ne-none w (sym e))
-read_at (y ∷ ys) zero w e = some-injective y w e
-read_at (y ∷ ys) (suc i) w e = read_at ys i w e
-
 -- the session and place of the next set
 place_of_next : (n k s p : ℕ) → 0 < s → p < n → k + n ≡ s * n + p → (s ≡ k / n + 1) × (p ≡ k % n)
 place_of_next n k s p pos l e = let a : s * n ≡ suc (s - 1) * n = ap (λ z. z * n) (let x : s ≡ suc (s - 1) = omega arith in x) in let b : suc (s - 1) * n ≡ (s - 1) * n + n = suc-mul (s - 1) n in

@@ -5,6 +5,7 @@ pub use Rattle.task_run.proofs.CloseLemmas.{closes_closed}
 pub use Rattle.task_run.proofs.FollowsLemmas.{control_more}
 pub use Rattle.task_run.proofs.GoesLemmas.{goes_made}
 pub use Rattle.task_run.proofs.GoneLemmas.{made_all}
+pub use Rattle.task_run.proofs.NotesLemmas.{one_at_most}
 pub use Rattle.task_run.proofs.ObservedLemmas.{has_fact-more, facts_at-more, visits_at_places-append, Observes-none}
 pub use Rattle.task_run.proofs.ObservedLemmas.{shows_before, shows_behind, shows_either}
 pub use Rattle.task_run.proofs.RanLemmas.{ran_tour}

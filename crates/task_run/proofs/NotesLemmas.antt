@@ -49,7 +49,7 @@ all_three x y z h = let both = and_parts (x && y) z h in let first = and_parts x
 pub three_from : (x y z : Bool) → x ≡ true → y ≡ true → z ≡ true → (x && y && z) ≡ true
 three_from x y z h k l = rw (h, k, l) refl
 
-one_at_most : (b : Bool) → (if b then 1 else 0) ≤ 1
+pub one_at_most : (b : Bool) → (if b then 1 else 0) ≤ 1
 one_at_most true = omega arith
 one_at_most false = omega arith
 
