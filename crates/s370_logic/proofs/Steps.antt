@@ -8,7 +8,7 @@ use Rattle.std.proofs.lemmas.Bool.{cases_lt, cases_order, ne_eqb}
 use Rattle.cov_base.specs.Meaning.{Memory, byte_at, wrap}
 use Rattle.s370_state.specs.Meaning.{number_at, store_number, order_code}
 use Rattle.s370_state.specs.Fields.{AreBytes}
-use Rattle.s370_logic.specs.Rows.{number_in}
+use Rattle.s370_state.specs.Halves.{number_from}
 use Rattle.s370_logic.specs.Meaning.{bytes_joined, joined_byte, are_zero, compared}
 
 pub joined_none : (f : ℕ → ℕ → ℕ) (m : Memory) (bytes : List ℕ) (a b : ℕ) → bytes_joined f m bytes a b 0 ≡ bytes
@@ -88,16 +88,16 @@ code_low v w p q e = elim (cases_order p q) [
 -- j bytes more of two rows, as numbers
 pub row_compared : (m : Memory) (bytes x y : List ℕ) (a b n k j : ℕ) → AreBytes m bytes a n x → AreBytes m bytes b n y → k + j ≤ n →
     ((i : ℕ) → i < j → slice_index x (k + i) < 256) → ((i : ℕ) → i < j → slice_index y (k + i) < 256) → compared m bytes a b k ≡ 0 →
-    compared m bytes a b (k + j) ≡ order_code (nat_cmp (number_in x k j) (number_in y k j))
-unfolding number_in
+    compared m bytes a b (k + j) ≡ order_code (nat_cmp (number_from x k j) (number_from y k j))
+unfolding number_from
 row_compared m bytes x y a b n k zero f g l s t z = rw add-zero (z ∙ sym (equal_code 0 0 refl))
 row_compared m bytes x y a b n k (suc j) f g l s t z =
     let one : k + suc j ≡ k + j + 1 = omega arith in
-    let so_far : compared m bytes a b (k + j) ≡ order_code (nat_cmp (number_in x k j) (number_in y k j)) = row_compared m bytes x y a b n k j f g (omega arith) (λ i h. s i (omega arith)) (λ i h. t i (omega arith)) z in
-    rw one (elim (cases_order (number_in x k j) (number_in y k j)) [
+    let so_far : compared m bytes a b (k + j) ≡ order_code (nat_cmp (number_from x k j) (number_from y k j)) = row_compared m bytes x y a b n k j f g (omega arith) (λ i h. s i (omega arith)) (λ i h. t i (omega arith)) z in
+    rw one (elim (cases_order (number_from x k j) (number_from y k j)) [
       | inl e ↦ compared_more m bytes a b (k + j) (so_far ∙ equal_code _ _ e)
           ∙ rw (← f.each (k + j) (omega arith), ← g.each (k + j) (omega arith)) (sym (code_low _ _ _ _ e))
-      | inr u ↦ let apart : number_in x k j ≡ number_in y k j → ⊥ = λ e. elim u [ inl z ↦ omega (arith, z, e) | inr z ↦ omega (arith, z, e) ] in
+      | inr u ↦ let apart : number_from x k j ≡ number_from y k j → ⊥ = λ e. elim u [ inl z ↦ omega (arith, z, e) | inr z ↦ omega (arith, z, e) ] in
           compared_kept m bytes a b (k + j) (rw so_far (unequal_code _ _ apart)) ∙ so_far ∙ sym (code_high _ _ _ _ apart (s j (omega arith)) (t j (omega arith)))
     ])
 

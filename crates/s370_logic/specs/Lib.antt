@@ -1,4 +1,3 @@
 pub mod Bitwise
 pub mod Meaning
-pub mod Rows
 pub mod Unsigned

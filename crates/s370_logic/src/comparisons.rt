@@ -7,13 +7,13 @@ ghost use Rattle.cov_base.specs.Meaning.{can_reach};
 ghost use Rattle.s370_state.specs.Row.{Attempts, Performs};
 ghost use Rattle.s370_state.specs.Fields.{AreBytes};
 ghost use Rattle.s370_state.specs.Meaning.{order_code};
-ghost use Rattle.s370_logic.specs.Rows.{number_in};
 ghost use Rattle.s370_logic.specs.Meaning.{compared, logic_row};
 
 use cov_base::Addr;
 use s370_decode::{Decoded, Op};
 use s370_state::{
-    Cpu, Next, Space, byte_of, order_code, read_word, reads_both_own, test_read, test_read_both,
+    Cpu, Next, Space, byte_of, doubleword, order_code, read_word, reads_both_own, test_read,
+    test_read_both,
 };
 
 /// Compares the register with a word.
@@ -26,27 +26,8 @@ fn compare(cpu: &mut Cpu, r: u8, v: u32) -> Next
     Next::On
 }
 
-/// Eight bytes of a row as one number: of two such numbers the one whose first unequal byte is greater is greater.
-#[inline(always)]
-#[tactic(auto, unfolding(crate::specs::Rows::number_in))]
-fn doubleword(row: &[u8], k: usize) -> u64
-    requires { k + 8 ≤ length row.now }
-    ensures value { result ≡ number_in row.now k 8 }
-    ensures below { (j : ℕ) → j < 8 → slice_index row.now (k + j) < 256 }
-{
-    u64::from_be_bytes([
-        row[k],
-        row[k + 1],
-        row[k + 2],
-        row[k + 3],
-        row[k + 4],
-        row[k + 5],
-        row[k + 6],
-        row[k + 7],
-    ])
-}
-
-/// Compares n bytes that stand in rows, eight at once, up to the first unequal pair.
+/// Compares n bytes that stand in rows, eight at once, up to the first unequal pair: of two numbers of eight bytes the one whose
+/// first unequal byte is greater is greater.
 #[inline(always)]
 #[tactic(auto, using(crate::proofs::Steps::compared_none))]
 fn compare_rows<P: Space>(_space: &P, a: Addr, b: Addr, n: u32, x: &[u8], y: &[u8]) -> u8

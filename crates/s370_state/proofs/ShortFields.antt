@@ -13,16 +13,16 @@ use Rattle.s370_state.specs.Meaning.{is_sign, is_minus, is_digit, halves_at, dig
 use Rattle.s370_state.proofs.Digits.{decimal_append, decimal_one, field_good}
 
 -- what stands before the last l + 1 bytes is shifted out
-pub shifted_out : (row : List ℕ) (l : ℕ) → ((i : ℕ) → slice_index row i < 256) → l ≤ 7 → number_from row 0 8 * 2 ^ (8 * (7 - l)) % 18446744073709551616 / 2 ^ (8 * (7 - l)) ≡ number_from row (7 - l) (l + 1)
+pub shifted_out : (row : List ℕ) (l : ℕ) → ((i : ℕ) → i < 8 → slice_index row i < 256) → l ≤ 7 → number_from row 0 8 * 2 ^ (8 * (7 - l)) % 18446744073709551616 / 2 ^ (8 * (7 - l)) ≡ number_from row (7 - l) (l + 1)
 unfolding number_from
-shifted_out row zero h e = omega (arith, h 0, h 1, h 2, h 3, h 4, h 5, h 6, h 7)
-shifted_out row (suc zero) h e = omega (arith, h 0, h 1, h 2, h 3, h 4, h 5, h 6, h 7)
-shifted_out row (suc (suc zero)) h e = omega (arith, h 0, h 1, h 2, h 3, h 4, h 5, h 6, h 7)
-shifted_out row (suc (suc (suc zero))) h e = omega (arith, h 0, h 1, h 2, h 3, h 4, h 5, h 6, h 7)
-shifted_out row (suc (suc (suc (suc zero)))) h e = omega (arith, h 0, h 1, h 2, h 3, h 4, h 5, h 6, h 7)
-shifted_out row (suc (suc (suc (suc (suc zero))))) h e = omega (arith, h 0, h 1, h 2, h 3, h 4, h 5, h 6, h 7)
-shifted_out row (suc (suc (suc (suc (suc (suc zero)))))) h e = omega (arith, h 0, h 1, h 2, h 3, h 4, h 5, h 6, h 7)
-shifted_out row (suc (suc (suc (suc (suc (suc (suc zero))))))) h e = omega (arith, h 0, h 1, h 2, h 3, h 4, h 5, h 6, h 7)
+shifted_out row zero h e = omega (arith, h 0 (lit< tt), h 1 (lit< tt), h 2 (lit< tt), h 3 (lit< tt), h 4 (lit< tt), h 5 (lit< tt), h 6 (lit< tt), h 7 (lit< tt))
+shifted_out row (suc zero) h e = omega (arith, h 0 (lit< tt), h 1 (lit< tt), h 2 (lit< tt), h 3 (lit< tt), h 4 (lit< tt), h 5 (lit< tt), h 6 (lit< tt), h 7 (lit< tt))
+shifted_out row (suc (suc zero)) h e = omega (arith, h 0 (lit< tt), h 1 (lit< tt), h 2 (lit< tt), h 3 (lit< tt), h 4 (lit< tt), h 5 (lit< tt), h 6 (lit< tt), h 7 (lit< tt))
+shifted_out row (suc (suc (suc zero))) h e = omega (arith, h 0 (lit< tt), h 1 (lit< tt), h 2 (lit< tt), h 3 (lit< tt), h 4 (lit< tt), h 5 (lit< tt), h 6 (lit< tt), h 7 (lit< tt))
+shifted_out row (suc (suc (suc (suc zero)))) h e = omega (arith, h 0 (lit< tt), h 1 (lit< tt), h 2 (lit< tt), h 3 (lit< tt), h 4 (lit< tt), h 5 (lit< tt), h 6 (lit< tt), h 7 (lit< tt))
+shifted_out row (suc (suc (suc (suc (suc zero))))) h e = omega (arith, h 0 (lit< tt), h 1 (lit< tt), h 2 (lit< tt), h 3 (lit< tt), h 4 (lit< tt), h 5 (lit< tt), h 6 (lit< tt), h 7 (lit< tt))
+shifted_out row (suc (suc (suc (suc (suc (suc zero)))))) h e = omega (arith, h 0 (lit< tt), h 1 (lit< tt), h 2 (lit< tt), h 3 (lit< tt), h 4 (lit< tt), h 5 (lit< tt), h 6 (lit< tt), h 7 (lit< tt))
+shifted_out row (suc (suc (suc (suc (suc (suc (suc zero))))))) h e = omega (arith, h 0 (lit< tt), h 1 (lit< tt), h 2 (lit< tt), h 3 (lit< tt), h 4 (lit< tt), h 5 (lit< tt), h 6 (lit< tt), h 7 (lit< tt))
 shifted_out row (suc (suc (suc (suc (suc (suc (suc (suc l)))))))) h e = absurd (omega (arith, e))
 
 -- the bytes that end the doubleword are the field's
@@ -62,12 +62,12 @@ unfolding halves_of
 halves_more k x = refl
 
 -- a doubleword with its front shifted out is the number of the bytes that end it
-pub word_number : (m : Memory) (bytes : List ℕ) (a l x : ℕ) (row : List ℕ) → l ≤ 7 → AreBytes m bytes (wrap (a + (16777209 + l))) 8 row → ((i : ℕ) → slice_index row i < 256) → x ≡ number_from row 0 8 * 2 ^ (8 * (7 - l)) % 18446744073709551616 / 2 ^ (8 * (7 - l)) →
+pub word_number : (m : Memory) (bytes : List ℕ) (a l x : ℕ) (row : List ℕ) → l ≤ 7 → AreBytes m bytes (wrap (a + (16777209 + l))) 8 row → ((i : ℕ) → i < 8 → slice_index row i < 256) → x ≡ number_from row 0 8 * 2 ^ (8 * (7 - l)) % 18446744073709551616 / 2 ^ (8 * (7 - l)) →
     x ≡ number_at m bytes a (l + 1)
 word_number m bytes a l x row h w r e = e ∙ shifted_out row l r h ∙ field_number m bytes a l (l + 1) row h w (omega arith)
 
-pub word_small : (m : Memory) (bytes : List ℕ) (a l : ℕ) (row : List ℕ) → l ≤ 7 → AreBytes m bytes (wrap (a + (16777209 + l))) 8 row → ((i : ℕ) → slice_index row i < 256) → AreSmall m bytes a (l + 1)
-word_small m bytes a l row h w r i k = rw (← field_byte m bytes a l i row h w (omega (arith, k))) (r (7 - l + i))
+pub word_small : (m : Memory) (bytes : List ℕ) (a l : ℕ) (row : List ℕ) → l ≤ 7 → AreBytes m bytes (wrap (a + (16777209 + l))) 8 row → ((i : ℕ) → i < 8 → slice_index row i < 256) → AreSmall m bytes a (l + 1)
+word_small m bytes a l row h w r i k = rw (← field_byte m bytes a l i row h w (omega (arith, k))) (r (7 - l + i) (omega (arith, h, k)))
 
 -- the half bytes of the number of n bytes are theirs
 front_digits : (m : Memory) (bytes : List ℕ) (a n k x : ℕ) → AreSmall m bytes a n → n + n ≤ k → x ≡ number_at m bytes a n → list_all is_digit (halves_of k x) ≡ true →

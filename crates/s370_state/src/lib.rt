@@ -18,4 +18,4 @@ pub use operands::{
 };
 pub use packed::{Field, field_at, is_digit, is_minus, is_sign, number, put_field};
 pub use space::{Refused, Space};
-pub use words::{order_code, signed};
+pub use words::{doubleword, order_code, signed};

@@ -4,11 +4,12 @@ ghost use Rattle.std.specs.Prelude.{◌≡◌, ◌+◌, ◌-◌, ◌*◌, ◌/�
 ghost use Rattle.std.specs.List.{list_all};
 ghost use Rattle.cov_base.specs.Meaning.{can_reach, can_store};
 ghost use Rattle.s370_state.specs.Fields.{AreBytes};
-ghost use Rattle.s370_state.specs.Halves.{halves_of, number_from, AreSmall};
+ghost use Rattle.s370_state.specs.Halves.{halves_of, AreSmall};
 ghost use Rattle.s370_state.specs.Meaning.{is_sign, is_minus, sign_half, is_digit, halves_at, decimal, field_at, number_at, number, digits_of, bytes_of, store_field};
 
 use crate::operands::byte_of;
 use crate::space::Space;
+use crate::words::doubleword;
 use cov_base::Addr;
 
 /// What a field holds.
@@ -167,18 +168,6 @@ fn number_in(x: u64) -> Option<u64>
     Some(eights / 4_294_967_296 * 100_000_000 + eights % 4_294_967_296)
 }
 
-/// The number of a doubleword's bytes.
-#[inline(always)]
-fn doubleword(row: &[u8]) -> u64
-    requires { length row.now ≡ 8 }
-    ensures number { result ≡ number_from row.now 0 8 }
-    ensures bytes { (i : ℕ) → slice_index row.now i < 256 }
-{
-    u64::from_be_bytes([
-        row[0], row[1], row[2], row[3], row[4], row[5], row[6], row[7],
-    ])
-}
-
 /// The number of up to 8 bytes, where the doubleword that they end stands in a row.
 #[inline(always)]
 fn word_ending<P: Space>(space: &P, at: Addr, l: u8) -> Option<u64>
@@ -189,7 +178,7 @@ fn word_ending<P: Space>(space: &P, at: Addr, l: u8) -> Option<u64>
     match space.slice(at.plus(16_777_209 + u32::from(l)), 8) {
         Some(row) => {
             let before = 8 * (7 - l);
-            Some(doubleword(row) << before >> before)
+            Some(doubleword(row, 0) << before >> before)
         }
         None => None,
     }

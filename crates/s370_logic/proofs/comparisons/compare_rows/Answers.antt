@@ -9,9 +9,9 @@ returns-then-first-second-clause-value g c =
     let k = 8 * c.loop-k.k in
     let x = c.doubleword-first.ensures in
     let y = c.doubleword-second.ensures in
-    let row = row_compared m bytes c.args.x.now c.args.y.now c.args.a c.args.b c.args.n k 8 c.requires.first c.requires.second (omega arith) x.below y.below c.loop-k.invariant in
-    c.order_code.ensures.value ∙ rw (c.cmp.ensures, x.value, y.value) (sym row)
-    ∙ sym (compared_far m bytes c.args.a c.args.b (k + 8) c.args.n (rw row (unequal_code _ _ (rw (x.value, y.value) at c.if-first-second.true))) (omega arith))
+    let row = row_compared m bytes c.args.x.now c.args.y.now c.args.a c.args.b c.args.n k 8 c.requires.first c.requires.second (omega arith) x.bytes y.bytes c.loop-k.invariant in
+    c.order_code.ensures.value ∙ rw (c.cmp.ensures, x.number, y.number) (sym row)
+    ∙ sym (compared_far m bytes c.args.a c.args.b (k + 8) c.args.n (rw row (unequal_code _ _ (rw (x.number, y.number) at c.if-first-second.true))) (omega arith))
 
 pub loop-k-preserved : goal.loop-k-preserved
 loop-k-preserved g c =
@@ -21,8 +21,8 @@ loop-k-preserved g c =
     let x = c.doubleword-first.ensures in
     let y = c.doubleword-second.ensures in
     let next : 8 * (c.loop-k.k + 1) ≡ k + 8 = omega arith in
-    rw next (row_compared m bytes c.args.x.now c.args.y.now c.args.a c.args.b c.args.n k 8 c.requires.first c.requires.second (omega arith) x.below y.below c.loop-k.invariant
-    ∙ equal_code _ _ (sym x.value ∙ c.if-first-second.false ∙ y.value))
+    rw next (row_compared m bytes c.args.x.now c.args.y.now c.args.a c.args.b c.args.n k 8 c.requires.first c.requires.second (omega arith) x.bytes y.bytes c.loop-k.invariant
+    ∙ equal_code _ _ (sym x.number ∙ c.if-first-second.false ∙ y.number))
 
 pub returns-then-x-i-clause-value : goal.returns-then-x-i-clause-value
 returns-then-x-i-clause-value g c =
