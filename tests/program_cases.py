@@ -286,6 +286,7 @@ def commands() -> list[Case]:
         Case("an unknown word", ["runs"], job, USAGE, 1),
         Case("a word in capitals", ["RUN"], job, USAGE, 1),
         Case("a word too many", ["run", "now"], job, USAGE, 1),
+        Case("many words, and a long one", ["run"] * 1000 + ["S" * 100_000], job, USAGE, 1),
         Case("an empty word", [""], job, USAGE, 1),
         Case("a word that is no UTF-8", ["\udcff"], job, USAGE, 1),
         Case("--help is no word of the program", ["--help"], job, USAGE, 1),
