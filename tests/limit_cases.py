@@ -206,6 +206,8 @@ def wide() -> None:
     whole, every = widest(None), b"PLACES 4096 EXECUTED 0 "
     for word in ("run", "exits"):
         equal((told(whole, word).count(every), told(widest("C"), word).count(every)), (MODULES, 2 * MODULES - 1))
+    for job, sessions in ((whole, MODULES), (widest("C"), 2 * MODULES - 1)):
+        equal(told(job, "replay", behind=b"ENDSCHED\n").count(every), sessions)
     equal(told(widest("C"), "early").count(b"\nDRAINED COUNT "), 16)
     equal((told(whole, "count").count(b"COUNT 0"), told(whole, "table").count(b"\nPLACE ")), (PLACES, PLACES))
     equal(told(whole, "ends").count(b"\nUNLISTED "), MODULES)
