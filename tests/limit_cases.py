@@ -7,7 +7,7 @@ from functools import lru_cache
 
 from answers import answer
 from harness import PROGRAM, equal, run
-from jobs import FIRST, Program, Result, task
+from jobs import FIRST, FIRST_REPORT, TASK, Program, Result, task
 from phase_jobs import Module, Session, Task
 from phase_jobs import job as job_of
 
@@ -223,6 +223,16 @@ def full() -> None:
         equal(told(fullest(), word).splitlines()[1].split(b" AT")[0], b"TASK A RETURNED COUNT 1" + b" CC 0" * (word != "ends"))
 
 
+def lines() -> None:
+    """limits: inputs that are full of a listing's lines, of cards of storage, and of cards of input"""
+    room = INPUT - len(FIRST.job())
+    # The number of the listing's lines has seven digits more.
+    job = FIRST.job(listing=[*FIRST.listing(), *[""] * (room - 7)])
+    gives(["run"], job, FIRST_REPORT.replace(b"END\n", b"  \n" * (room - 7) + b"END\n"))
+    for card in ("DATA 0 07\n", f"INPUT {'C1' * 64}\n"):
+        gives(["run"], FIRST.job(TASK + card * (room // len(card))), FIRST_REPORT)
+
+
 def services() -> None:
     """limits: a service for each number that may have one, of which the last is called"""
     served = "".join(f"SERVICE {it} 100004\n" for it in (0, *range(6, 255)))
@@ -248,4 +258,4 @@ def inputs() -> None:
     gives(["replay"], job + b"DO A\n" * count + b"ENDSCHED\n", wanted)
 
 
-CHECKS = [runs, early, files, lists, cards, wide, full, services, inputs, runless]
+CHECKS = [runs, early, files, lists, cards, wide, full, lines, services, inputs, runless]
