@@ -29,7 +29,7 @@ class Seen:
     threads_at: list[int]
 
 
-class Fault(Exception):
+class Fault(AssertionError):
     """What is wrong with a run."""
 
 
