@@ -71,7 +71,9 @@ def answer_of(whole: Seen, seen: Seen, growth: int, every: bool) -> str:
         check(own and seen.threads == whole.threads - 1 or again, "a growth that is done without", seen)
         return "a thread done without" if own else "asked for again"
     check((seen.status, seen.error) == (7, b"") and seen.output in (b"NO MEMORY\n", b""), "not status 7", seen)
-    check(own or seen.growths == growth or every and seen.growths == growth + 1, "something asked for behind it", seen)
+    # Before it reads, main asks for its buffer, areas and words, whatever came of the others; then nothing is written.
+    behind = own or not seen.output or seen.growths == growth or every and seen.growths == growth + 1
+    check(behind, "something asked for behind it", seen)
     check(seen.threads == sum(it < growth for it in whole.threads_at), "a thread behind it", seen)
     return "NO MEMORY" if seen.output else "nothing written"
 
