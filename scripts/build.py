@@ -19,7 +19,7 @@ from typing import IO
 
 from command import complain
 from crate_sources import TOP, sum_of, sum_of_sources
-from proving import LINKED, ProofFailed, Proving, in_minutes, make_table
+from proving import LINKED, ProofFailed, Proving
 from rooms import room
 
 OUT = f"{TOP}/out"
@@ -109,8 +109,7 @@ def build() -> None:
         if sum_of_sources() != proving.of_sources:
             raise BuildFailed("the sources changed while they were built: build again")
         keep(f"{at}/{LINKED}", proving.of_sources)
-    progress = proving.progress
-    say(f"built: {len(progress.below)} crates proved in {in_minutes(progress.spent())}")
+    say(f"built: {len(proving.progress.crates)} crates proved in {proving.progress.spent()}")
 
 
 def holder(lock: IO[str]) -> str:
@@ -172,8 +171,6 @@ def main(words: list[str]) -> int:
             keep_proved(words[1])
         elif words == ["is-built"]:
             return 0 if is_built() else 1
-        elif words == ["weigh"]:
-            say(make_table())
         elif words == ["seen"]:
             listed = sys.stdin.buffer.read()
             make_built()

@@ -16,7 +16,6 @@ from dataclasses import dataclass, field
 from types import ModuleType
 from typing import Callable, Iterator, NamedTuple, Optional, Sequence
 
-import weights
 from command import Fault
 from edit_bodies import take_away
 from edit_files import Applied, Edit, Unfit, applied
@@ -229,15 +228,14 @@ def unedited(edits: Sequence[Edit], at: str) -> list[Check]:
 
 
 def rounds(edits: Sequence[Edit], at: str) -> list[Check]:
-    """The checks of these edits, the longest first: as few of each crate as hold them."""
+    """The checks of these edits, as few of each crate as hold them, and those of the most functions first, which take longest."""
     found: list[Check] = []
     for edit in edits:
         fits = (it for it in found if it.crate == edit.crate and it.takes(edit, at))
         if next(fits, None) is None:
             found.append(Check(edit.crate))
             found[-1].takes(edit, at)
-    seconds = weights.read()
-    return sorted(found, key=lambda it: -seconds.get(it.crate, 0.0))
+    return sorted(found, key=lambda it: -len(it.functions()))
 
 
 def lanes() -> int:

@@ -11,26 +11,22 @@ import os
 import re
 import sys
 import time
-from typing import Callable, Mapping, Sequence
+from typing import Callable, Collection, Sequence
 
-import weights
-from crate_sources import TOP, TOP_CRATE, crates, sum_of_files
+from crate_sources import TOP, TOP_CRATE, sum_of_files
 from rooms import bring, list_crates
 from toolchain import Call
 
-# What the toolchain said in this build, and what the crates took that were proved in it.
-LOG, TOOK = (f"{TOP}/out/{it}" for it in ("log", "weights"))
+# What the toolchain said in this build.
+LOG = f"{TOP}/out/log"
 # The program where the toolchain links it, below the folder whose crates it has proved.
 LINKED = f"crates/{TOP_CRATE}/out/{TOP_CRATE}"
-# What it says once a crate is done, or that it isn't proved; and what is worth to be passed on.
-PROVED = re.compile(r"rt: (\w+) proved$")
-KEPT = re.compile(r"rt: (\w+) is kept: ")
+# What it says once a crate is proved, now or before, or that it isn't; and what is worth to be passed on.
+PROVED = re.compile(r"rt: (\w+) (?:proved$|is kept: )")
 OPEN = re.compile(r"rt: (\w+)(?:: its tests are)? NOT PROVED")
 PASSED_ON = re.compile(r"rt: (.*(?:; waiting for it|so nothing is kept: the next run).*)$")
 # How many of its lines are shown where a build fails.
 LAST = 20
-# Until so much of the weights was proved, in seconds, a second here is taken for one of the table.
-PACED = 100.0
 
 
 class ProofFailed(Exception):
@@ -40,49 +36,31 @@ class ProofFailed(Exception):
         super().__init__(f"{what}; the last lines in {LOG}:\n" + "\n".join(lines[-LAST:]))
 
 
-def in_minutes(seconds: float) -> str:
-    return f"{int(seconds) // 60}:{int(seconds) % 60:02}"
-
-
 class Progress:
     """One line on a terminal that is written anew, and elsewhere one line a crate."""
 
-    def __init__(self, below: Mapping[str, Sequence[str]], seconds: Mapping[str, float], say: Callable[[str], None]) -> None:
-        self.below, self.seconds, self.say = below, seconds, say
-        self.done: list[str] = []
-        self.began = self.changed = time.monotonic()
-        self.rest = self.left = self.by_table()
-        # How much of the table was proved in this build.
-        self.proved = 0.0
-        self.told = -1
+    def __init__(self, crates: Collection[str], say: Callable[[str], None]) -> None:
+        self.crates, self.say = crates, say
+        self.done: set[str] = set()
+        self.began = time.monotonic()
         self.is_terminal = sys.stderr is not None and sys.stderr.isatty()
 
-    def by_table(self) -> float:
-        return weights.left(self.below, self.seconds, self.done, len(os.sched_getaffinity(0)))
+    def spent(self) -> str:
+        """How long the build has taken, in minutes and seconds."""
+        seconds = int(time.monotonic() - self.began)
+        return f"{seconds // 60}:{seconds % 60:02}"
 
-    def spent(self) -> float:
-        return time.monotonic() - self.began
+    def add(self, crate: str) -> None:
+        """Notes that a crate is proved."""
+        if crate in self.crates and crate not in self.done:
+            self.done.add(crate)
+            if not self.is_terminal:
+                self.say(f"proved {crate}, {len(self.done)} of {len(self.crates)}, {self.spent()} so far")
 
-    def add(self, crate: str, is_new: bool) -> None:
-        """Notes that a crate is done; what is left then goes by how fast that was which was proved in this build."""
-        if crate in self.below and crate not in self.done:
-            self.done.append(crate)
-            was, self.changed, self.rest = self.rest, time.monotonic(), self.by_table()
-            self.proved += (was - self.rest) * is_new
-            self.left = self.rest * (self.spent() / self.proved if self.proved >= PACED else 1.0)
-
-    def tell(self, working: Sequence[str]) -> None:
-        """Says which crates are proved, which are at work, and how much time is probably left."""
-        left = max(0.0, self.left - (time.monotonic() - self.changed))
-        times = f"{in_minutes(self.spent())} so far, some {in_minutes(left)} left"
-        at_work, count = ", ".join(working) or "none", len(self.below)
+    def tell(self) -> None:
+        """Says on a terminal how many crates are proved."""
         if self.is_terminal:
-            self.show(f"coverage: {len(self.done)} of {count} proved, {times}; at work: {at_work}")
-            return
-        for number in range(self.told + 1, len(self.done) + 1):
-            proved = f"proved {self.done[number - 1]}, " if number else ""
-            self.say(f"{proved}{number} of {count}, {times}; at work: {at_work}")
-        self.told = len(self.done)
+            self.show(f"coverage: {len(self.done)} of {len(self.crates)} crates proved, {self.spent()} so far")
 
     def show(self, text: str) -> None:
         """Writes the line anew on the terminal, which cuts it at its edge, and may be gone."""
@@ -102,10 +80,7 @@ class Proving:
         self.at, self.say = at, say
         files = bring(at)
         self.of_sources = sum_of_files(files, at)
-        below = list_crates(at)
-        sizes = {it: sum(os.path.getsize(file) for file in files if file.startswith(f"{at}/crates/{it}/")) for it in below}
-        self.progress = Progress(below, weights.weigh(sizes, weights.read()), say)
-        self.new: set[str] = set()
+        self.progress = Progress(list_crates(at), say)
         # What the toolchain said last: it says all of a crate at once, behind a line with its name.
         self.said: list[str] = []
 
@@ -119,16 +94,10 @@ class Proving:
                     log.flush()
                     for line in lines:
                         self.take(line)
-                    working = call.look()
-                    # Behind a crate that is done others begin.
-                    if not lines:
-                        self.progress.tell(working)
-            self.progress.tell([])
+                    self.progress.tell()
         finally:
             call.end()
             self.progress.clear()
-        seconds = call.seconds()
-        weights.write(TOOK, {it: seconds[it] for it in self.progress.below if it in self.new and it in seconds})
         if call.process.returncode or not os.path.isfile(f"{self.at}/{LINKED}"):
             raise ProofFailed("the build failed", self.said)
 
@@ -137,24 +106,11 @@ class Proving:
         if line.startswith("== "):
             self.said.clear()
         self.said.append(line)
-        proved, kept, is_open, said = (it.match(line) for it in (PROVED, KEPT, OPEN, PASSED_ON))
+        proved, is_open, said = (it.match(line) for it in (PROVED, OPEN, PASSED_ON))
         if is_open:
             raise ProofFailed(f"the build of {is_open[1]} failed", self.said)
-        if kept:
-            self.progress.add(kept[1], False)
         if proved:
-            self.progress.add(proved[1], True)
-            self.new.add(proved[1])
+            self.progress.add(proved[1])
         if said:
             self.progress.clear()
             self.say(said[1])
-
-
-def make_table() -> str:
-    """Makes the table of what the last build in this checkout took, and tells for which crates the row is older or missing."""
-    took, was, below = weights.read(TOOK), weights.read(), list(crates())
-    table = {it: took.get(it) or was.get(it) for it in below}
-    weights.write(weights.TABLE, {it: has for it, has in table.items() if has})
-    old = [it for it in table if it not in took]
-    new = len(table) - len(old)
-    return f"{weights.TABLE}: {new} crates as they were built here from nothing; not so: {', '.join(old) or 'none'}"

@@ -1,4 +1,4 @@
-"""One call of the toolchain: its lines as they come, what its processes are at, and its end."""
+"""One call of the toolchain: its lines as they come, and its end."""
 from __future__ import annotations
 
 import contextlib
@@ -10,22 +10,20 @@ import subprocess
 import time
 from typing import Iterator, Sequence
 
-# How often the processes are looked at, in seconds.
+# The longest time between two looks at the lines, in seconds.
 LOOK = 1.0
 # How long they have to end, in seconds, once they were told to.
 PATIENCE = 10.0
 DIES_WITH_PARENT = 1
 
 
-def of_session(session: int) -> Iterator[tuple[int, int, float]]:
-    """Each process of a session: its number, its parent's, and the seconds of processor time that it has taken with
-    those of its children that have ended."""
-    tick = os.sysconf("SC_CLK_TCK")
+def of_session(session: int) -> Iterator[int]:
+    """The numbers of a session's processes."""
     for name in filter(str.isdigit, os.listdir("/proc")):
         with contextlib.suppress(OSError, ValueError, IndexError), open(f"/proc/{name}/stat", encoding="utf-8") as file:
             words = file.read().rpartition(")")[2].split()
             if words[0] != "Z" and int(words[3]) == session:
-                yield int(name), int(words[1]), sum(map(int, words[11:15])) / tick
+                yield int(name)
 
 
 class Call:
@@ -51,9 +49,6 @@ class Call:
         if signal.getsignal(signal.SIGTSTP) is signal.SIG_DFL:
             signal.signal(signal.SIGTSTP, self.pause)
         self.alive.append(self)
-        self.crates: dict[int, str] = {}
-        # The seconds of processor time of each process that has worked on a crate.
-        self.taken: dict[int, float] = {}
 
     def lines(self) -> Iterator[list[str]]:
         """The lines that came since the last look, each second or sooner, until it has ended."""
@@ -68,34 +63,6 @@ class Call:
             if is_last:
                 self.process.wait()
                 return
-
-    def look(self) -> list[str]:
-        """The crates that it works on now."""
-        found = {}
-        for number, parent, seconds in of_session(self.process.pid):
-            crate = self.crate_of(number)
-            # What a copy of such a process takes comes to the one that made it.
-            if crate and not self.crate_of(parent):
-                found[number] = crate
-                self.taken[number] = max(seconds, self.taken.get(number, 0))
-        self.crates.update(found)
-        return sorted({*found.values()})
-
-    def crate_of(self, number: int) -> str:
-        """The crate that a process works on; '' where it is none of those."""
-        try:
-            with open(f"/proc/{number}/cmdline", encoding="utf-8", errors="replace") as file:
-                words = file.read().split("\0")
-            return words[words.index("--crate-name") + 1]
-        except (OSError, ValueError, IndexError):
-            return ""
-
-    def seconds(self) -> dict[str, float]:
-        """The seconds of processor time that each crate has taken."""
-        found: dict[str, float] = {}
-        for number, crate in self.crates.items():
-            found[crate] = found.get(crate, 0) + self.taken[number]
-        return found
 
     def pause(self, _number: int, _frame: object) -> None:
         """Stops with all that is at work, and goes on with it, as a terminal's Ctrl-Z asks."""
@@ -117,7 +84,7 @@ class Call:
                 self.process.send_signal(number)
             until = time.monotonic() + PATIENCE
             while time.monotonic() < until:
-                rest = [it for it, _, _ in of_session(self.process.pid)]
+                rest = list(of_session(self.process.pid))
                 if self.process.poll() is not None and not rest:
                     return
                 if number == signal.SIGKILL:
