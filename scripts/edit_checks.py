@@ -37,6 +37,8 @@ OPEN = re.compile(r"`search` did not prove")
 GOAL = re.compile(r"note: \S+: it is not proved that ")
 STANDS_ON = re.compile(r"it stands on (.*?), which antt refuses")
 BY_A_CALL = re.compile(r"it calls|it passes|a call of")
+# What a note says where values are known that make a goal false.
+IS_FALSE = "at which this goal is false"
 # A line on a place: its file, its line, and what is said of it.
 PLACE = re.compile(r"(?:note: )?(?:\./)?(\S+?):(\d+):\d+: (.*)")
 # Of a place: that a name is gone, that something isn't of its language, or what only follows from another fault.
@@ -184,7 +186,9 @@ def judge(lines: Sequence[str], crate: str, function: str) -> Verdict:
     told = "; ".join(f"{it}: {said[it]}" for it in left)
     faults = [fault for it in left for fault in refused_parts(lines, crate, said[it])]
     wrong = [it[0] for it in faults if not OF_A_NAME.search(it[3]) and not LIMIT.search(it[3])]
-    goal = next((it for it in [*wrong, *(note for it in left for note in goals[it])]), told if OPEN.search(told) else "")
+    # (an answer by hand is refused for a false goal and for another form of a true one alike)
+    are_open = sorted([*wrong, *(note for it in left for note in goals[it])], key=lambda it: IS_FALSE not in it)
+    goal = next(iter(are_open), told if OPEN.search(told) else "")
     if goal:
         return Verdict(REFUSED, goal)
     if LIMIT.search(told) or any(LIMIT.search(it[3]) for it in faults):

@@ -1,18 +1,21 @@
-"""Edits: wrong bodies of crates, which the prover must refuse, as their files say them, and the functions that they change."""
+"""Edits: wrong bodies of crates, which the prover must refuse, as a file of each crate lists them, and the functions that they
+change."""
 from __future__ import annotations
 
 import os
 import re
-from dataclasses import dataclass
+from dataclasses import dataclass, field
+from functools import cache
 from typing import Iterator, Mapping, Optional
 
-from command import read_file
-from crate_sources import TOP
+from command import Fault, read_file
+from crate_sources import TOP, crates
 
-# The folders of a crate's edits: those that the gate tries, and the others.
-GATE, MORE = "edits", "more-edits"
+# The file of a crate's edits, and the words with which they begin: those that the gate tries, and the others.
+FILE, GATE, MORE = "wrong-bodies.txt", "gate", "more"
 # Where a crate's tests stand.
 TESTS = ("src/tests.rt", "src/tests/")
+NAME = re.compile(r"\w+")
 # A line that begins an item, by the layout of `rt fmt`: what it is, and its name.
 ITEM = re.compile(
     r" *(?:(?:pub(?:\([^)]*\))?|const|final|unsafe) )*"
@@ -21,6 +24,9 @@ ITEM = re.compile(
 # What goes on with an item's head that has more than one line, in the column of its first.
 GOES_ON = re.compile(r" *(?:[{)\]>]|where\b)")
 WORD = re.compile(r"'\w+|\w+|::|->|\S")
+# A clause of a contract that has a name, and what a file of specs/ says of a published constant.
+CLAUSE = re.compile(r"\b(?:ensures|requires) (\w+) \{")
+PUBLISHED = re.compile(r"^pub \w+ : (\w+) ≡ ", re.MULTILINE)
 # Words of a type that its name doesn't have.
 LEFT_OUT = ("mut", "dyn", "const", "for")
 
@@ -29,46 +35,58 @@ class Unfit(Exception):
     """Why an edit can't be applied to the crate as it stands, or whose proof it is to break isn't known."""
 
 
-@dataclass(frozen=True)
+@dataclass(eq=False)
 class Edit:
-    """An edit by its place."""
+    """A wrong body of a crate."""
 
     crate: str
+    # The word before its name: GATE or MORE.
     kind: str
     name: str
+    # The clause that is false of it, where its line says so.
+    breaks: str = ""
+    # The functions that its lines name, as `rt check` prints them, below their crate.
+    functions: list[str] = field(default_factory=list)
+    # Each file of the crate in which a text is replaced, that text, and what it is replaced by, in order.
+    changes: list[tuple[str, str, str]] = field(default_factory=list)
+    # While it is read: the file, and the text that is to be replaced next.
+    file: str = ""
+    old: str = ""
 
     @property
-    def path(self) -> str:
-        """Its file, below the top."""
-        return f"crates/{self.crate}/{self.kind}/{self.name}.edit"
+    def place(self) -> str:
+        return f"crates/{self.crate}/{FILE}: {self.name}"
 
-    def text(self) -> str:
-        return read_file(f"{TOP}/{self.path}").decode(errors="replace")
-
-    def changes(self) -> Iterator[tuple[str, str, str]]:
-        """Each file of the crate in which a text is replaced, that text, and what it is replaced by, in order."""
-        file = old = ""
-        for line in self.text().split("\n"):
-            if line.startswith("file: "):
-                file = line[len("file: "):].strip()
-            elif line.startswith("old: "):
-                old = line[len("old: "):]
-            elif line.startswith("new:"):
-                if not file or not old:
-                    raise Unfit("new: stands before file: or old:")
-                yield file, old, line[len("new:"):].removeprefix(" ")
-                old = ""
-
-    def named(self) -> list[str]:
-        """The functions that the edit itself names, as `rt check` prints them, below their crate."""
-        return [line[len("function: "):].strip() for line in self.text().split("\n") if line.startswith("function: ")]
+    def takes(self, word: str, text: str) -> bool:
+        """Takes a line of it, by its word and what follows that; whether it is one, in its place."""
+        if word == "breaks":
+            self.breaks = text
+        elif word == "function":
+            self.functions.append(text)
+        elif word == "file" and not self.old:
+            self.file = text
+        elif word == "old" and self.file and text and not self.old:
+            self.old = text
+        elif word == "new" and self.old:
+            self.changes.append((self.file, self.old, text))
+            self.old = ""
+        else:
+            return False
+        return True
 
 
-def edits_of(crate: str, kind: str) -> list[Edit]:
-    """The crate's edits of that folder, in order."""
-    at = f"{TOP}/crates/{crate}/{kind}"
-    names = sorted(os.listdir(at)) if os.path.isdir(at) else []
-    return [Edit(crate, kind, it.removesuffix(".edit")) for it in names if it.endswith(".edit")]
+def edits_of(crate: str) -> list[Edit]:
+    """The crate's edits, in order; none where it has no file of them."""
+    path, found, edit = f"crates/{crate}/{FILE}", dict[str, Edit](), None
+    lines = read_file(f"{TOP}/{path}").decode(errors="replace").split("\n") if os.path.isfile(f"{TOP}/{path}") else []
+    for number, line in enumerate(lines, 1):
+        word, _, text = line.partition(":")
+        text = text.removeprefix(" ")
+        if word in (GATE, MORE) and NAME.fullmatch(text) and text not in found:
+            edit = found[text] = Edit(crate, word, text)
+        elif line and not line.startswith("#") and not (edit and edit.takes(word, text)):
+            raise Fault(f"{path}:{number}", f"is no line of an edit, or not in its place, or its name is another's too: {line}")
+    return list(found.values())
 
 
 @dataclass
@@ -83,10 +101,13 @@ class Applied:
 def applied(edit: Edit, top: str = TOP, to: Optional[Mapping[str, str]] = None) -> Applied:
     """Applies an edit to its crate as it stands below a folder, or as other edits have changed it: each text that is to be replaced
     is one line's, and stands once in its file."""
-    texts, found, lines = dict(to or {}), edit.named(), set()
-    is_derived, has_changed = not found, False
-    for file, old, new in edit.changes():
-        whole = f"{top}/crates/{edit.crate}"
+    texts, found, lines = dict(to or {}), list(edit.functions), set()
+    is_derived, has_changed, whole = not found, False, f"{top}/crates/{edit.crate}"
+    if edit.old:
+        raise Unfit(f"no new: follows its last old: {edit.old.strip()}")
+    if edit.breaks and not any(edit.breaks in clauses(f"{top}/crates/{it}") for it in crates(edit.crate, top=top)):
+        raise Unfit(f"no contract has a clause {edit.breaks}, which is to break")
+    for file, old, new in edit.changes:
         if not os.path.isfile(f"{whole}/{file}"):
             raise Unfit(f"there is no file {file}")
         text = texts.get(file) or read_file(f"{whole}/{file}").decode(errors="replace")
@@ -94,6 +115,9 @@ def applied(edit: Edit, top: str = TOP, to: Optional[Mapping[str, str]] = None) 
             raise Unfit(f"the text of old: stands {text.count(old)} times in {file}, and not once: {old.strip()}")
         # (its first words tell better where it stands than the space before them)
         at = text.index(old) + len(old) - len(old.lstrip())
+        constant = next(((it[1] for it in items_around(text.split("\n"), text.count("\n", 0, at)) if it[0] == "const")), "")
+        if constant in published(whole):
+            raise Unfit(f"specs/Published.antt fixes {constant}, which a check of the crate sees, and none of a function")
         if is_derived:
             found.append(function_at(whole, file, text, at))
         lines.add((file, text.count("\n", 0, at) + 1))
@@ -101,6 +125,19 @@ def applied(edit: Edit, top: str = TOP, to: Optional[Mapping[str, str]] = None) 
     if not has_changed:
         raise Unfit("it changes nothing")
     return Applied(texts, list(dict.fromkeys(found)), lines)
+
+
+@cache
+def clauses(whole: str) -> frozenset[str]:
+    """The names of the clauses of a crate's contracts."""
+    return frozenset(name for _, text in sources_of(whole) for name in CLAUSE.findall(text))
+
+
+@cache
+def published(whole: str) -> frozenset[str]:
+    """The constants whose numbers a crate's specs/Published.antt fixes."""
+    path = f"{whole}/specs/Published.antt"
+    return frozenset(PUBLISHED.findall(read_file(path).decode(errors="replace")) if os.path.isfile(path) else ())
 
 
 def function_at(whole: str, file: str, text: str, at: int) -> str:

@@ -11,16 +11,17 @@ from build import FAILED, end_by_signal, toolchain
 from command import BAD_INPUT, Fault, UsageError, complain, run, write_output
 from crate_sources import TOP, crates, rows, sum_of
 from edit_checks import PARTS, PASSED, REFUSED, Making, Verdict, attempt, module, rounds, unedited
-from edit_files import GATE, MORE, TESTS, Edit, Unfit, applied, edits_of
+from edit_files import GATE, TESTS, Edit, Unfit, applied, edits_of
 from rooms import bring, list_crates, room
 from toolchain import Call
 
 USAGE = """\
 usage: python3 scripts/edits.py [--look | --all] [--here] [--unedited] [CRATE ..]
 
-Tries the edits of these crates or of all that the gate tries, those of crates/CRATE/edits; with --all those of
-crates/CRATE/more-edits too. Each is a wrong body, which the prover must refuse: of the function that it changes, or of
-those that its lines `function: PATH` name, a goal must stay open. What came of each is said.
+Tries the edits of these crates, or of all: those of crates/CRATE/wrong-bodies.txt that the gate tries, and with --all
+the others too. Each is a wrong body, which the prover must refuse: of the function that it changes, or of those that
+its lines `function: PATH` name, a goal must stay open. What came of each is said: of a refusal a goal that is open, and
+one that the prover knows to be false before the others.
 
 It needs the libraries of the crates below. With --here it takes those that `rt ci` has left in crates/*/out, where they
 are of the sources as they stand. Else it proves the crates and those below them in a copy, by `rt ci`, which takes what
@@ -29,8 +30,8 @@ below, or the toolchain has changed.
 
 The status is 0 where the prover refuses each for a goal; 1 where it lets one through, refuses one for a name alone, or
 gives no verdict, and where the crates themselves aren't proved; 2 where one can't be applied to the sources as they
-stand, or a name is no crate that has such edits, and then nothing is tried; 70 where the toolchain is missing. With
---look nothing is tried, and of all edits it is said which can't be applied.
+stand or isn't written as an edit is, or a name is no crate that has such edits, and then nothing is tried; 70 where the
+toolchain is missing. With --look nothing is tried, and of all edits it is said which can't be applied.
 
 With --unedited no edit is applied, and each of these functions must be proved: else the way in which they are checked,
 and no edit, would have it refused.
@@ -40,12 +41,12 @@ KEPT = f"{TOP}/out/edits"
 LAST = 20
 
 
-def chosen(names: Sequence[str], kinds: Sequence[str]) -> list[Edit]:
-    """The edits in these folders, of the crates of these names, or of all."""
-    found = {it: [edit for kind in kinds for edit in edits_of(it, kind)] for it in rows()}
+def chosen(names: Sequence[str], has_more: bool) -> list[Edit]:
+    """The edits that the gate tries, and the others where they are asked for, of the crates of these names, or of all."""
+    found = {it: [edit for edit in edits_of(it) if has_more or edit.kind == GATE] for it in rows()}
     for it in names:
         if not found.get(it):
-            raise Fault(it, f"is no crate with edits in {' or '.join(kinds)}")
+            raise Fault(it, f"is no crate with edits{'' if has_more else ' that the gate tries'}")
     return [edit for it in found if it in names or not names for edit in found[it]]
 
 
@@ -56,7 +57,7 @@ def look(edits: Sequence[Edit]) -> int:
         try:
             applied(edit)
         except Unfit as why:
-            complain(f"{edit.path}: {why}")
+            complain(f"{edit.place}: {why}")
             faults += 1
     return faults
 
@@ -81,7 +82,7 @@ class Sums:
         self.of_crates: dict[str, str] = {}
 
     def of(self, edit: Edit) -> str:
-        whole = hashlib.sha256(f"{self.toolchain}\n{edit.text()}\n".encode())
+        whole = hashlib.sha256(f"{self.toolchain}\n{edit.functions} {edit.changes}\n".encode())
         for it in crates(edit.crate, top=self.top):
             if it not in self.of_crates:
                 self.of_crates[it] = sum_of_crate(it, self.top)
@@ -91,7 +92,7 @@ class Sums:
 
 def kept(edit: Edit) -> str:
     """Where it is kept that an edit was refused."""
-    return f"{KEPT}/{edit.crate}.{edit.kind}.{edit.name}"
+    return f"{KEPT}/{edit.crate}.{edit.name}"
 
 
 def was_refused(edit: Edit, of: str) -> bool:
@@ -152,7 +153,8 @@ def attempt_all(edits: Sequence[Edit], here: bool, makes: Making) -> int:
     def tell(edit: Edit, verdict: Verdict) -> None:
         came[edit] = verdict
         kind = "as it must be" if verdict.kind == wanted == PASSED else verdict.kind
-        write_output(f"{edit.crate}/{edit.name}: {kind}: {verdict.why}\n".encode())
+        breaks = f" (breaks {edit.breaks})" if edit.breaks else ""
+        write_output(f"{edit.crate}/{edit.name}{breaks}: {kind}: {verdict.why}\n".encode())
         if verdict.kind == REFUSED:
             keep(edit, in_room.of(edit), verdict.why)
 
@@ -183,7 +185,7 @@ def main(words: list[str]) -> int:
         if signal.getsignal(number) != signal.SIG_IGN:
             signal.signal(number, end_by_signal)
     try:
-        edits = chosen(names, (GATE, MORE) if looks or "--all" in options else (GATE,))
+        edits = chosen(names, looks or "--all" in options)
         faults = look(edits)
         if looks:
             write_output(f"edits looked at: {len(edits)}; {faults} can't be applied\n".encode())

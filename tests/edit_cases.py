@@ -69,6 +69,9 @@ for it in only:
     found = {"gone": "`u` is not in scope", "spent": "antt ran out of the steps", "differs": "expected 1, found 2"}.get(word)
     if found:
         print(f"./proofs/{file}/Answers.antt:2:1: error: `x`: {found}")
+    if word == "false":
+        for at, more in enumerate(("", "; the facts known there allow values at which this goal is false", ""), 1):
+            print(f"note: src/lib.rt:{at}:5: it is not proved that so{more}")
     called = word.removeprefix("calls_")
     print(f"fn {name}::{it}: " + (
         "no holes" if word in ("good", "same") else f"depends on a hole in `{answers}`" if word == "upon" else
@@ -90,6 +93,7 @@ fn other() {
 pub fn first(
     a: u8,
 ) -> u8
+    ensures most { result ≤ 1 }
     ensures { result ≡ 1 }
 {
     let first = good;
@@ -126,17 +130,21 @@ def goal(path: str) -> str:
     return f"low::{path}: no proof: expected answers in ./proofs/{path.replace('::', '/')}/Answers.antt; `search` did not prove `x`"
 
 
+def listed(it: Copy, crate: str = "low", **edits: str) -> None:
+    """Lists these edits of a crate: one whose name begins with more_ isn't the gate's."""
+    of = {name: name.removeprefix("more_") for name in edits}
+    heads = {name: f"{'gate' if name == of[name] else 'more'}: {of[name]}" for name in edits}
+    it.write(f"crates/{crate}/wrong-bodies.txt", "# some\n" + "".join(f"\n{heads[name]}\n{text}" for name, text in edits.items()))
+
+
 def prepare(it: Copy, **edits: str) -> None:
-    """Gives the crate low its source, and these edits, which the gate tries."""
+    """Gives the crate low its source, and these edits."""
     for name, text in {"rt": RT, "rtlib.py": MODULE, "rattle": RATTLE}.items():
         it.write(f"bin/{name}", text)
         os.chmod(f"{it.at}/bin/{name}", 0o755)
     it.write("version", "pretended-kit\n")
     it.write("crates/low/src/lib.rt", SOURCE)
-    for kind in ("edits", "more-edits"):
-        os.makedirs(f"{it.at}/crates/low/{kind}", exist_ok=True)
-    for name, text in edits.items():
-        it.write(f"crates/low/edits/{name}.edit", text)
+    listed(it, **edits)
 
 
 def call(it: Copy, *words: str) -> Ran:
@@ -175,15 +183,16 @@ def are_named() -> None:
 def are_tried() -> None:
     """edits: a crate's edits stand in one check, each is judged by its own function, and those that pass are told"""
     with copy(LISTED) as it:
-        prepare(it, a=body("first", "wrong"), b=body("second", "differs"))
+        both = {"a": f"breaks: most\n{body('first', 'wrong')}", "b": body("second", "differs")}
+        prepare(it, **both)
         ran = well(call(it))
         second_path = "inner::PairFromFault::second"
         second = "proofs/inner/PairFromFault/second/Answers.antt:2:1: error: `x`: expected 1, found 2"
-        equal(said(ran), [f"low/a: refused: {goal('first')}", f"low/b: refused: ./{second}"])
+        equal(said(ran), [f"low/a (breaks most): refused: {goal('first')}", f"low/b: refused: ./{second}"])
         equal(last(ran), (0, "edits tried: 2; each was refused"))
         equal(it.lines("asked"), ["ci", "check low over a room: first inner::PairFromFault::second"])
         # The others are tried where they are asked for.
-        it.write("crates/low/more-edits/c.edit", body("first", "upon"))
+        listed(it, **both, more_c=body("first", "upon"))
         equal(well(call(it, "low")).output, b"edits tried: 2, 2 of them before; each was refused\n")
         ran = call(it, "--all", "low")
         equal(said(ran), ["low/c: LET THROUGH: low::first is still proved"])
@@ -191,9 +200,10 @@ def are_tried() -> None:
         # As it stands each function is proved.
         ran = well(call(it, "--all", "--unedited"))
         paths = ("first", second_path, "first")
-        equal(said(ran), [f"low/{name}: as it must be: low::{path} is still proved" for name, path in zip("abc", paths)])
+        names = ("a (breaks most)", "b", "c")
+        equal(said(ran), [f"low/{name}: as it must be: low::{path} is still proved" for name, path in zip(names, paths)])
         equal(last(ran), (0, "functions of edits looked at: 3; each was proved"))
-        equal((it.rooms(), sorted(os.listdir(f"{it.at}/crates/low"))), ([], ["edits", "more-edits", "src"]))
+        equal((it.rooms(), sorted(os.listdir(f"{it.at}/crates/low"))), ([], ["src", "wrong-bodies.txt"]))
 
 
 def are_told_apart() -> None:
@@ -202,7 +212,7 @@ def are_told_apart() -> None:
         ("gone", "REFUSED FOR A NAME ALONE: ./proofs/first/Answers.antt:2:1: error: `x`: `u` is not in scope"),
         ("spent", "NO VERDICT: ./proofs/first/Answers.antt:2:1: error: `x`: antt ran out of the steps"),
         ("unclear", "NO VERDICT: low::first: could not tell"),
-        ("nonsense", "REFUSED FOR A NAME ALONE: src/lib.rt:14:5: error: nonsense isn't in scope"),
+        ("nonsense", "REFUSED FOR A NAME ALONE: src/lib.rt:15:5: error: nonsense isn't in scope"),
         ("killed", "NO VERDICT: the check ended with status -9: "),
     ):
         with copy(LISTED) as it:
@@ -214,6 +224,14 @@ def are_told_apart() -> None:
             # What had no verdict is tried again.
             well_then = call(it, "low")
             equal(said(well_then), [f"low/a: {came}"])
+
+
+def false_goals_first() -> None:
+    """edits: of the goals that are open one is told that the prover knows to be false"""
+    with copy(LISTED) as it:
+        prepare(it, a=body("first", "false"))
+        note = "src/lib.rt:2:5: it is not proved that so; the facts known there allow values at which this goal is false"
+        equal(said(well(call(it))), [f"low/a: refused: {note}"])
 
 
 def stand_apart() -> None:
@@ -237,10 +255,15 @@ def are_named_by_themselves() -> None:
     with copy(LISTED) as it:
         prepare(it, a=constant)
         why = "src/lib.rt: its place is in no function, or in one within another: a line function: must say whose proof breaks"
-        refused(call(it), 2, f"crates/low/edits/a.edit: {why}\n")
-        it.write("crates/low/edits/a.edit", f"function: third\n{constant}")
+        refused(call(it), 2, f"crates/low/wrong-bodies.txt: a: {why}\n")
+        listed(it, a=f"function: third\n{constant}")
         ran = call(it)
         equal(said(ran), ["low/a: NO VERDICT: the check ended with status 1: error: `third` fits no function"])
+        # Of a published constant no function's proof tells.
+        os.mkdir(f"{it.at}/crates/low/specs")
+        it.write("crates/low/specs/Published.antt", "use some.{MOST}\n\npub most_is : MOST ≡ 1\nmost_is = refl\n")
+        why = "specs/Published.antt fixes MOST, which a check of the crate sees, and none of a function"
+        refused(call(it), 2, f"crates/low/wrong-bodies.txt: a: {why}\n")
 
 
 def are_kept() -> None:
@@ -248,9 +271,7 @@ def are_kept() -> None:
     with copy(LISTED) as it:
         prepare(it)
         it.write("crates/coverage_program/src/main.rt", "fn main() {\n    let main = good;\n}\n\nfn other() {\n    a\n}\n")
-        os.mkdir(f"{it.at}/crates/coverage_program/edits")
-        edit = "crates/coverage_program/edits/a.edit"
-        it.write(edit, body("main", "wrong", "main"))
+        listed(it, "coverage_program", a=body("main", "wrong", "main"))
 
         def checks() -> int:
             before = len(it.lines("asked"))
@@ -258,8 +279,13 @@ def are_kept() -> None:
             return len(it.lines("asked")) - before
 
         equal([checks(), checks()], [2, 0])
+        listed(it, "coverage_program", a=body("main", "worse", "main"))
+        equal([checks(), checks()], [2, 0])
+        # (what else is said of it, and of others, changes nothing)
+        listed(it, "coverage_program", more_b=body("main", "bad", "main"), a=f"\n# more\n{body('main', 'worse', 'main')}")
+        equal(checks(), 0)
         for name, text, count in (
-            (edit, body("main", "worse", "main"), 2), ("crates/low/src/lib.rt", "fn other() {}\n", 2),
+            ("crates/low/src/lib.rt", "fn other() {}\n", 2),
             ("crates/low/src/tests.rt", "", 0), ("crates/coverage_program/src/other.rt", "", 2), ("version", "a newer kit\n", 2),
             ("crates/other/src/lib.rt", "", 0),
         ):
@@ -274,7 +300,7 @@ def are_here() -> None:
         library = f"{it.at}/crates/low/out/rlib/low.rlib"
 
         def over() -> str:
-            it.write("crates/low/edits/a.edit", f"{body('first', 'wrong')}# {os.urandom(4).hex()}\n")
+            listed(it, a=body("first", f"wrong_{os.urandom(4).hex()}"))
             well(call(it, "--here"))
             return it.lines("asked")[-1].partition(" over ")[2].partition(":")[0]
 
@@ -295,22 +321,32 @@ def are_refused() -> None:
         prepare(it, a=first)
         for words in (["--x"], ["low", "--look"], ["--look", "--all"], ["--here", "--all"]):
             refused(call(it, *words), 1, "usage: python3 scripts/edits.py [--look | --all] [--here] [--unedited] [CRATE ..]\n")
-        refused(call(it, "low", "other"), 2, "coverage: other: is no crate with edits in edits\n")
-        refused(call(it, "--all", "other"), 2, "coverage: other: is no crate with edits in edits or more-edits\n")
-        it.write("crates/low/more-edits/b.edit", first)
+        refused(call(it, "low", "other"), 2, "coverage: other: is no crate with edits that the gate tries\n")
+        refused(call(it, "--all", "other"), 2, "coverage: other: is no crate with edits\n")
+        listed(it, a=first, more_b=first)
         equal(well(call(it, "--look")).output, b"edits looked at: 2; 0 can't be applied\n")
         for text, why in (
             (first.replace("good", "none"), "the text of old: stands 0 times in src/lib.rt, and not once: let first = none;"),
             (first + "old: let\nnew: e\n", "the text of old: stands 6 times in src/lib.rt, and not once: let"),
             (first.replace("lib.rt", "main.rt"), "there is no file src/main.rt"),
-            ("old: one\nnew: two\n", "new: stands before file: or old:"), ("a word\n", "it changes nothing"),
+            (first.partition("new:")[0], "no new: follows its last old: let first = good;"), ("", "it changes nothing"),
             (first.replace("wrong", "good"), "it changes nothing"),
+            (f"breaks: least\n{first}", "no contract has a clause least, which is to break"),
         ):
-            it.write("crates/low/edits/a.edit", text)
-            refused(call(it), 2, f"crates/low/edits/a.edit: {why}\n")
+            listed(it, a=text, more_b=first)
+            refused(call(it), 2, f"crates/low/wrong-bodies.txt: a: {why}\n")
             equal(call(it, "--look", "low").output, b"edits looked at: 2; 1 can't be applied\n")
+        # Each line must be one of an edit, in its place, and each name another.
+        for text, number, line in (
+            ("gate: a\na word\n", 2, "a word"), (f"gate: a\n{first}gate: a\n", 5, "gate: a"), (first, 1, "file: src/lib.rt"),
+            ("gate: a\nold: one\n", 2, "old: one"), ("gate: a\nfile: one\nnew: two\n", 3, "new: two"),
+            ("gate: a\nfile: one\nold: one\nold: two\n", 4, "old: two"), ("gate: a/b\n", 1, "gate: a/b"),
+        ):
+            it.write("crates/low/wrong-bodies.txt", text)
+            why = f"is no line of an edit, or not in its place, or its name is another's too: {line}"
+            refused(call(it, "--look"), 2, f"coverage: crates/low/wrong-bodies.txt:{number}: {why}\n")
         equal(it.lines("asked"), [])
-        it.write("crates/low/edits/a.edit", first)
+        listed(it, a=first)
         it.write("open", "")
         why = "the crates themselves: are not proved; the last lines of what the toolchain said:\nrt: low NOT PROVED\n"
         refused(call(it), 1, why)
@@ -326,7 +362,7 @@ def ways_to_hold(it: Copy) -> Iterator[None]:
     it.write("hold-ci", "")
     yield
     os.remove(f"{it.at}/hold-ci")
-    it.write("crates/low/edits/a.edit", body("first", "held"))
+    listed(it, a=body("first", "held"))
     yield
 
 
@@ -344,12 +380,12 @@ def is_ended() -> None:
                     output, error = started.communicate(timeout=SECONDS)
                 equal((started.returncode, output, error, len(it.rooms())), (status, b"", b"", left))
                 os.remove(f"{it.at}/held")
-            it.write("crates/low/edits/a.edit", body("first", "wrong"))
+            listed(it, a=body("first", "wrong"))
             well(call(it))
             equal(it.rooms(), [])
 
 
 CHECKS = [
-    can_be_applied, are_named, are_tried, are_told_apart, stand_apart, are_named_by_themselves, are_kept, are_here, are_refused,
-    is_ended,
+    can_be_applied, are_named, are_tried, are_told_apart, false_goals_first, stand_apart, are_named_by_themselves, are_kept,
+    are_here, are_refused, is_ended,
 ]
