@@ -148,7 +148,7 @@ class Check:
         found: dict[Edit, Verdict] = {}
         again: list[list[Edit]] = []
         for edit, alone in self.edits.items():
-            came = [judge(lines, self.crate, it) for it in alone.functions]
+            came = [judge(lines, self.crate, it, edit.breaks) for it in alone.functions]
             best = next(it for kind in (REFUSED, NO_VERDICT, FOR_A_NAME, PASSED) for it in came if it.kind == kind)
             # Beside a function that isn't proved either it says little of one that calls it.
             if best.kind != REFUSED and len(self.edits) > 1 and any(BY_A_CALL.search(it.why) for it in came):
@@ -173,8 +173,9 @@ class Check:
         return {**found, **{it: Verdict(kind, f"the check ended with status {status}: {first}") for it in rest}}, []
 
 
-def judge(lines: Sequence[str], crate: str, function: str) -> Verdict:
-    """What a check says of a function, and of the closures in it."""
+def judge(lines: Sequence[str], crate: str, function: str, breaks: str) -> Verdict:
+    """What a check says of a function, and of the closures in it: of goals that are open one that is known to be false before the
+    others, and then one of the clause that is to break."""
     whole = f"{crate}::{function}"
     said, goals = by_function(lines)
     own = [it for it in said if it == whole or f"{it.replace('::fn::', '::')}::".startswith(f"{whole}::")]
@@ -187,7 +188,8 @@ def judge(lines: Sequence[str], crate: str, function: str) -> Verdict:
     faults = [fault for it in left for fault in refused_parts(lines, crate, said[it])]
     wrong = [it[0] for it in faults if not OF_A_NAME.search(it[3]) and not LIMIT.search(it[3])]
     # (an answer by hand is refused for a false goal and for another form of a true one alike)
-    are_open = sorted([*wrong, *(note for it in left for note in goals[it])], key=lambda it: IS_FALSE not in it)
+    are_open = [*wrong, *(note for it in left for note in goals[it])]
+    are_open.sort(key=lambda it: (IS_FALSE not in it, f"clause-{breaks}`" not in it))
     goal = next(iter(are_open), told if OPEN.search(told) else "")
     if goal:
         return Verdict(REFUSED, goal)

@@ -77,7 +77,8 @@ class Edit:
 
 def edits_of(crate: str) -> list[Edit]:
     """The crate's edits, in order; none where it has no file of them."""
-    path, found, edit = f"crates/{crate}/{FILE}", dict[str, Edit](), None
+    path, found = f"crates/{crate}/{FILE}", dict[str, Edit]()
+    edit: Optional[Edit] = None
     lines = read_file(f"{TOP}/{path}").decode(errors="replace").split("\n") if os.path.isfile(f"{TOP}/{path}") else []
     for number, line in enumerate(lines, 1):
         word, _, text = line.partition(":")

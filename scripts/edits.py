@@ -21,7 +21,7 @@ usage: python3 scripts/edits.py [--look | --all] [--here] [--unedited] [CRATE ..
 Tries the edits of these crates, or of all: those of crates/CRATE/wrong-bodies.txt that the gate tries, and with --all
 the others too. Each is a wrong body, which the prover must refuse: of the function that it changes, or of those that
 its lines `function: PATH` name, a goal must stay open. What came of each is said: of a refusal a goal that is open, and
-one that the prover knows to be false before the others.
+one that the prover knows to be false before the others, and then one of the clause that a line `breaks: CLAUSE` names.
 
 It needs the libraries of the crates below. With --here it takes those that `rt ci` has left in crates/*/out, where they
 are of the sources as they stand. Else it proves the crates and those below them in a copy, by `rt ci`, which takes what

@@ -69,9 +69,11 @@ for it in only:
     found = {"gone": "`u` is not in scope", "spent": "antt ran out of the steps", "differs": "expected 1, found 2"}.get(word)
     if found:
         print(f"./proofs/{file}/Answers.antt:2:1: error: `x`: {found}")
-    if word == "false":
-        for at, more in enumerate(("", "; the facts known there allow values at which this goal is false", ""), 1):
-            print(f"note: src/lib.rt:{at}:5: it is not proved that so{more}")
+    if word in ("open", "false"):
+        notes = ["so (`bounds`)", "so (`returns-clause-mosts`)", "so (`returns-clause-most`)"]
+        notes += ["so (`returns`); the facts known there allow values at which this goal is false"] * (word == "false")
+        for note in notes:
+            print(f"note: src/lib.rt:2:5: it is not proved that {note}")
     called = word.removeprefix("calls_")
     print(f"fn {name}::{it}: " + (
         "no holes" if word in ("good", "same") else f"depends on a hole in `{answers}`" if word == "upon" else
@@ -227,11 +229,14 @@ def are_told_apart() -> None:
 
 
 def false_goals_first() -> None:
-    """edits: of the goals that are open one is told that the prover knows to be false"""
+    """edits: of the goals that are open one that is known to be false is told, or else one of the clause that is to break"""
     with copy(LISTED) as it:
-        prepare(it, a=body("first", "false"))
-        note = "src/lib.rt:2:5: it is not proved that so; the facts known there allow values at which this goal is false"
-        equal(said(well(call(it))), [f"low/a: refused: {note}"])
+        breaks = "breaks: most\n"
+        prepare(it, a=body("first", "open"), b=breaks + body("first", "open"), c=breaks + body("first", "false"))
+        goals = ("bounds`)", "returns-clause-most`)", "returns`); the facts known there allow values at which this goal is false")
+        names = ("a", "b (breaks most)", "c (breaks most)")
+        place = "src/lib.rt:2:5: it is not proved that so (`"
+        equal(said(well(call(it))), [f"low/{name}: refused: {place}{goal}" for name, goal in zip(names, goals)])
 
 
 def stand_apart() -> None:
