@@ -7,10 +7,10 @@ use Rattle.cov_base.specs.declared.shortage.NoMemory.{NoMemory}
 use Rattle.std.proofs.lemmas.Bool.Decides.{nat_tests}
 use Rattle.std.proofs.lemmas.List.{take_all}
 use Rattle.cov_base.specs.Meaning.{Visit}
-use Rattle.module_area.specs.Ended.{HasSets, HasTally}
+use Rattle.module_area.specs.Ended.{HasRace, HasSets, HasTally}
 use Rattle.module_area.specs.Meaning.{FinalsView, PlanView, window_at}
 use Rattle.module_area.specs.Notes.{Notes}
-use Rattle.module_area.specs.Rule.{IsPlan, is_controller}
+use Rattle.module_area.specs.Rule.{IsPlan, has_task, is_controller}
 use Rattle.module_area.proofs.Laws.{no_controller}
 use Rattle.module_area.specs.declared.tallies.Tally.{Tally}
 use Rattle.task_run.proofs.Laws.{IsReady, exact_set, exact_lifts}
@@ -43,8 +43,8 @@ planted_last plan t p is own = no_tag (nat_lt p (length plan.windows)) (window_a
     no_tag false w none = refl
 
 pub ends_area : (plan : PlanView) (walks : ℕ → Walk) (ended : Notes) (trace : List Visit) (f : FinalsView) → IsPlan plan → JoinsAll plan (after_planting plan) ended trace →
-    JoinsTasks plan walks plan.tasks (after_planting plan) ended → HasSets plan ended f → HasTally plan ended f → EndsArea plan walks trace f ended.tally
-ends_area plan walks ended trace f is observes joins sets tally =
+    JoinsTasks plan walks plan.tasks (after_planting plan) ended → HasSets plan ended f → HasTally plan ended f → HasRace ended → ((t : ℕ) → ended.given t ≡ has_task plan.tasks t) → EndsArea plan walks trace f ended.tally
+ends_area plan walks ended trace f is observes joins sets tally race given =
     let start : Notes = record (after_planting plan) { given = ended.given; out = ended.out } in
     let planted : (after_planting plan).tally.plants ≡ count_by (λ w. not (nat_eq w 0)) plan.windows =
     zero-add _ ∙ ap (count_by (λ w. not (nat_eq w 0))) (take_all (length plan.windows) plan.windows (omega arith)) in
@@ -53,7 +53,7 @@ ends_area plan walks ended trace f is observes joins sets tally =
       size = sets.size;
       sets = λ p h k. exact_set plan start ended trace f is (ready plan ended.given ended.out is) observes sets p h k;
       bounded = bounded plan walks (after_planting plan) ended f is joins sets;
-      exact = sets_exact plan walks ended f joins.fetches is joins.fetched sets;
+      exact = sets_exact plan walks ended f joins.fetches is joins.fetched sets race given joins.own;
       within = sets.within;
       over = sets.over;
       plants = joins.plants ∙ ap (λ (n : ℕ). n + opened_places plan walks) planted;
@@ -70,21 +70,21 @@ ends_area plan walks ended trace f is observes joins sets tally =
     never e = cc
 
 pub grows_by : (plan of_cells : PlanView) (walks : ℕ → Walk) (ended : Notes) (trace : List Visit) (f : FinalsView) (ledger ledger1 ledger2 : List Tally) (finals finals1 finals2 : List FinalsView) →
-    IsPlan plan → of_cells ≡ plan → JoinsAll plan (after_planting plan) ended trace → JoinsTasks plan walks plan.tasks (after_planting plan) ended → HasSets of_cells ended f → HasTally of_cells ended f →
+    IsPlan plan → of_cells ≡ plan → JoinsAll plan (after_planting plan) ended trace → JoinsTasks plan walks plan.tasks (after_planting plan) ended → HasSets of_cells ended f → HasTally of_cells ended f → HasRace ended → ((t : ℕ) → ended.given t ≡ has_task plan.tasks t) →
     ledger1 ≡ ledger → finals1 ≡ finals → ledger2 ≡ ledger1 ++ ended.tally ∷ [] → finals2 ≡ finals1 ++ f ∷ [] →
     GrowsBy plan walks trace ledger ledger2 finals finals2 f
-grows_by plan of_cells walks ended trace f ledger ledger1 ledger2 finals finals1 finals2 is same observes joins sets tally l1 f1 l2 f2 = record {
+grows_by plan of_cells walks ended trace f ledger ledger1 ledger2 finals finals1 finals2 is same observes joins sets tally race given l1 f1 l2 f2 = record {
   tally = ended.tally;
-  ends = ends_area plan walks ended trace f is observes joins (subst (λ (q : PlanView). HasSets q ended f) same sets) (subst (λ (q : PlanView). HasTally q ended f) same tally);
+  ends = ends_area plan walks ended trace f is observes joins (subst (λ (q : PlanView). HasSets q ended f) same sets) (subst (λ (q : PlanView). HasTally q ended f) same tally) race given;
   in_ledger = l2 ∙ ap (λ l. l ++ ended.tally ∷ []) l1;
   in_finals = f2 ∙ ap (λ l. l ++ f ∷ []) f1;
 }
 
 -- where the area was finished
 pub grows_if : (plan of_cells : PlanView) (walks : ℕ → Walk) (ended : Notes) (trace : List Visit) (r : Result FinalsView NoMemory) (ledger ledger1 ledger2 : List Tally) (finals finals1 finals2 : List FinalsView) →
-    IsPlan plan → of_cells ≡ plan → JoinsAll plan (after_planting plan) ended trace → JoinsTasks plan walks plan.tasks (after_planting plan) ended → IfOk r (HasSets of_cells ended) → IfOk r (HasTally of_cells ended) →
+    IsPlan plan → of_cells ≡ plan → JoinsAll plan (after_planting plan) ended trace → JoinsTasks plan walks plan.tasks (after_planting plan) ended → IfOk r (HasSets of_cells ended) → IfOk r (HasTally of_cells ended) → IfOk r (λ _. HasRace ended) → ((t : ℕ) → ended.given t ≡ has_task plan.tasks t) →
     ledger1 ≡ ledger → finals1 ≡ finals → IfOk r (λ _. ledger2 ≡ ledger1 ++ ended.tally ∷ []) → IfOk r (λ f. finals2 ≡ finals1 ++ f ∷ []) →
     IfOk r (λ f. GrowsBy plan walks trace ledger ledger2 finals finals2 f)
-grows_if plan of_cells walks ended trace (Ok f) ledger ledger1 ledger2 finals finals1 finals2 is same observes joins sets tally l1 f1 l2 f2 =
-    grows_by plan of_cells walks ended trace f ledger ledger1 ledger2 finals finals1 finals2 is same observes joins sets tally l1 f1 l2 f2
-grows_if plan of_cells walks ended trace (Err e) ledger ledger1 ledger2 finals finals1 finals2 is same observes joins sets tally l1 f1 l2 f2 = tt
+grows_if plan of_cells walks ended trace (Ok f) ledger ledger1 ledger2 finals finals1 finals2 is same observes joins sets tally race given l1 f1 l2 f2 =
+    grows_by plan of_cells walks ended trace f ledger ledger1 ledger2 finals finals1 finals2 is same observes joins sets tally race given l1 f1 l2 f2
+grows_if plan of_cells walks ended trace (Err e) ledger ledger1 ledger2 finals finals1 finals2 is same observes joins sets tally race given l1 f1 l2 f2 = tt

@@ -201,8 +201,9 @@ leaves plan walks t root n d is none first follows windows planted tied few =
 -- passes joined one after the other
 
 -- before any is joined
-pub joins_none : (plan : PlanView) (walks : ℕ → Walk) (old new : Notes) → ((s p : ℕ) (f : Fact) → new.marked s p f ≡ false) → new.tally ≡ old.tally → JoinsTasks plan walks [] old new
-joins_none plan walks old new unmarked same = record {
+pub joins_none : (plan : PlanView) (walks : ℕ → Walk) (old new : Notes) → ((s p : ℕ) (f : Fact) → new.marked s p f ≡ false) → new.tally ≡ old.tally → new.beats ≡ old.beats → JoinsTasks plan walks [] old new
+joins_none plan walks old new unmarked same own = record {
+  own = own;
   least = λ t s p f never. absurd cc;
   most = λ s p f m. absurd (both_ways (new.marked s p f) (unmarked s p f) m);
   last = λ t s p never. absurd cc;
@@ -249,6 +250,7 @@ joins_one plan walks tasks t old mid other is bears first j l =
       ];
       plants = omega (arith, planted, j.plants, l.plants);
       closes = omega (arith, closed, j.closes, l.closes);
+      own = j.own;
       fetches = with_task j.fetches t l.fetches;
       fetched = have_more plan walks tasks t mid other j.fetches l.fetches is bears first j.fetched l.fetched;
     }

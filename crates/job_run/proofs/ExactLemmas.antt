@@ -9,14 +9,15 @@ use Rattle.cov_base.specs.declared.facts.Fact.{Fact}
 use Rattle.cov_base.specs.declared.numbers.TaskNo.{TaskNo}
 use Rattle.cov_base.proofs.Laws.{same_fact-true, has_fact-none, has_fact-union, same_sets, is_of_kind-fact_of, has_fact-full_of}
 use Rattle.module_area.specs.declared.cells.Cell.{Cell}
-use Rattle.module_area.specs.Meaning.{PlanView, ControlledView, ControlView, kind_at, has_place, first_control, FinalsView, set_at}
+use Rattle.module_area.specs.Meaning.{PlanView, ControlledView, ControlView, kind_at, has_place, first_control, FinalsView, set_at, window_beats}
 use Rattle.module_area.specs.Rule.{IsPlan, has_task, is_controller}
-use Rattle.module_area.specs.Ended.{HasSets}
+use Rattle.module_area.specs.Ended.{HasRace, HasSets}
+use Rattle.module_area.specs.declared.parties.Beat.{Beat}
 use Rattle.module_area.specs.Notes.{Notes, bearer, keeps, split_notes, after_join}
 use Rattle.module_area.specs.Tied.{IsTied}
 use Rattle.module_area.proofs.Laws.{same_tests, any_shown, one_controller}
 use Rattle.task_run.specs.Answered.{known_tag, ArePairs, IsPair}
-use Rattle.task_run.specs.Meaning.{at_places, facts_under, is_under, tag_by, Walk}
+use Rattle.task_run.specs.Meaning.{at_places, facts_under, is_under, tag_by, Walk, beats_by}
 use Rattle.task_run.proofs.Laws.{has_fact-more, rises_all, rises_between, tag_last}
 use Rattle.task_run.specs.Controlled.{last_by, Follows}
 use Rattle.job_run.specs.Bounds.{HasFetched, HaveFetched}
@@ -62,6 +63,7 @@ has_fetched plan walks t root n d none tie f = record {
       ∙ (tag_last plan p split (first_control plan t) (walks t).calls ∙ ap (λ (tag : ℕ). tag_by plan p (first_control plan t) tag (walks t).calls) (first_tag (is_controller plan t p) (root.last p) its (none p)));
   shown = f.answered.shown;
   nothing_else = λ s p g m. elim (f.answered.nothing_else s p g m) [ inl before ↦ absurd (never before) | inr there ↦ there ];
+  beats = f.beats;
 }
   where
     split : Notes
@@ -95,6 +97,7 @@ have_none plan walks n unmarked = record {
   last = λ t p never. absurd cc;
   shown = λ s p f h. absurd (both_ways (has_fact no_facts f) (has_fact-none f) h);
   nothing_else = λ s p f m. absurd (both_ways (n.marked s p f) (unmarked s p f) m);
+  beats = λ t never. absurd cc;
 }
 
 -- the fetches with those of one task more
@@ -168,6 +171,7 @@ have_more plan walks tasks t mid other fetches own is bears none h l = record {
     | inl before ↦ or_left (has_fact (facts_met plan walks fetches s p tasks) f) (has_fact (under s p) f) (h.nothing_else s p f before)
     | inr now ↦ or_right (has_fact (facts_met plan walks fetches s p tasks) f) (has_fact (under s p) f) (l.nothing_else s p f now)
   ];
+  beats = λ u has. ap (λ (k : ℕ). if nat_eq u k then other.beats else mid.back u) bears ∙ by_back u (nat_eq u t) refl has;
 }
   where
     visits : ℕ → List Visit
@@ -175,6 +179,16 @@ have_more plan walks tasks t mid other fetches own is bears none h l = record {
 
     under : ℕ → ℕ → FactSet
     under s p = facts_under plan s p own (visits t)
+
+    beats : ℕ → List (ℕ × Cell) → List Beat
+    beats k xs = beats_by plan (first_control plan k) 0 (walks k).calls xs (visits k) []
+
+    by_back : (u : ℕ) (q : Bool) → nat_eq u t ≡ q → has_task (tasks ++ record { 0 = t } ∷ []) u ≡ true → (if q then other.beats else mid.back u) ≡ beats u (if q then own else fetches u)
+    by_back u true e has = l.beats ∙ ap (λ (k : ℕ). beats k own) (sym (eqb-true u t e))
+    by_back u false e has = elim (one_of tasks t u has) [
+      | inl there ↦ h.beats u there
+      | inr same ↦ absurd (both_ways (nat_eq u t) e (eq-eqb u t (sym same)))
+    ]
 
     by_task : (P : ℕ → List (ℕ × Cell) → Type 0) → P t own → ((u : ℕ) → has_task tasks u ≡ true → P u (fetches u)) → (u : ℕ) (q : Bool) → nat_eq u t ≡ q → has_task (tasks ++ record { 0 = t } ∷ []) u ≡ true → P u (if q then own else fetches u)
     by_task P now before u true e has = subst (λ (k : ℕ). P k own) (sym (eqb-true u t e)) now
@@ -212,8 +226,14 @@ fetched_place plan t calls (x ∷ xs) [] are i d l = absurd are
 fetched_place plan t calls (x ∷ xs) (v ∷ vs) are zero d l = are.0.exists
 fetched_place plan t calls (x ∷ xs) (v ∷ vs) are (suc i) d l = fetched_place plan t calls xs vs are.1 i d (omega (arith, l))
 
-pub sets_exact : (plan : PlanView) (walks : ℕ → Walk) (ended : Notes) (finals : FinalsView) (fetches : ℕ → List (ℕ × Cell)) → IsPlan plan → HaveFetched plan walks plan.tasks ended fetches → HasSets plan ended finals → IsExact plan walks finals
-sets_exact plan walks ended finals fetches is h sets = record {
+pub sets_exact : (plan : PlanView) (walks : ℕ → Walk) (ended : Notes) (finals : FinalsView) (fetches : ℕ → List (ℕ × Cell)) → IsPlan plan → HaveFetched plan walks plan.tasks ended fetches → HasSets plan ended finals
+    → HasRace ended → ((t : ℕ) → ended.given t ≡ has_task plan.tasks t) → ended.beats ≡ window_beats plan [] (length plan.windows) → IsExact plan walks finals
+sets_exact plan walks ended finals fetches is h sets race given own = record {
+  race = race.race;
+  is_race = race.is_race;
+  windows = race.root ∙ own;
+  parts = λ i d l. let t : ℕ = (get_or plan.tasks i d).0 in race.each t (given t ∙ its i d l) ∙ h.beats t (its i d l);
+  others = λ t none. race.others t (given t ∙ none);
   fetches = fetches;
   each = λ i d l. h.each (get_or plan.tasks i d).0 (its i d l);
   rising = λ i d l. h.rising (get_or plan.tasks i d).0 (its i d l);

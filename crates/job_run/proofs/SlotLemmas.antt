@@ -89,7 +89,7 @@ module _ {P : Type 0} (is_pass : P → Type 0) (notes : P → Notes) (plan : Pla
     out = λ t. ap (λ (n : Notes). n.out t) start;
     same = λ e. start ∙ sym (ap (λ (n : Notes). record (after_planting plan) { given = n.given; out = n.out }) start);
     observes = subst (λ (n : Notes). JoinsAll plan (after_planting plan) n []) (sym start) (Observes-none plan (after_planting plan));
-    joins = joins_none plan (walk_by course j places) (after_planting plan) (notes root) (λ s p f. ap (λ (n : Notes). n.marked s p f) start) (ap (λ (n : Notes). n.tally) start);
+    joins = joins_none plan (walk_by course j places) (after_planting plan) (notes root) (λ s p f. ap (λ (n : Notes). n.marked s p f) start) (ap (λ (n : Notes). n.tally) start) (ap (λ (n : Notes). n.beats) start);
     few = omega (arith, few);
   }
 
@@ -103,7 +103,7 @@ module _ {P : Type 0} (is_pass : P → Type 0) (notes : P → Notes) (plan : Pla
     same = λ e. is ∙ (ap (λ (n : Notes). after_split n t) (h.same refl) ∙ sym (ap (λ (n : Notes). record (after_planting plan) { given = n.given; out = n.out }) is));
     observes = subst (λ (n : Notes). JoinsAll plan (after_planting plan) n []) (sym (is ∙ ap (λ (n : Notes). after_split n t) (h.same refl))) (Observes-none plan _);
     joins = joins_none plan (walk_by course j places) (after_planting plan) (notes new) (λ s p f. ap (λ (n : Notes). n.marked s p f) (is ∙ ap (λ (n : Notes). after_split n t) (h.same refl)))
-        (ap (λ (n : Notes). n.tally) (is ∙ ap (λ (n : Notes). after_split n t) (h.same refl)));
+        (ap (λ (n : Notes). n.tally) (is ∙ ap (λ (n : Notes). after_split n t) (h.same refl))) (ap (λ (n : Notes). n.beats) (is ∙ ap (λ (n : Notes). after_split n t) (h.same refl)));
     few = omega (arith, h.few, ap (λ (n : Notes). calls n) is);
   }
     where

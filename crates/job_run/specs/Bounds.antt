@@ -8,7 +8,7 @@ use Rattle.module_area.specs.Meaning.{facts_at, first_control, PlanView, Control
 use Rattle.module_area.specs.Notes.{Notes, calls}
 use Rattle.module_area.specs.Rule.{has_task, is_controller}
 use Rattle.module_area.specs.declared.cells.Cell.{Cell}
-use Rattle.task_run.specs.Meaning.{at_places, facts_under, tag_by, places_in_all, Walk, least_set, last_control, opened_by, closed_by}
+use Rattle.task_run.specs.Meaning.{at_places, facts_under, tag_by, places_in_all, Walk, least_set, last_control, opened_by, closed_by, beats_by}
 use Rattle.task_run.specs.Observed.{IsRecorded}
 use Rattle.job_run.specs.Meaning.{AreFetches, facts_met}
 
@@ -45,6 +45,7 @@ pub record HasFetched (plan : PlanView) (walks : ℕ → Walk) (t : ℕ) (n : No
       → IsRecorded n s p f
   pub nothing_else : (s p : ℕ) (f : Fact) → n.marked s p f ≡ true
       → has_fact (facts_under plan s p fetches (at_places plan.places (walks t).trace)) f ≡ true
+  pub beats : n.beats ≡ beats_by plan (first_control plan t) 0 (walks t).calls fetches (at_places plan.places (walks t).trace) []
 
 -- What the pass of a task has after its run: of each of its own sessions the facts of the run while it is open, and no
 -- fact that the run doesn't show; no tag as high as that of an own session that it never opened; one plant for each place
@@ -78,6 +79,8 @@ pub record HaveFetched (plan : PlanView) (walks : ℕ → Walk) (tasks : List Ta
       → n.last p ≡ tag_by plan p (first_control plan t) 0 (walks t).calls
   pub shown : (s p : ℕ) (f : Fact) → has_fact (facts_met plan walks fetches s p tasks) f ≡ true → IsRecorded n s p f
   pub nothing_else : (s p : ℕ) (f : Fact) → n.marked s p f ≡ true → has_fact (facts_met plan walks fetches s p tasks) f ≡ true
+  pub beats : (t : ℕ) → has_task tasks t ≡ true
+      → n.back t ≡ beats_by plan (first_control plan t) 0 (walks t).calls (fetches t) (at_places plan.places (walks t).trace) []
 
 -- and what the root has once the passes of these tasks are joined to it
 pub record JoinsTasks (plan : PlanView) (walks : ℕ → Walk) (tasks : List TaskNo) (old new : Notes) : Type 0 where
@@ -91,3 +94,4 @@ pub record JoinsTasks (plan : PlanView) (walks : ℕ → Walk) (tasks : List Tas
       + sum_by (λ (t : TaskNo). places_in_all plan (closed_by (last_control plan walks t.0))) tasks
   pub fetches : ℕ → List (ℕ × Cell)
   pub fetched : HaveFetched plan walks tasks new fetches
+  pub own : new.beats ≡ old.beats

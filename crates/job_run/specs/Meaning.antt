@@ -1,12 +1,12 @@
 -- What the claim of the program says by this crate's clauses.
-use Rattle.std.specs.Prelude.{◌≡◌, ◌≢◌, ℕ, ◌+◌, ◌*◌, ◌<◌, ◌≤◌, true, not, nat_eq, Option, List, [], length, take, sum_by, count_by, All, AllPairs, Some, ◌∷◌, ◌++◌, get_or}
+use Rattle.std.specs.Prelude.{◌≡◌, ◌≢◌, ℕ, suc, ◌+◌, ◌*◌, ◌<◌, ◌≤◌, true, false, not, nat_eq, Option, List, [], length, take, sum_by, count_by, All, AllPairs, Some, ◌∷◌, ◌++◌, get_or}
 use Rattle.cov_base.specs.declared.facts.Fact.{Fact}
 use Rattle.cov_base.specs.declared.numbers.TaskNo.{TaskNo}
 use Rattle.cov_base.specs.Meaning.{has_fact, is_within, no_facts, union, Visit, FactSet}
-use Rattle.module_area.specs.Meaning.{fact_count, full_places, full_pairs, facts_at, visits_at_places, FinalsView, set_at, PlanView, ControlledView, place_of, kind_at, window_at, has_place, is_over, first_control, tag_session}
+use Rattle.module_area.specs.Meaning.{fact_count, full_places, full_pairs, facts_at, visits_at_places, FinalsView, set_at, PlanView, ControlledView, place_of, kind_at, window_at, has_place, is_over, first_control, tag_session, Race, IsRace, part, window_beats, has_task}
 use Rattle.module_area.specs.declared.cells.Cell.{Cell}
 use Rattle.module_area.specs.declared.tallies.Tally.{Tally}
-use Rattle.task_run.specs.Meaning.{Tour, visits_of, at_places, facts_under, tag_by, Walk, Course, solo, walk, IsBetween, least_set, most_set, opened_places, closed_places}
+use Rattle.task_run.specs.Meaning.{Tour, visits_of, at_places, facts_under, tag_by, Walk, Course, solo, walk, IsBetween, least_set, most_set, opened_places, closed_places, beats_by}
 use Rattle.module_area.specs.declared.places.Place.{Place}
 use Rattle.session_book.specs.Meaning.{JobView, ResultView, session_of}
 use Rattle.phase_plan.specs.Meaning.{of_task, session_set, traces_from, plan_view}
@@ -39,9 +39,11 @@ facts_met plan walks fetches s p [] = no_facts
 facts_met plan walks fetches s p (t ∷ ts) =
     union (facts_under plan s p (fetches t.0) (at_places plan.places (walks t.0).trace)) (facts_met plan walks fetches s p ts)
 
--- Each task has fetched once for each of its visits at places, and each set has exactly the facts of the visits whose fetch
--- answered the session's odd tag: so no visit counts in two sessions. The tags that one task's fetches answer at one place
--- never fall, and none is above the last that the place's controller has given it.
+-- There is a fetch for each visit of each task at places, such that each set has exactly the facts of the visits whose fetch
+-- answered the session's odd tag: so no visit counts in two sessions. All fetches and all givings of tags have one order, the
+-- race, in which each fetch answers the tag that its place was given last. The root gives the tags of the windows; a task's part
+-- of the race is, instruction by instruction, its fetches and then what its call gives; nobody else has a part. So the tags that
+-- one task's fetches answer at one place never fall, and none is above the last that the place's controller has given it.
 pub record IsExact (plan : PlanView) (walks : ℕ → Walk) (f : FinalsView) : Type 0 where
   pub fetches : ℕ → List (ℕ × Cell)
   pub each : All (λ t. AreFetches plan t.0 (walks t.0).calls (fetches t.0) (at_places plan.places (walks t.0).trace)) plan.tasks
@@ -50,6 +52,12 @@ pub record IsExact (plan : PlanView) (walks : ℕ → Walk) (f : FinalsView) : T
       → x.1.tag ≤ tag_by plan x.0 (first_control plan c.by) 0 (walks c.by).calls) plan.controlled) (fetches t.0)) plan.tasks
   pub sets : (s p : ℕ) → 0 < s → s ≤ plan.sessions → p < length plan.places
       → set_at f s p ≡ facts_met plan walks fetches s p plan.tasks
+  pub race : Race
+  pub is_race : IsRace race
+  pub windows : part 0 race ≡ window_beats plan [] (length plan.windows)
+  pub parts : All (λ t. part (suc t.0) race ≡ beats_by plan (first_control plan t.0) 0 (walks t.0).calls (fetches t.0)
+      (at_places plan.places (walks t.0).trace) []) plan.tasks
+  pub others : (t : ℕ) → has_task plan.tasks t ≡ false → part (suc t) race ≡ []
 
 -- The sets of whole sessions are what the trace shows, and those of controlled sessions lie between their bounds; all are
 -- exact by what the fetches answered. Where a session isn't over a place its set is empty there. Each place with a window

@@ -19,3 +19,4 @@ pub use Rattle.module_area.proofs.TieLemmas.{places_at, has_here, may_plant, may
 pub use Rattle.module_area.proofs.TieLemmas.{open_kept}
 pub use Rattle.module_area.proofs.TiedLemmas.{first_tied, tied_same}
 pub use Rattle.module_area.proofs.WordLemmas.{first_cell, zero_behind, starting_count}
+pub use Rattle.module_area.proofs.RaceLemmas.{begins_raced, still_raced, met_raced, beat_raced, split_raced, join_raced}

@@ -2,7 +2,7 @@
 use Rattle.std.specs.Prelude.{ℕ, ◌+◌, ◌-◌, ◌*◌, ◌==◌, if◌then◌else◌, Option, Some, None, List, length}
 use Rattle.cov_base.specs.declared.numbers.PlaceNo.{PlaceNo}
 use Rattle.cov_base.specs.declared.numbers.SessNo.{SessNo}
-use Rattle.module_area.specs.Meaning.{PlanView, has_place, ControlView, places_under, to_open}
+use Rattle.module_area.specs.Meaning.{PlanView, has_place, ControlView, places_under, to_open, gives}
 use Rattle.module_area.specs.Notes.{Notes}
 
 -- the pass once it planted, or closed, the session at all these places
@@ -10,6 +10,7 @@ abbrev pub after_plants : Notes → ℕ → List PlaceNo → Notes
 after_plants n s places = record n {
   seen = λ q. if has_place places q then 2 * s - 1 else n.seen q;
   last = λ q. if has_place places q then 2 * s - 1 else n.last q;
+  beats = gives (2 * s - 1) places n.beats;
   tally = record n.tally { plants = n.tally.plants + length places };
 }
 
@@ -17,6 +18,7 @@ abbrev pub after_closes : Notes → ℕ → List PlaceNo → Notes
 after_closes n s places = record n {
   seen = λ q. if has_place places q then 2 * s else n.seen q;
   last = λ q. if has_place places q then 2 * s else n.last q;
+  beats = gives (2 * s) places n.beats;
   tally = record n.tally { closes = n.tally.closes + length places };
 }
 

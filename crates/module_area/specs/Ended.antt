@@ -1,8 +1,8 @@
 -- The sets that an area ends with are those that its passes marked.
-use Rattle.std.specs.Prelude.{◌≡◌, ℕ, ◌+◌, ◌*◌, ◌<◌, ◌≤◌, true, length, sum_by}
+use Rattle.std.specs.Prelude.{◌≡◌, ℕ, ◌+◌, ◌*◌, ◌<◌, ◌≤◌, true, false, suc, [], length, sum_by}
 use Rattle.cov_base.specs.Meaning.{FactSet, has_fact, full_of, is_within}
 use Rattle.cov_base.specs.declared.facts.Fact.{Fact}
-use Rattle.module_area.specs.Meaning.{PlanView, kind_at, is_over, FinalsView, set_at, fact_count, full_places, full_pairs}
+use Rattle.module_area.specs.Meaning.{PlanView, kind_at, is_over, FinalsView, set_at, fact_count, full_places, full_pairs, Race, IsRace, part}
 use Rattle.module_area.specs.Notes.{Notes}
 
 -- what the notes know as final stands so
@@ -33,3 +33,11 @@ pub record HasTally (plan : PlanView) (notes : Notes) (finals : FinalsView) : Ty
   pub marks : sum_by fact_count finals.sets ≤ notes.tally.marks
   pub lifts_least : ((s p : ℕ) → notes.full s p ≡ true → notes.free s p ≡ true) → full_places plan finals ≤ notes.tally.lifts
   pub lifts_most : notes.tally.lifts ≤ full_pairs plan finals
+
+-- There is one race, in which each party's beats are its own ones in their order.
+pub record HasRace (notes : Notes) : Type 0 where
+  pub race : Race
+  pub is_race : IsRace race
+  pub root : part 0 race ≡ notes.beats
+  pub each : (t : ℕ) → notes.given t ≡ true → part (suc t) race ≡ notes.back t
+  pub others : (t : ℕ) → notes.given t ≡ false → part (suc t) race ≡ []

@@ -10,6 +10,7 @@ pub mod Notes
 pub mod Parties
 pub mod PlanView
 pub mod Planted
+pub mod Race
 pub mod Rule
 pub mod Standing
 pub mod Tied

@@ -1,7 +1,9 @@
 -- What the claim of the program says by this crate's clauses.
-use Rattle.std.specs.Prelude.{ℕ, List, get_or, Bool, ◌&&◌, ◌||◌, nat_eq, nat_lt, ◌+◌, ◌==◌, if◌then◌else◌, Option, Some, None, [], ◌∷◌, map, slice_get, zero, suc, ◌-◌, ◌*◌, length, ◌/◌, ◌++◌, take, drop, replicate, fold}
+use Rattle.std.specs.Prelude.{◌≡◌, ℕ, List, get_or, Bool, ◌&&◌, ◌||◌, nat_eq, nat_lt, ◌+◌, ◌==◌, if◌then◌else◌, Option, Some, None, [], ◌∷◌, map, slice_get, zero, suc, ◌-◌, ◌*◌, length, ◌/◌, ◌++◌, take, drop, replicate, fold}
 use Rattle.module_area.specs.declared.cells.Cell.{Cell}
 use Rattle.module_area.specs.declared.places.Place.{Place}
+use Rattle.module_area.specs.declared.parties.Beat.{Beat}
+use Rattle.module_area.specs.declared.parties.Beat.TheVariants.{Met, Gave}
 use Rattle.std.specs.List.{list_any, filter}
 use Rattle.cov_base.specs.declared.facts.Fact.{Fact}
 use Rattle.cov_base.specs.declared.facts.Kind.{Kind}
@@ -57,6 +59,9 @@ kind_at plan p = (place_of plan.places p).kind
 -- the whole session over the place, or 0
 abbrev pub window_at : PlanView → ℕ → ℕ
 window_at plan p = get_or plan.windows p 0
+
+abbrev pub has_task : List TaskNo → ℕ → Bool
+has_task tasks t = list_any (λ (u : TaskNo). nat_eq u.0 t) tasks
 
 -- the place is one of these
 abbrev pub has_place : List PlaceNo → ℕ → Bool
@@ -115,6 +120,47 @@ closing c = record c { opened = None }
 abbrev pub control_after : ControlView → Option ℕ → ControlView
 control_after c None = c
 control_after c (Some k) = if k == 4 then opening c (to_open c) else (if k == 5 then closing c else c)
+
+-- The race of an area: one order of all fetches and all givings of tags.
+
+-- who made each beat, 0 being the root and suc t the task t; the last first
+abbrev pub Race : Type 0
+Race = List (ℕ × Beat)
+
+-- the tag of place p after a beat, before which it had this one; and after all, where none was given it is 0
+abbrev pub tag_next : ℕ → ℕ → Beat → ℕ
+tag_next p tag (Met q x) = tag
+tag_next p tag (Gave q x) = if nat_eq q p then x else tag
+
+abbrev pub tag_in : ℕ → Race → ℕ
+tag_in p [] = 0
+tag_in p (e ∷ r) = tag_next p (tag_in p r) e.1
+
+-- each fetch answers the tag that its place was given last
+abbrev pub Finds : Race → Beat → Type 0
+Finds r (Met p x) = x ≡ tag_in p r
+Finds r (Gave p x) = Unit {0}
+
+abbrev pub IsRace : Race → Type 0
+IsRace [] = Unit {0}
+IsRace (e ∷ r) = IsRace r × Finds r e.1
+
+-- the beats of one party
+abbrev pub part : ℕ → Race → List Beat
+part k [] = []
+part k (e ∷ r) = if nat_eq e.0 k then e.1 ∷ part k r else part k r
+
+-- more beats: the same tag is given at these places, one after the other
+abbrev pub gives : ℕ → List PlaceNo → List Beat → List Beat
+gives tag [] bs = bs
+gives tag (p ∷ ps) bs = gives tag ps (Gave p.0 tag ∷ bs)
+
+-- and the tags of the windows of the first n places
+abbrev pub window_beats : PlanView → List Beat → ℕ → List Beat
+window_beats plan bs zero = bs
+window_beats plan bs (suc n) =
+    if nat_eq (window_at plan n) 0 then window_beats plan bs n
+    else Gave n (2 * window_at plan n - 1) ∷ window_beats plan bs n
 
 -- Counts of facts and of places.
 

@@ -6,6 +6,8 @@ use Rattle.cov_base.specs.declared.numbers.TaskNo.{TaskNo}
 use Rattle.cov_base.specs.declared.facts.Fact.{Fact}
 use Rattle.cov_base.specs.Meaning.{FactSet, with_fact, has_fact, is_full, is_within, full_of, same_fact, breakpoint}
 use Rattle.module_area.specs.declared.cells.Cell.{Cell}
+use Rattle.module_area.specs.declared.parties.Beat.{Beat}
+use Rattle.module_area.specs.declared.parties.Beat.TheVariants.{Met, Gave}
 use Rattle.module_area.specs.declared.tallies.Tally.{Tally}
 use Rattle.module_area.specs.Meaning.{PlanView, ControlledView, original_at, kind_at, window_at, has_place, is_over, is_controlled}
 use Rattle.module_area.specs.Rule.{is_controller}
@@ -39,6 +41,9 @@ pub record Notes : Type 0 where
   pub settled : ℕ → ℕ → FactSet → Bool
   -- the sets that its own marks and looks at sets found, the last first
   pub found : List FactSet
+  -- its fetches and the tags that it gave, the last first; for the root those of each task that has come back
+  pub beats : List Beat
+  pub back : ℕ → List Beat
   pub tally : Tally
   -- the task that it bears, or none for the root
   pub bears : Option ℕ
@@ -62,6 +67,8 @@ root_notes = record {
   noted = [];
   settled = λ s p x. false;
   found = [];
+  beats = [];
+  back = λ t. [];
   tally = no_tally;
   bears = None;
   given = λ t. false;
@@ -104,6 +111,7 @@ after_fetch plan n p cell = record n {
   seen = λ q. if nat_eq q p then cell.tag else n.seen q;
   pending = if nat_eq cell.half breakpoint then Some (p, cell.tag) else None;
   answered = n.answered ++ (p, cell) ∷ [];
+  beats = Met p cell.tag ∷ n.beats;
   tally = record n.tally { fetches = n.tally.fetches + 1 };
 }
 
@@ -126,6 +134,7 @@ abbrev pub after_plant : Notes → ℕ → ℕ → Notes
 after_plant n s p = record n {
   seen = λ q. if nat_eq q p then 2 * s - 1 else n.seen q;
   last = λ q. if nat_eq q p then 2 * s - 1 else n.last q;
+  beats = Gave p (2 * s - 1) ∷ n.beats;
   tally = record n.tally { plants = n.tally.plants + 1 };
 }
 
@@ -133,6 +142,7 @@ abbrev pub after_close : Notes → ℕ → ℕ → Notes
 after_close n s p = record n {
   seen = λ q. if nat_eq q p then 2 * s else n.seen q;
   last = λ q. if nat_eq q p then 2 * s else n.last q;
+  beats = Gave p (2 * s) ∷ n.beats;
   tally = record n.tally { closes = n.tally.closes + 1 };
 }
 
@@ -230,6 +240,7 @@ after_join plan n other = record n {
   out = λ u. n.out u && not (nat_eq u (bearer other));
   numbers = λ u. if nat_eq u (bearer other) then other.numbers u else n.numbers u;
   noted = other.noted ++ n.noted;
+  back = λ u. if nat_eq u (bearer other) then other.beats else n.back u;
   settled = λ s p x. n.settled s p x || other.settled s p x;
 }
 

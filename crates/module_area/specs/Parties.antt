@@ -40,6 +40,7 @@ joining plan v o = let t : ℕ = role_task o.role in record v {
   numbers = chosen (λ u. nat_eq u t) o.numbers ++ chosen (λ u. not (nat_eq u t)) v.numbers;
   noted = o.noted ++ v.noted;
   settled = o.settled ++ v.settled;
+  back = (t, o.beats) ∷ v.back;
 }
 
 -- A boundary of task t gave its word the number.

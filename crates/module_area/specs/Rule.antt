@@ -5,20 +5,19 @@ use Rattle.cov_base.specs.Meaning.{breakpoint, kind_of, FactSet, with_fact, is_f
 use Rattle.cov_base.specs.declared.limits.TheConstants.{PLACE_LIMIT, SESSION_LIMIT}
 use Rattle.cov_base.specs.declared.numbers.TaskNo.{TaskNo}
 use Rattle.cov_base.specs.declared.numbers.PlaceNo.{PlaceNo}
+pub use Rattle.module_area.specs.Meaning.{has_task}
 use Rattle.module_area.specs.Meaning.{ControlledView, PlanView, original_at, kind_at, window_at, has_place, tag_session, is_over, is_controlled}
 use Rattle.cov_base.specs.declared.facts.Fact.{Fact}
 use Rattle.module_area.specs.declared.cells.Cell.{Cell}
 use Rattle.module_area.specs.declared.parties.Role.{Role}
 use Rattle.module_area.specs.declared.parties.Role.TheVariants.{Task, Root, Spent}
 use Rattle.module_area.specs.declared.parties.View.{View}
+use Rattle.module_area.specs.declared.parties.Beat.TheVariants.{Met, Gave}
 use mathlib.Core.Option.{some}
 use lib.ListN.{get_elem?}
 use Rattle.cov_base.specs.FactKind.{is_of_kind}
 
 -- What every plan keeps.
-
-abbrev pub has_task : List TaskNo → ℕ → Bool
-has_task tasks t = list_any (λ u. nat_eq u.0 t) tasks
 
 -- the task opens and closes the sessions over the place
 abbrev pub is_controller : PlanView → ℕ → ℕ → Bool
@@ -108,6 +107,8 @@ blank r =
       noted = [];
       settled = [];
       found = [];
+      beats = [];
+      back = [];
     }
 
 -- A fetch at place p found the cell.
@@ -118,6 +119,7 @@ fetching plan p c v = record v {
   answered = v.answered ++ (p, c) ∷ [];
   full = add_if (is_lifted plan p c) (tag_session c.tag, p) v.full;
   free = add_if (is_lifted plan p c) (tag_session c.tag, p) v.free;
+  beats = Met p c.tag ∷ v.beats;
 }
 
 -- A mark of the fact for session s at place p found the set.
@@ -134,7 +136,7 @@ lifting s p exchanged v = record v { free = (s, p) ∷ v.free; lifted = add_if e
 
 -- It gave place p the tag, by planting or closing.
 abbrev pub tagging : ℕ → ℕ → View → View
-tagging p t v = record v { planted = (p, t) ∷ v.planted; seen = (p, t) ∷ v.seen }
+tagging p t v = record v { planted = (p, t) ∷ v.planted; seen = (p, t) ∷ v.seen; beats = Gave p t ∷ v.beats }
 
 abbrev pub planting : ℕ → ℕ → View → View
 planting s p v = tagging p (window_tag s) v

@@ -4,7 +4,7 @@ ghost use Rattle.std.specs.declared.option.Option.TheVariants.{None};
 ghost use Rattle.module_area.specs.declared.tallies.Tally.{Tally};
 ghost use Rattle.module_area.specs.Meaning.{FinalsView, set_at};
 ghost use Rattle.module_area.specs.Notes.{root_notes};
-ghost use Rattle.module_area.specs.Ended.{AreSettled, HasSets, HasTally};
+ghost use Rattle.module_area.specs.Ended.{AreSettled, HasRace, HasSets, HasTally};
 
 use crate::finals::Finals;
 use crate::plan::Plan;
@@ -57,6 +57,7 @@ pub trait Areas {
         ensures made { made self.new ≡ made self.old }
         ensures sets { IfOk result (HasSets (Self.C.plan cells) (Self.C.notes pass)) }
         ensures settled { IfOk result (λ f. AreSettled (Self.C.plan cells) (Self.C.notes pass) (set_at f)) }
+        ensures race { IfOk result (λ _. HasRace (Self.C.notes pass)) }
         ensures tally { IfOk result (HasTally (Self.C.plan cells) (Self.C.notes pass)) }
         ensures ledger { IfOk result (λ _. ledger self.new ≡ ledger self.old ++ (Self.C.notes pass).tally ∷ []) }
         ensures finals { IfOk result (λ f. finals self.new ≡ finals self.old ++ f ∷ []) }

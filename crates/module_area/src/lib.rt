@@ -21,7 +21,7 @@ pub use cells::Cell;
 pub use control::Control;
 pub use finals::Finals;
 pub use images::{DataCard, Image, Images};
-pub use parties::{Role, View};
+pub use parties::{Beat, Role, View};
 pub use places::Place;
 pub use plan::{Controlled, Plan};
 pub use planting::plant_all;

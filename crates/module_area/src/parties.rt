@@ -11,6 +11,12 @@ pub enum Role {
     Spent,
 }
 
+/// A fetch, or the giving of a tag by planting or closing: the place, and the tag that it answered or gave.
+pub enum Beat {
+    Met(u64, u64),
+    Gave(u64, u64),
+}
+
 /// The notes of one party. No value of it is made.
 pub struct View {
     pub role: Role,
@@ -41,4 +47,8 @@ pub struct View {
     pub settled: LinkedList<(u64, u64, Bits)>,
     /// The set of each of its marks and looks at sets, the last first.
     pub found: LinkedList<Bits>,
+    /// Its fetches and the tags that it gave, the last first.
+    pub beats: LinkedList<Beat>,
+    /// For the root: those of the tasks that have come back.
+    pub back: LinkedList<(u64, LinkedList<Beat>)>,
 }

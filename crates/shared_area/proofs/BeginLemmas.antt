@@ -17,7 +17,8 @@ use Rattle.cov_base.specs.Meaning.{FactSet, has_fact, no_facts}
 use Rattle.module_area.specs.declared.parties.Role.TheVariants.{Root}
 use Rattle.module_area.specs.Meaning.{PlanView, original_at, kind_at}
 use Rattle.module_area.specs.Rule.{IsPlan, has_task, blank, untouched}
-use Rattle.module_area.proofs.Laws.{begins, begins_drained, first_cell, zero_behind, starting_count, read_at}
+use Rattle.module_area.specs.declared.cells.Cell.{Cell}
+use Rattle.module_area.proofs.Laws.{begins, begins_drained, begins_raced, first_cell, zero_behind, starting_count, read_at}
 use Rattle.module_area.specs.Words.{cell_of, starting, AllFit}
 use Rattle.shared_area.specs.Words.{bit_of, has_bit, facts_of, set_word, base_of, word_count, front, task_word, cells_in, sets_in, numbers_in}
 use Rattle.shared_area.specs.Sets.{AreSets}
@@ -62,6 +63,7 @@ module _ (plan : PlanView) (ok : IsPlan plan) (fits : AllFit plan (length plan.p
     rooted = (blank Root, refl, refl);
     held = begins plan (cells_in F) (sets_in plan F) ok plain (λ s p f _ _ h. nothing (kind_at plan p) p f (subst (λ w. has_fact (facts_of (kind_at plan p) p w) f ≡ true) (first_set s p) h));
     drained = begins_drained plan (cells_in F) (sets_in plan F) (numbers_in plan words) (λ t. no_number t (has_task plan.tasks t));
+    raced = begins_raced plan (cells_in F) (λ p l. ap (λ (c : Cell). c.tag) (plain p l));
   }
 
 -- ---- the sets as they are read in the end

@@ -15,14 +15,15 @@ use Rattle.module_area.specs.declared.tallies.Tally.{Tally}
 use Rattle.module_area.specs.Meaning.{PlanView, kind_at, window_at, FinalsView, set_at}
 use Rattle.module_area.specs.Rule.{Has, last_tag, Held, has_number}
 use Rattle.module_area.specs.Drained.{Drained}
-use Rattle.module_area.specs.Ended.{AreSettled, HasSets, HasTally}
+use Rattle.module_area.specs.Ended.{AreSettled, HasRace, HasSets, HasTally}
+use Rattle.module_area.specs.Race.{beats_of, IsRootOf, OwnAs, Raced}
 use Rattle.module_area.proofs.Laws.{index_below, same_tests, count_same}
 use Rattle.shared_area.specs.declared.rule.NoSlot.{NoSlot}
 use Rattle.shared_area.specs.Words.{facts_of, set_word, base_of, front, cells_in, sets_in, numbers_in}
 use Rattle.shared_area.specs.Sets.{AreSets}
 use Rattle.shared_area.specs.Told.{has_mark, notes_in}
 use Rattle.shared_area.specs.Rule.{IsArea}
-use Rattle.shared_area.proofs.NoteLemmas.{seen_most, settled_there, mark_there, mark_shown, pair_there, pair_shown, number_there, number_shown}
+use Rattle.shared_area.proofs.NoteLemmas.{seen_most, settled_there, mark_there, mark_shown, pair_there, pair_shown, number_there, number_shown, not_there}
 use Rattle.shared_area.proofs.WordLemmas.{set_front}
 use Rattle.shared_area.proofs.AnswerLemmas.{set_within, founds}
 use Rattle.shared_area.proofs.SumLemmas.{facts_by_marks, pairs_same}
@@ -123,6 +124,15 @@ module _ (plan : PlanView) (id : ℕ) (v : View) (tally : Tally) (words : List �
 -- the same, by the words that the area had
 module _ (plan : PlanView) (id : ℕ) (v : View) (tally : Tally) (words : List ℕ) (slots : List NoSlot) (finals : FinalsView) (root : v.role ≡ Root) (out : (t : ℕ) → (notes_in v tally).out t ≡ false)
     (counted : (tally.marks ≡ length v.marked) × (tally.lifts ≡ length v.lifted)) (places : finals.places ≡ length plan.places) (size : length finals.sets ≡ plan.sessions * length plan.places) (read : AreSets plan words finals.sets) where
+  pub ended_race : Final (Seen (IsArea plan) id v) words slots → HasRace (notes_in v tally)
+  ended_race h = let r : Raced plan (cells_in (front plan h.0.words)) h.0.views = h.1.0.raced in let mine : IsRootOf r.race v = subst (OwnAs r.race v) root (r.own id v h.1.1) in record {
+    race = r.race;
+    is_race = r.is_race;
+    root = sym mine.own;
+    each = λ t g. mine.back t (beats_of t v.back) (mine.all t (all plan id v tally words finals root out counted places size read t (number_there t v.given g)));
+    others = λ t g. mine.none t (not_there t v.given g);
+  }
+
   pub ended : Final (Seen (IsArea plan) id v) words slots → HasSets plan (notes_in v tally) finals × HasTally plan (notes_in v tally) finals × AreSettled plan (notes_in v tally) (set_at finals)
   ended h = let s : State NoSlot View = h.0 in let r : IsArea plan s = h.1.0 in let F : List ℕ = front plan words in let shown = front_sets plan words finals.sets size read in
       let held : Held plan (cells_in F) (sets_in plan F) s.views = subst (λ ws. Held plan (cells_in (front plan ws)) (sets_in plan (front plan ws)) s.views) h.2 r.held in

@@ -14,6 +14,7 @@ use Rattle.module_area.specs.declared.parties.Role.TheVariants.{Task}
 use Rattle.module_area.specs.declared.tallies.Tally.{Tally}
 use Rattle.module_area.specs.Meaning.{PlanView, original_at, kind_at, tag_session}
 use Rattle.module_area.specs.Rule.{is_controller, Has, add_if, is_lifted, window_tag, last_tag, fetching, marking, planting, has_number}
+use Rattle.module_area.specs.Race.{beats_of}
 use Rattle.module_area.specs.Parties.{chosen, closing, giving, newcomer, joining, bounding, reading, role_task}
 use Rattle.module_area.specs.Notes.{no_tally, is_free_under, after_fetch, after_mark, after_plant, after_close, after_split, split_notes, after_boundary, after_read, after_join, bearer, is_final, same_bit, same_set}
 use Rattle.module_area.proofs.Laws.{same_tests, kept_tag, dropped_tag, no_tag, first_tag}
@@ -254,4 +255,5 @@ join_notes plan v o t a b bears =
     fun_ext (λ u. taken_by (λ q. nat_eq q (role_task o.role)) u o.numbers v.numbers (nat_eq u (role_task o.role)) refl ∙ ap (λ k. if nat_eq u k then last_tag u o.numbers else last_tag u v.numbers) number) in
     let settled : (λ s p x. has_settled s p x (o.settled ++ v.settled)) ≡ (λ s p x. has_settled s p x v.settled || has_settled s p x o.settled) = fun_ext (λ s. fun_ext (λ p. fun_ext (λ x. settled-append s p x o.settled v.settled))) in
     let noted = map-append told_note o.noted v.noted in
-    λ i. record (after_join plan (notes_in v a) (notes_in o b)) { marked = marked i; full = full i; free = free i; seen = seen i; last = last i; out = out i; numbers = numbers i; noted = noted i; settled = settled i }
+    let back : (λ u. beats_of u ((role_task o.role, o.beats) ∷ v.back)) ≡ (λ u. if nat_eq u (bearer (notes_in o b)) then o.beats else beats_of u v.back) = ap (λ k. λ u. if nat_eq u k then o.beats else beats_of u v.back) number in
+    λ i. record (after_join plan (notes_in v a) (notes_in o b)) { marked = marked i; full = full i; free = free i; seen = seen i; last = last i; out = out i; numbers = numbers i; noted = noted i; settled = settled i; back = back i }

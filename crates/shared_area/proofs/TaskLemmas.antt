@@ -11,8 +11,9 @@ use Rattle.module_area.specs.Meaning.{PlanView, kind_at}
 use Rattle.module_area.specs.Rule.{has_task, last_tag, Held}
 use Rattle.module_area.specs.Parties.{role_task, bounding, noting, reading}
 use Rattle.module_area.specs.Drained.{Noted, IsNumber, Drained}
+use Rattle.module_area.specs.Race.{Raced}
 use Rattle.module_area.specs.Notes.{NotedView, IsFound, is_final, no_tally}
-use Rattle.module_area.proofs.Laws.{quiet, bound_drained, note_drained, read_drained}
+use Rattle.module_area.proofs.Laws.{quiet, still_raced, bound_drained, note_drained, read_drained}
 use Rattle.shared_area.specs.declared.rule.NoSlot.{NoSlot}
 use Rattle.shared_area.specs.Words.{facts_of, set_word, cells_in, sets_in, base_of, front, position, task_word, numbers_in}
 use Rattle.shared_area.specs.Told.{told_note, bears_as, notes_in}
@@ -56,6 +57,7 @@ module _ (plan : PlanView) where
           held = quiet plan (cells_in F) (sets_in plan F) s.views r.held id me.0 at live w refl refl refl refl refl refl refl refl refl (λ p x e. e);
           drained = subst (λ k. Drained plan (cells_in F) (sets_in plan F) (numbers_in plan s.words) (set s.views id (noting t k me.0))) is
               (note_drained plan (cells_in F) (sets_in plan F) (numbers_in plan s.words) s.views r.held r.drained id me.0 at t);
+          raced = still_raced plan (cells_in F) (sets_in plan F) s.views r.held r.raced id me.0 at (cells_in F) w (λ p _. refl) refl refl refl refl refl;
         },
         (
           record {
@@ -93,6 +95,7 @@ module _ (plan : PlanView) where
           drained = subst (λ ws. Drained plan (cells_in ws) (sets_in plan ws) (numbers_in plan (set s.words i x)) (set s.views id w)) (sym same)
               (bound_drained plan (cells_in F) (sets_in plan F) (numbers_in plan s.words) s.views r.held r.drained id me.0 at t (c + k) (numbers_in plan (set s.words i x)) bears
               (number_read (set s.words i x) t task ∙ (get_or-set_same s.words i x 0 inside ∙ x_is)) (omega (arith, is)) (λ u n. other_number s.words t u x (has_task plan.tasks u) task refl n));
+          raced = subst (λ ws. Raced plan (cells_in ws) (set s.views id w)) (sym same) (still_raced plan (cells_in F) (sets_in plan F) s.views r.held r.raced id me.0 at (cells_in F) w (λ p _. refl) refl refl refl refl refl);
         },
         (refl, sym is ∙ own, refl),
       )
@@ -128,6 +131,7 @@ module _ (plan : PlanView) where
           held = quiet plan (cells_in F) (sets_in plan F) st.views r.held id me.0 at live w refl refl refl refl refl refl refl refl refl (λ p x e. e);
           drained = subst (λ x. Drained plan (cells_in F) (sets_in plan F) (numbers_in plan st.words) (set st.views id (reading s p final x me.0))) same
               (read_drained plan (cells_in F) (sets_in plan F) (numbers_in plan st.words) st.views r.held r.drained id me.0 at s p final (final_there plan s pos (cells_in F) (sets_in plan F) (numbers_in plan st.words) st.views r.held r.drained id me.0 at p l));
+          raced = still_raced plan (cells_in F) (sets_in plan F) st.views r.held r.raced id me.0 at (cells_in F) w (λ q _. refl) refl refl refl refl refl;
         },
         (
           record {

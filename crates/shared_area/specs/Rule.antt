@@ -15,6 +15,7 @@ use Rattle.module_area.specs.Parties.{reading}
 use Rattle.module_area.specs.Again.{only}
 use Rattle.module_area.specs.Notes.{IsAnswer, IsFound, is_final, no_tally, same_set}
 use Rattle.module_area.specs.Drained.{Drained}
+use Rattle.module_area.specs.Race.{Raced}
 use Rattle.shared_area.specs.declared.rule.NoSlot.{NoSlot}
 use Rattle.shared_area.specs.Words.{facts_of, cells_in, sets_in, base_of, front, numbers_in}
 use Rattle.shared_area.specs.Told.{has_pair, has_settled, notes_in}
@@ -29,6 +30,7 @@ pub record IsArea (plan : PlanView) (s : State NoSlot View) : Type 0 where
   pub rooted : IsRooted s.views
   pub held : Held plan (cells_in (front plan s.words)) (sets_in plan (front plan s.words)) s.views
   pub drained : Drained plan (cells_in (front plan s.words)) (sets_in plan (front plan s.words)) (numbers_in plan s.words) s.views
+  pub raced : Raced plan (cells_in (front plan s.words)) s.views
 
 -- a living pass of a task that has not ended, and a place that it may fetch
 pub record MayFetch (plan : PlanView) (p : ℕ) (v : View) : Type 0 where

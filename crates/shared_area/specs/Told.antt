@@ -6,6 +6,7 @@ use Rattle.module_area.specs.declared.parties.Role.{Role}
 use Rattle.module_area.specs.declared.parties.Role.TheVariants.{Task}
 use Rattle.module_area.specs.declared.parties.View.{View}
 use Rattle.module_area.specs.Rule.{last_tag, has_number}
+use Rattle.module_area.specs.Race.{beats_of}
 use Rattle.module_area.specs.declared.tallies.Tally.{Tally}
 use Rattle.module_area.specs.Notes.{Notes, NotedView, same_set}
 
@@ -47,6 +48,8 @@ notes_in v tally = record {
   noted = map told_note v.noted;
   settled = λ s p x. has_settled s p x v.settled;
   found = v.found;
+  beats = v.beats;
+  back = λ t. beats_of t v.back;
   tally = tally;
   bears = bears_as v.role;
   given = λ t. has_number t v.given;

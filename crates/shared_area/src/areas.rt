@@ -3,7 +3,7 @@ ghost use Rattle.std.specs.Prelude.{◌≡◌, ℕ, false, [], IfOk};
 ghost use Rattle.std.specs.declared.option.Option.TheVariants.{None};
 ghost use Rattle.module_area.specs.Notes.{root_notes};
 ghost use Rattle.module_area.specs.Meaning.{set_at};
-ghost use Rattle.module_area.specs.Ended.{AreSettled, HasSets, HasTally};
+ghost use Rattle.module_area.specs.Ended.{AreSettled, HasRace, HasSets, HasTally};
 ghost use Rattle.shared_area.specs.Passes.{notes_of, IsPassOf};
 
 use crate::cells::SharedCells;
@@ -85,6 +85,7 @@ fn end_area(alloc: Global, cells: SharedCells, root: SharedPass) -> Result<Final
     requires joined { (t : ℕ) → (notes_of root).out t ≡ false }
     ensures sets { IfOk result (HasSets cells.plan (notes_of root)) }
     ensures settled { IfOk result (λ f. AreSettled cells.plan (notes_of root) (set_at f)) }
+    ensures race { IfOk result (λ _. HasRace (notes_of root)) }
     ensures tally { IfOk result (HasTally cells.plan (notes_of root)) }
 {
     let SharedCells {

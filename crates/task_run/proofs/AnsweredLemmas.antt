@@ -16,7 +16,8 @@ use Rattle.task_run.specs.Sights.{BeginsAt}
 use Rattle.task_run.specs.Traps.{Settles}
 use Rattle.task_run.specs.Observed.{Grows}
 use Rattle.task_run.specs.Answered.{known_tag, ArePairs, LeavesSessions, Answered, Makes}
-use Rattle.task_run.specs.Meaning.{at_places, is_under, facts_under}
+use Rattle.task_run.specs.Meaning.{at_places, is_under, facts_under, mets}
+use Rattle.task_run.proofs.BeatLemmas.{mets-append}
 use Rattle.task_run.proofs.RiseLemmas.{rises_append, rises_fetched}
 use Rattle.task_run.proofs.NotesLemmas.{Adds, Adds-settled, seen_fetched, all_three, three_from}
 use Rattle.task_run.proofs.ObservedLemmas.{has_fact-more, shown_later, Observes-none, Observes-plain, Observes-kept, Observes-settled, Observes-append}
@@ -140,6 +141,7 @@ Makes-plain plan n v none = record {
   };
   rises = λ p. omega arith;
   still = LeavesSessions-same n;
+  beats = refl;
 }
 
 -- the place was free, or the visit wasn't begun
@@ -160,6 +162,7 @@ Makes-kept plan old q cell v b a free = record {
   };
   rises = rises_fetched plan old (after_fetch plan old q cell) q cell a refl refl refl (λ p. refl);
   still = LeavesSessions-fetched plan old q cell a.later;
+  beats = refl;
 }
 
 -- a trap was settled
@@ -201,6 +204,7 @@ Makes-settled plan old new q cell v b met a begun h =
       };
       rises = rises_fetched plan old new q cell a adds.grows.bears adds.grows.out adds.last adds.seen;
       still = LeavesSessions-trans old mid new (LeavesSessions-fetched plan old q cell a.later) (LeavesSessions-added mid new s q g adds);
+      beats = adds.beats;
     }
 
 -- a visit at a place is one of the visits
@@ -262,7 +266,7 @@ Answered-append plan a b c last next xs ys first more grows bears out same =
 
 pub Makes-none : (plan : PlanView) (n : Notes) → Makes plan n n []
 unfolding Answered-none
-Makes-none plan n = record { observes = Observes-none plan n; answered = Answered-none plan n (λ before. n.last); rises = λ p. omega arith; still = LeavesSessions-same n }
+Makes-none plan n = record { observes = Observes-none plan n; answered = Answered-none plan n (λ before. n.last); rises = λ p. omega arith; still = LeavesSessions-same n; beats = refl }
 
 pub Makes-append : (plan : PlanView) (a b c : Notes) (xs ys : List Visit) → Makes plan a b xs → Makes plan b c ys → Makes plan a c (xs ++ ys)
 unfolding Answered-append
@@ -272,4 +276,5 @@ Makes-append plan a b c xs ys r h = record {
       (λ v there p. ap (λ (g : ℕ → ℕ). g p) r.still.last);
   rises = λ p. rises_append p (known_tag plan a p) (known_tag plan b p) (known_tag plan c p) r.answered.pairs h.answered.pairs (r.rises p) (h.rises p);
   still = LeavesSessions-trans a b c r.still h.still;
+  beats = h.beats ∙ (ap (mets h.answered.pairs) r.beats ∙ sym (mets-append r.answered.pairs h.answered.pairs a.beats));
 }

@@ -143,6 +143,7 @@ Follows-aside plan old mid new trace called c d a f = let ch = aside_changed pla
   last = ap (λ (n : Notes). n.last) a.same ∙ f.last;
   plants = ap (λ (n : Notes). n.tally.plants) a.same ∙ f.plants;
   closes = ap (λ (n : Notes). n.tally.closes) a.same ∙ f.closes;
+  beats = ap (λ (n : Notes). n.beats) a.same ∙ f.beats;
 }
 
 pub Made-aside : (plan : PlanView) (old mid new : Notes) (c d : ControlView) (i : ℕ) (trace : List Visit) (called : List (Option ℕ)) → IsAside mid new → Made plan old mid c d i trace called → Made plan old new c d i trace called

@@ -16,9 +16,10 @@ use Rattle.module_area.proofs.Laws.{tied_same}
 use Rattle.task_run.specs.Observed.{Observes, IsRecorded}
 use Rattle.task_run.specs.Answered.{known_tag, Answered, Turns}
 use Rattle.task_run.proofs.ObservedLemmas.{Observes-none, Observes-append}
-use Rattle.task_run.proofs.AnsweredLemmas.{Answered-none, Answered-append, Answered-tags}
+use Rattle.task_run.proofs.AnsweredLemmas.{Answered-none, Answered-append, Answered-tags, at_has, at_places-append}
+use Rattle.task_run.proofs.BeatLemmas.{calls_beats, beats_more}
 use Rattle.task_run.proofs.RiseLemmas.{rises_append, rises_high}
-use Rattle.task_run.specs.Meaning.{control_by}
+use Rattle.task_run.specs.Meaning.{at_places, control_by, mets, call_beats, beats_by}
 use Rattle.task_run.specs.Controlled.{notes_by, last_by, Follows}
 use Rattle.task_run.proofs.KnownLemmas.{call_rises}
 use Rattle.task_run.proofs.WindowLemmas.{tied_by}
@@ -198,7 +199,7 @@ by_out plan n c (k ∷ ks) = by_out plan (after_call plan n c k) (control_after 
 
 pub Follows-none : (plan : PlanView) (n : Notes) (c : ControlView) → Follows plan n n [] [] c c
 unfolding Answered-none
-Follows-none plan n c = record { observes = Observes-none plan n; answered = Answered-none plan n _; rises = λ tie none p. omega arith; control = refl; last = refl; plants = refl; closes = refl }
+Follows-none plan n c = record { observes = Observes-none plan n; answered = Answered-none plan n _; rises = λ tie none p. omega arith; control = refl; last = refl; plants = refl; closes = refl; beats = refl }
 
 -- the pass makes the visits of one instruction more, and what its call asks for
 pub Follows-more : (plan : PlanView) (old mid new : Notes) (trace visits : List Visit) (calls : List (Option ℕ)) (k : Option ℕ) (c d e : ControlView) → IsPlan plan →
@@ -233,4 +234,11 @@ Follows-more plan old mid new trace visits calls k c d e is before here f t next
       last = same.last;
       plants = same.plants;
       closes = same.closes;
+      beats = ap (λ (n : Notes). n.beats) t.notes
+          ∙ (calls_beats plan t.mid d k
+          ∙ (ap (call_beats plan d k) (t.makes.beats ∙ ap (mets t.makes.answered.pairs) f.beats)
+          ∙ (ap (λ (x : ControlView). call_beats plan x k (mets t.makes.answered.pairs (beats_by plan c 0 calls f.answered.pairs (at_places plan.places trace) old.beats))) f.control
+          ∙ (sym (beats_more plan old mid (last_by plan old c calls) (λ n. mid.last) c 0 calls k f.answered.pairs t.makes.answered.pairs (at_places plan.places trace) (at_places plan.places visits) old.beats f.answered.each t.makes.answered.each
+          (λ v h. let z = before v (at_has plan.places trace v h) in omega (arith, z)) (λ v h. let z = here v (at_has plan.places visits v h) in omega (arith, z)))
+          ∙ ap (λ vs. beats_by plan c 0 (calls ++ k ∷ []) (f.answered.pairs ++ t.makes.answered.pairs) vs old.beats) (sym (at_places-append plan.places trace visits))))));
     }

@@ -1,5 +1,6 @@
 mod AnsweredLemmas
 mod AsideLemmas
+mod BeatLemmas
 mod BranchLemmas
 mod CallLemmas
 mod CloseLemmas

@@ -33,6 +33,7 @@ pub record Adds (old new : Notes) (s p : ℕ) (f : Fact) : Type 0 where
   pub marked : (t q : ℕ) (g : Fact) → new.marked t q g ≡ (old.marked t q g || (nat_eq t s && nat_eq q p && same_fact g f))
   pub seen : (q : ℕ) → new.seen q ≡ old.seen q
   pub answered : new.answered ≡ old.answered
+  pub beats : new.beats ≡ old.beats
   pub last : new.last ≡ old.last
   pub fetches : new.tally.fetches ≡ old.tally.fetches
   pub marks : new.tally.marks ≡ old.tally.marks + 1
@@ -71,6 +72,7 @@ marked_alone plan n s p f found part = record {
   marked = λ t q g. refl;
   seen = λ q. refl;
   answered = refl;
+  beats = refl;
   last = refl;
   fetches = refl;
   marks = refl;
@@ -102,6 +104,7 @@ marked_lifted plan n s p f found exchanged = record {
   marked = λ t q g. refl;
   seen = λ q. refl;
   answered = refl;
+  beats = refl;
   last = refl;
   fetches = refl;
   marks = refl;

@@ -7,7 +7,7 @@ use Rattle.module_area.specs.Meaning.{PlanView, is_over, tag_session, ControlVie
 use Rattle.module_area.specs.Notes.{Notes, keeps}
 use Rattle.module_area.specs.Control.{after_call}
 use Rattle.task_run.specs.Sights.{BeginsAt}
-use Rattle.task_run.specs.Meaning.{at_places, facts_under}
+use Rattle.task_run.specs.Meaning.{at_places, facts_under, mets}
 use Rattle.task_run.specs.Observed.{IsRecorded, Observes}
 
 -- Place and cell of the fetch at a visit. A tag that is not 0 is of a session over the place. Where the pass keeps the
@@ -60,6 +60,7 @@ pub record Makes (plan : PlanView) (old new : Notes) (visits : List Visit) : Typ
   pub answered : Answered plan old new (λ before. old.last) visits
   pub rises : (p : ℕ) → RisesAt p (known_tag plan old p) answered.pairs (known_tag plan new p)
   pub still : LeavesSessions old new
+  pub beats : new.beats ≡ mets answered.pairs old.beats
 
 -- It has made the visits of an instruction, and behind all of them has changed its task's sessions as the call that the
 -- instruction executes asks, if it is one.

@@ -8,7 +8,7 @@ use Rattle.module_area.specs.Control.{after_call}
 use Rattle.task_run.specs.Observed.{Observes}
 use Rattle.module_area.specs.Tied.{IsTied}
 use Rattle.task_run.specs.Answered.{RisesAt, known_tag, Answered}
-use Rattle.task_run.specs.Meaning.{control_by, places_of, places_in_all}
+use Rattle.task_run.specs.Meaning.{at_places, control_by, places_of, places_in_all, beats_by}
 
 abbrev pub notes_by : PlanView → Notes → ControlView → List (Option ℕ) → Notes
 notes_by plan n c [] = n
@@ -30,6 +30,8 @@ pub record Follows (plan : PlanView) (old new : Notes) (trace : List Visit) (cal
   pub last : new.last ≡ (notes_by plan old c calls).last
   pub plants : new.tally.plants ≡ (notes_by plan old c calls).tally.plants
   pub closes : new.tally.closes ≡ (notes_by plan old c calls).tally.closes
+  -- its beats are, instruction by instruction, its fetches and then the tags that its call gave
+  pub beats : new.beats ≡ beats_by plan c 0 calls answered.pairs (at_places plan.places trace) old.beats
 
 -- At a place of a session of the control the last tag before an instruction is the session's odd one exactly where the
 -- session is open then: behind the instruction that opens it, up to and including the one that closes it.

@@ -8,7 +8,9 @@ use Rattle.s370_state.specs.declared.endings.Ending.{Ending}
 use Rattle.s370_state.specs.declared.endings.Ending.TheVariants.{Returned, Spent}
 use Rattle.module_area.specs.declared.cells.Cell.{Cell}
 use Rattle.module_area.specs.declared.places.Place.{Place}
-use Rattle.module_area.specs.Meaning.{PlanView, kind_at, is_place, ControlView, has_place, places_under, to_open, control_after, first_control, facts_at, facts_of_all, has_session}
+use Rattle.module_area.specs.declared.parties.Beat.{Beat}
+use Rattle.module_area.specs.declared.parties.Beat.TheVariants.{Met}
+use Rattle.module_area.specs.Meaning.{PlanView, kind_at, is_place, ControlView, has_place, places_under, to_open, control_after, first_control, facts_at, facts_of_all, has_session, gives}
 use Rattle.std.specs.List.{sum_by, filter}
 use Rattle.cov_base.specs.declared.numbers.SessNo.{SessNo}
 use Rattle.cov_base.specs.declared.facts.Fact.{Fact}
@@ -146,6 +148,39 @@ tag_after plan p c tag (Some k) =
 abbrev pub tag_by : PlanView → ℕ → ControlView → ℕ → List (Option ℕ) → ℕ
 tag_by plan p c tag [] = tag
 tag_by plan p c tag (k ∷ ks) = tag_by plan p (control_after c k) (tag_after plan p c tag k) ks
+
+-- What a task's run fetches and gives, as its part of the race.
+
+-- more beats: these fetches, one after the other
+abbrev pub mets : List (ℕ × Cell) → List Beat → List Beat
+mets [] bs = bs
+mets (x ∷ xs) bs = mets xs (Met x.0 x.1.tag ∷ bs)
+
+-- of the fetches at these visits those of the instruction before which i were done
+abbrev pub pairs_at : ℕ → List (ℕ × Cell) → List Visit → List (ℕ × Cell)
+pairs_at i [] vs = []
+pairs_at i (x ∷ xs) [] = []
+pairs_at i (x ∷ xs) (v ∷ vs) = if nat_eq v.before i then x ∷ pairs_at i xs vs else pairs_at i xs vs
+
+-- and the tags of this session, if there is one, as it is opened, and closed
+abbrev pub open_beats : PlanView → Option SessNo → List Beat → List Beat
+open_beats plan None bs = bs
+open_beats plan (Some s) bs = gives (2 * s.0 - 1) (places_under plan s.0) bs
+
+abbrev pub end_beats : PlanView → Option SessNo → List Beat → List Beat
+end_beats plan None bs = bs
+end_beats plan (Some s) bs = gives (2 * s.0) (places_under plan s.0) bs
+
+abbrev pub call_beats : PlanView → ControlView → Option ℕ → List Beat → List Beat
+call_beats plan c None bs = bs
+call_beats plan c (Some k) bs =
+    if k == 4 then open_beats plan (to_open c) bs else (if k == 5 then end_beats plan c.opened bs else bs)
+
+-- instruction by instruction, of which i were done before, its fetches and then the tags that its call gives
+abbrev pub beats_by : PlanView → ControlView → ℕ → List (Option ℕ) → List (ℕ × Cell) → List Visit → List Beat → List Beat
+beats_by plan c i [] xs vs bs = bs
+beats_by plan c i (k ∷ ks) xs vs bs =
+    beats_by plan (control_after c k) (i + 1) ks xs vs (call_beats plan c k (mets (pairs_at i xs vs) bs))
 
 -- The course that a task takes.
 

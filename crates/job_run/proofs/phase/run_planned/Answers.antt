@@ -51,7 +51,8 @@ returns-clause-grown g c =
     let observes = subst (λ (vs : List Visit). JoinsAll c.args.plan.now (after_planting c.args.plan.now) root vs) (all_visits (g.R.Runner.course c.args.runner.now) c.args.job.now c.args.tables.now.places c.args.phase) c.run_crew.ensures.root.observes in
     let joins = subst (λ (ts : List TaskNo). JoinsTasks c.args.plan.now walks ts (after_planting c.args.plan.now) root) (sym (ap (λ (p : PlanView). p.tasks) c.requires.its.plan)) c.run_crew.ensures.root.joins in
     let lists : IfOk c.finish.result (GrowsBy c.args.plan.now walks trace (g.A.Areas.ledger c.args.areas.now) (g.A.Areas.ledger c.finish.new.self) (g.A.Areas.finals c.args.areas.now) (g.A.Areas.finals c.finish.new.self)) = grows_if c.args.plan.now _ walks root trace c.finish.result _ _ (g.A.Areas.ledger c.finish.new.self) _ _ (g.A.Areas.finals c.finish.new.self) is
-    c.in_ok-cells.ensures.plan observes joins c.finish.ensures.sets c.finish.ensures.tally
+    c.in_ok-cells.ensures.plan observes joins c.finish.ensures.sets c.finish.ensures.tally c.finish.ensures.race
+    (λ t. c.run_crew.ensures.root.given t ∙ ap (λ (ts : List TaskNo). has_task ts t) (sym (ap (λ (p : PlanView). p.tasks) c.requires.its.plan)))
     c.make.ensures.ledger c.make.ensures.finals c.finish.ensures.ledger c.finish.ensures.finals in
     IfOk-weaker c.finish.result _ _ (λ f l. record {
       lists = subst (λ (p : PlanView). GrowsBy p walks trace (g.A.Areas.ledger c.args.areas.now) (g.A.Areas.ledger c.finish.new.self) (g.A.Areas.finals c.args.areas.now) (g.A.Areas.finals c.finish.new.self) f) c.requires.its.plan l;
