@@ -3,3 +3,5 @@ mod SetLemmas
 mod PlainLemmas
 mod CallLemmas
 mod LawLemmas
+mod RaceLemmas
+mod RacedLemmas

@@ -1,6 +1,6 @@
 //! Laws of the texts that `cover` answers with. Nothing calls what stands here, and it does nothing: its contract is the
 //! theorem, which is said of the clause of `cover` alone and is proved because the contract of a public function is.
-ghost use Rattle.round_trip.specs.Laws.{VerifiesWritten, ShowsWritten, ShowsRun, ShowsEachRun};
+ghost use Rattle.round_trip.specs.Laws.{VerifiesWritten, ShowsWritten, ShowsRun, ShowsEachRun, NeverCrosses};
 
 /// Of a job's bytes, the last line with its LF, behind which stands what `marks` has of one of its sessions:
 /// - with what `prove` has of the session behind that, `verify` verifies them, so that it answers nothing else but want of
@@ -15,4 +15,11 @@ pub fn texts_fit_by_law()
     ensures answered { ShowsWritten }
     ensures shown { ShowsRun }
     ensures whole { ShowsEachRun }
+{}
+
+/// Of a report of `run` on tasks that race, the clause says more than its bounds: an example. While one task opens and closes
+/// session 1 and then session 2, another executes LA, AR and BR once each. Then no report has AR in session 1 and LA in session 2,
+/// although each lies between its bounds: no order of the tasks' steps gives both.
+pub fn raced_by_law()
+    ensures crossed { NeverCrosses }
 {}
