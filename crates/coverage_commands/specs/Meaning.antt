@@ -12,7 +12,6 @@ use Rattle.cov_base.specs.declared.facts.Fact.{Fact}
 use Rattle.job_answers.specs.declared.asked.Wanted.{Wanted}
 use Rattle.job_answers.specs.declared.asked.Asked.{Asked}
 use Rattle.job_answers.specs.declared.asked.Asked.TheVariants.{AnyJob, WithSession, AllWhole}
-use Rattle.refusals.specs.declared.status.Status.{Status}
 use Rattle.job_input.specs.declared.words.Command.{Command}
 use Rattle.job_input.specs.declared.words.Command.TheVariants.{Run, Exits, Early, Count, Marks, Trial, Table, Ends, Replay, Combine, Show, Prove, Verify, Unknown}
 use Rattle.report_text.specs.Meaning.{report_of, count_text, trial_text, table_text}
@@ -159,8 +158,7 @@ pub data ComesReady (c : Command) (s : SourceChange) (r : ReadyView) : Type 0 wh
   Made : (number tasks : ℕ) → c ≡ Trial number tasks → IsUnread s → r.job ≡ trial_job number tasks → Match r.job r.tables
       → ComesReady c s r
 
--- Why the call answers with this status and text, leaving out whether the text could be written. Nothing but a run, and want of
--- memory in one, has made an area.
+-- why the call answers so, whether or not the text could be written; only a run, or want of memory in one, has made an area
 pub data IsCause (c : Command) (s : SourceChange) (a : AreasChange) (status : ℕ) (text : List ℕ) : Type 0 where
   Usage : c ≡ Unknown → IsUnread s → status ≡ 1 → text ≡ usage_line → a.after ≡ a.before → IsCause c s a status text
   Unread : (e : ReadFault) → (way_of c).reads_input ≡ true → IsReadFault s e → refusal status text ≡ read_refusal e
@@ -202,8 +200,7 @@ pub record IsComplete (c : Command) (s : SourceChange) (status : ℕ) : Type 0 w
       → (status ≡ 0) ⊎ (status ≡ 7)
 
 -- Ledger, sets and number of the areas are as they were for every command that runs no tasks over areas, after every refusal,
--- where the source has failed, of a command that reads a job, where none came whose listings match and whose sessions are as
--- was asked, and where words and bytes have another answer than 0.
+-- if the source has failed, if no job came that is ready for a command that reads one, and if words and bytes have an answer but 0.
 pub record IsUntouched (c : Command) (s : SourceChange) (a : AreasChange) (status : ℕ) : Type 0 where
   pub others : (way_of c).makes_areas ≡ false → a.after ≡ a.before
   pub refused : status ≢ 0 → status ≢ 7 → a.after ≡ a.before
@@ -225,7 +222,7 @@ asked words = command_of (map string_bytes words)
 
 -- of these words, by what source, areas and sink tell of themselves
 abbrev pub Serves : {S A C P K W : Type 0} → source.Ghosts S → areas.Ghosts A C P → sink.Ghosts K → List (String W) → S → S → A → A
-    → K → K → Status → Type 0
+    → K → K → ℕ → Type 0
 Serves s a k words source0 source1 areas0 areas1 sink0 sink1 answer =
     IsServed (asked words) (source_change s.left s.faults source0 source1) (areas_change a.ledger a.finals a.made areas0 areas1)
-    (sink_change k.written k.faults sink0 sink1) answer.0
+    (sink_change k.written k.faults sink0 sink1) answer

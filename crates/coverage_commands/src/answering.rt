@@ -16,7 +16,7 @@ use job_answers::{
 };
 use job_input::{Command, command_of};
 use module_area::Areas;
-use refusals::{Status, USAGE, status_of, told};
+use refusals::{Reason, Status, USAGE, status_of, told};
 use report_text::table;
 use run_reports::{write_drained, write_marks, write_report};
 use std::alloc::Global;
@@ -130,7 +130,7 @@ fn answer_one<S: Source, K: Sink>(
             let asked = asked_of(command);
             match make_ready(alloc, source, form, &asked) {
                 Ok(ready) => answer_job(alloc, command, &ready, sink),
-                Err(refusal) => told(sink, &refusal.line, refusal.status),
+                Err(refusal) => told(sink, &refusal.line, refusal.reason),
             }
         }
         Command::Combine => answer_combine(alloc, source, sink),
@@ -140,7 +140,7 @@ fn answer_one<S: Source, K: Sink>(
         | Command::Count(_)
         | Command::Marks { .. }
         | Command::Trial { .. }
-        | Command::Unknown => told(sink, USAGE, 1),
+        | Command::Unknown => told(sink, USAGE, Reason::Usage),
     }
 }
 
@@ -168,7 +168,7 @@ fn answer<T: Threads + Wait + Sync, S: Source, K: Sink, A: Areas, G: Gate + Sync
             let asked = asked_of(&command);
             match make_ready(alloc, source, form, &asked) {
                 Ok(ready) => answer_tasks(rt, alloc, &command, &ready, sink, areas, gate),
-                Err(refusal) => told(sink, &refusal.line, refusal.status),
+                Err(refusal) => told(sink, &refusal.line, refusal.reason),
             }
         }
         Command::Trial { number, tasks } => answer_trial(

@@ -15,7 +15,7 @@ pub fn answer_combine<S: Source, K: Sink>(alloc: Global, source: &mut S, sink: &
         Ok(input) => write_union(alloc, &input, sink),
         Err(fault) => {
             let refusal = read_refusal(fault);
-            told(sink, &refusal.line, refusal.status)
+            told(sink, &refusal.line, refusal.reason)
         }
     }
 }

@@ -8,7 +8,7 @@ ghost use Rattle.refusals.specs.Told.{Tells};
 use brk_table::Tables;
 use count_session::count_job;
 use cov_outside::{Gate, Sink};
-use refusals::{NO_MEMORY, Status, status_of, told};
+use refusals::{Status, status_of, told_no_memory};
 use report_text::count_text;
 use session_book::Job;
 use std::alloc::Global;
@@ -30,7 +30,7 @@ pub fn write_counts<T: Threads + Wait + Sync, K: Sink, G: Gate + Sync>(
     ensures { Tells K.Sink (IsCount job.now tables.now) sink.old sink.new result }
 {
     let Ok(counted) = count_job(rt, alloc, gate, job, tables) else {
-        return told(sink, NO_MEMORY, 7);
+        return told_no_memory(sink);
     };
     status_of(count_text(sink, job, tables, &counted))
 }

@@ -8,4 +8,4 @@ mod trial;
 mod ways;
 
 pub use answering::{cover, cover_one};
-pub use refusals::Status;
+pub use refusals::{Reason, Status};

@@ -11,7 +11,7 @@ use cov_outside::{Gate, Sink};
 use job_gen::trial;
 use job_input::{Command, TablesFault, tables_of};
 use module_area::Areas;
-use refusals::{NO_MEMORY, Status, status_of, told};
+use refusals::{Status, told_no_memory};
 use run_reports::write_trial;
 use session_book::Job;
 use std::alloc::Global;
@@ -47,10 +47,10 @@ pub fn answer_trial<T: Threads + Wait + Sync, K: Sink, A: Areas, G: Gate + Sync>
     ensures { AnsweredUnread A.Areas K.Sink (Command.Trial number tasks) areas.old areas.new sink.old sink.new result }
 {
     let Ok(job) = trial(alloc, number, tasks) else {
-        return told(sink, NO_MEMORY, 7);
+        return told_no_memory(sink);
     };
     let Ok(tables) = faultless_tables(alloc, &job) else {
-        return told(sink, NO_MEMORY, 7);
+        return told_no_memory(sink);
     };
     write_trial(rt, alloc, number, tasks, &job, &tables, sink, areas, gate)
 }

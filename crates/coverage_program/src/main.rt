@@ -5,6 +5,7 @@ mod serving;
 
 use crate::serving::serve;
 use cov_outside::{StdSink, StdSource};
+use coverage_commands::{Reason, Status};
 use shared_area::SharedAreas;
 use std::alloc::AllocError;
 use std::io::BufWriter;
@@ -37,8 +38,8 @@ fn main(rt: HostRuntime) -> ExitCode {
     // One for each phase of a job.
     let areas = SharedAreas::new(alloc, 16);
     let (Ok(words), Ok(writer), Ok(mut areas)) = (words_of(&rt), writer, areas) else {
-        return ExitCode::from(7);
+        return ExitCode::from(Status::of(Reason::NoMemory).code());
     };
     let (mut source, mut sink) = (StdSource::new(rt.stdin()), StdSink::new(writer));
-    ExitCode::from(serve(&rt, alloc, &words, &mut source, &mut sink, &mut areas).0)
+    ExitCode::from(serve(&rt, alloc, &words, &mut source, &mut sink, &mut areas).code())
 }

@@ -3,7 +3,7 @@ ghost use Rattle.std.specs.Prelude.{◌<◌, ◌^◌};
 ghost use Rattle.coverage_program.specs.Serving.{Hands};
 
 use cov_outside::{Failed, OpenGate, Source, StdSink};
-use coverage_commands::{Status, cover};
+use coverage_commands::{Reason, Status, cover};
 use module_area::Areas;
 use std::alloc::Global;
 use std::io::{BufWriter, Write};
@@ -26,6 +26,6 @@ pub(crate) fn serve<T: Threads + Wait + Sync, S: Source, W: Write + Drop, A: Are
     let status = cover(rt, alloc, words, source, sink, areas, &OpenGate);
     match sink.flush() {
         Ok(()) => status,
-        Err(Failed) => Status(6),
+        Err(Failed) => Status::of(Reason::WriteFault),
     }
 }

@@ -9,7 +9,7 @@ ghost use Rattle.job_answers.specs.Asked.{HasSession, IsSessionOf};
 ghost use Rattle.session_book.specs.Meaning.{session_of};
 
 use cov_base::{Name, SessNo};
-use refusals::{Refusal, controlled_line, no_session_line};
+use refusals::{Reason, Refusal, Status, controlled_line, no_session_line};
 use session_book::Job;
 
 /// A session that a command asks for by its name.
@@ -61,7 +61,7 @@ fn controlled(job: &Job, s: SessNo) -> Refusal
     ensures { result ≡ refusal 14 (controlled_line (session_of job.now s.0).name) }
 {
     Refusal {
-        status: 14,
+        reason: Reason::Controlled,
         line: controlled_line(&job.session(s).name),
     }
 }
@@ -74,7 +74,7 @@ fn named_session(job: &Job, wanted: &Wanted) -> Result<SessNo, Refusal>
 {
     let Some(session) = find_session(job, &wanted.name) else {
         return Err(Refusal {
-            status: 13,
+            reason: Reason::NoSession,
             line: no_session_line(&wanted.name),
         });
     };

@@ -6,9 +6,7 @@ ghost use Rattle.refusals.specs.Told.{Tells};
 
 use cov_outside::Sink;
 use marks_file::{CombineFault, combine_files, write};
-use refusals::{
-    NO_MEMORY, Refusal, Status, bad_marks, other_table, plain_refusal, status_of, told,
-};
+use refusals::{Refusal, Status, bad_marks, no_memory, other_table, status_of, told};
 use std::alloc::Global;
 
 /// Why files are not united.
@@ -18,7 +16,7 @@ fn combine_refusal(fault: CombineFault) -> Refusal
     match fault {
         CombineFault::BadMarks { offset } => bad_marks(offset),
         CombineFault::Other(other) => other_table(&other),
-        CombineFault::NoMemory => plain_refusal(7, NO_MEMORY),
+        CombineFault::NoMemory => no_memory(),
     }
 }
 
@@ -31,7 +29,7 @@ pub fn write_union<K: Sink>(alloc: Global, bytes: &[u8], sink: &mut K) -> Status
         Ok(marks) => marks,
         Err(fault) => {
             let refusal = combine_refusal(fault);
-            return told(sink, &refusal.line, refusal.status);
+            return told(sink, &refusal.line, refusal.reason);
         }
     };
     status_of(write(sink, &marks))

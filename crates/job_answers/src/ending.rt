@@ -5,7 +5,7 @@ ghost use Rattle.refusals.specs.Told.{Tells};
 
 use brk_table::Tables;
 use cov_outside::Sink;
-use refusals::{NO_MEMORY, Status, status_of, told};
+use refusals::{Status, status_of, told_no_memory};
 use session_book::Job;
 use std::alloc::Global;
 use task_ends::{find_ends, write_ends};
@@ -17,7 +17,7 @@ pub fn write_job_ends<K: Sink>(alloc: Global, job: &Job, tables: &Tables, sink: 
 {
     let ends = match find_ends(alloc, job, tables) {
         Ok(ends) => ends,
-        Err(_) => return told(sink, NO_MEMORY, 7),
+        Err(_) => return told_no_memory(sink),
     };
     status_of(write_ends(sink, job, &ends))
 }

@@ -6,7 +6,7 @@ ghost use Rattle.refusals.specs.Told.{Tells};
 
 use brk_table::Tables;
 use cov_outside::Sink;
-use refusals::{NO_MEMORY, Status, bad_schedule_line, status_of, told};
+use refusals::{Reason, Status, bad_schedule_line, status_of, told, told_no_memory};
 use schedule_play::{ScheduleFault, replay, replay_text};
 use session_book::Job;
 use std::alloc::Global;
@@ -27,8 +27,12 @@ pub fn write_schedule<K: Sink>(
 {
     let replayed = match replay(alloc, job, tables, lines, schedule) {
         Ok(replayed) => replayed,
-        Err(ScheduleFault::Bad { line }) => return told(sink, &bad_schedule_line(line), 9),
-        Err(ScheduleFault::NoMemory) => return told(sink, NO_MEMORY, 7),
+        Err(ScheduleFault::Bad { line }) => return told(
+            sink,
+            &bad_schedule_line(line),
+            Reason::BadSchedule,
+        ),
+        Err(ScheduleFault::NoMemory) => return told_no_memory(sink),
     };
     status_of(replay_text(sink, job, tables, &replayed.core, &replayed.played))
 }

@@ -9,7 +9,7 @@ use brk_table::Tables;
 use cov_base::SessNo;
 use cov_outside::Sink;
 use evidence_check::{ProveFault, prove};
-use refusals::{NO_MEMORY, Status, told};
+use refusals::{Reason, Status, told_no_memory};
 use session_book::Job;
 use std::alloc::Global;
 
@@ -28,8 +28,8 @@ pub fn write_evidence<K: Sink>(
     ensures { Tells K.Sink (IsText (evidence job.now tables.now s.0)) sink.old sink.new result }
 {
     match prove(alloc, sink, job, tables, s) {
-        Ok(()) => Status(0),
-        Err(ProveFault::Failed) => Status(6),
-        Err(ProveFault::NoMemory) => told(sink, NO_MEMORY, 7),
+        Ok(()) => Status::of(Reason::Served),
+        Err(ProveFault::Failed) => Status::of(Reason::WriteFault),
+        Err(ProveFault::NoMemory) => told_no_memory(sink),
     }
 }

@@ -16,9 +16,7 @@ use brk_table::Tables;
 use cov_base::SessNo;
 use cov_outside::{Failed, Sink};
 use marks_file::{Marks, MarksFault, read};
-use refusals::{
-    NO_MEMORY, Refusal, Status, bad_marks, other_table, plain_refusal, status_of, told,
-};
+use refusals::{Refusal, Status, bad_marks, no_memory, other_table, status_of, told};
 use report_text::{put, session_part, words_line};
 use session_book::{FactSets, Job};
 use session_marks::{FileSets, SetsFault, file_sets};
@@ -39,7 +37,7 @@ fn one_file(alloc: Global, rest: &[u8]) -> Result<Marks, Refusal>
             Ok(marks)
         }
         Err(MarksFault::BadMarks { offset }) => Err(bad_marks(offset)),
-        Err(MarksFault::NoMemory) => Err(plain_refusal(7, NO_MEMORY)),
+        Err(MarksFault::NoMemory) => Err(no_memory()),
     }
 }
 
@@ -62,7 +60,7 @@ fn sets_behind(
     match file_sets(alloc, job, tables, s, &marks) {
         Ok(sets) => Ok(sets),
         Err(SetsFault::Other(other)) => Err(other_table(&other)),
-        Err(SetsFault::NoMemory) => Err(plain_refusal(7, NO_MEMORY)),
+        Err(SetsFault::NoMemory) => Err(no_memory()),
     }
 }
 
@@ -97,6 +95,6 @@ pub fn write_shown<K: Sink>(alloc: Global, ready: &Ready, sink: &mut K) -> Statu
     let tables = &ready.tables;
     match sets_behind(alloc, job, tables, ready.session, &ready.input.rest) {
         Ok(sets) => status_of(show_text(sink, job, tables, &sets, ready.session)),
-        Err(refusal) => told(sink, &refusal.line, refusal.status),
+        Err(refusal) => told(sink, &refusal.line, refusal.reason),
     }
 }

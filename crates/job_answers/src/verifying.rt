@@ -14,8 +14,8 @@ use cov_outside::Sink;
 use evidence_check::{VerifyFault, verify};
 use marks_file::{Marks, MarksFault, read};
 use refusals::{
-    NO_MEMORY, Refusal, Status, bad_evidence_line, bad_marks, other_table, plain_refusal,
-    refuted_line, told, verified_line,
+    Reason, Refusal, Status, bad_evidence_line, bad_marks, no_memory, other_table, refuted_line,
+    told, verified_line,
 };
 use session_book::Job;
 use session_marks::{SetsFault, file_sets};
@@ -27,14 +27,14 @@ fn verify_refusal(fault: VerifyFault) -> Refusal
 {
     match fault {
         VerifyFault::BadEvidence { offset } => Refusal {
-            status: 15,
+            reason: Reason::BadEvidence,
             line: bad_evidence_line(offset),
         },
         VerifyFault::Refuted { row, fact } => Refusal {
-            status: 16,
+            reason: Reason::Refuted,
             line: refuted_line(row, fact),
         },
-        VerifyFault::NoMemory => plain_refusal(7, NO_MEMORY),
+        VerifyFault::NoMemory => no_memory(),
     }
 }
 
@@ -47,7 +47,7 @@ fn first_file(alloc: Global, rest: &[u8]) -> Result<(Marks, usize), Refusal>
     match read(alloc, rest, 0) {
         Ok(first) => Ok(first),
         Err(MarksFault::BadMarks { offset }) => Err(bad_marks(offset)),
-        Err(MarksFault::NoMemory) => Err(plain_refusal(7, NO_MEMORY)),
+        Err(MarksFault::NoMemory) => Err(no_memory()),
     }
 }
 
@@ -73,7 +73,7 @@ fn facts_behind(
     match file_sets(alloc, job, tables, s, &marks) {
         Ok(_) => (),
         Err(SetsFault::Other(other)) => return Err(other_table(&other)),
-        Err(SetsFault::NoMemory) => return Err(plain_refusal(7, NO_MEMORY)),
+        Err(SetsFault::NoMemory) => return Err(no_memory()),
     }
     match verify(alloc, job, tables, s, &marks, &rest[end..]) {
         Ok(facts) => Ok(facts),
@@ -100,7 +100,7 @@ pub fn write_verdict<K: Sink>(
     ensures { Tells K.Sink (IsChecked name.now job.now tables.now s.0 rest.now) sink.old sink.new result }
 {
     match facts_behind(alloc, job, tables, s, rest) {
-        Ok(facts) => told(sink, &verified_line(name, facts), 0),
-        Err(refusal) => told(sink, &refusal.line, refusal.status),
+        Ok(facts) => told(sink, &verified_line(name, facts), Reason::Served),
+        Err(refusal) => told(sink, &refusal.line, refusal.reason),
     }
 }

@@ -1,7 +1,8 @@
 //! How faults of a source, a job, its listings and marks files are told.
 ghost use Rattle.std.specs.Prelude.{◌≡◌, ◌≤◌, length, take};
 ghost use Rattle.arrayvec.specs.ArrayVec.{array_vec_len};
-ghost use Rattle.refusals.specs.Meaning.{refusal, line_text, bad_listing, list_refusal, build_refusal, tables_refusal, read_refusal, jobless_refusal, mismatch_text, bad_marks_line, other_table_line};
+ghost use Rattle.refusals.specs.Codes.{exit_code};
+ghost use Rattle.refusals.specs.Meaning.{refusal, no_memory_line, line_text, bad_listing, list_refusal, build_refusal, tables_refusal, read_refusal, jobless_refusal, mismatch_text, bad_marks_line, other_table_line};
 ghost use Rattle.refusals.specs.Refusals.{input_refusal};
 ghost use Rattle.marks_file.specs.Combine.{difference_of};
 
@@ -9,6 +10,7 @@ use crate::lines::{
     NO_MEMORY, READ_FAULT, TOO_LARGE_INPUT, bad_job_line, bad_marks_line, large_job_line,
     other_table_line,
 };
+use crate::status::Reason;
 use annotator::text::{add_hex, add_number, add_text};
 use arrayvec::ArrayVec;
 use brk_table::BuildFault;
@@ -22,29 +24,37 @@ use report_text::add_bytes;
 use s370_decode::Code;
 use std::marker::Model;
 
-/// A refusal: its status, and the line that tells it.
+/// A refusal: why, and the line that tells it.
 #[derive(Drop)]
 pub struct Refusal {
-    pub status: u8,
+    pub reason: Reason,
     pub line: ArrayVec<u8, 160>,
 }
 
 impl Model for Refusal {
+    ghost use Rattle.refusals.specs.Codes.{exit_code};
     ghost use Rattle.refusals.specs.Meaning.{RefusalView};
 
     ghost Value = { RefusalView };
 
-    ghost view = { λ r. record { status = r.status; line = r.line.items } };
+    ghost view = { λ r. record { status = exit_code r.reason; line = r.line.items } };
 }
 
 /// A refusal by its whole line, of at most 160 bytes.
-pub fn plain_refusal(status: u8, line: &[u8]) -> Refusal
+fn plain_refusal(reason: Reason, line: &[u8]) -> Refusal
     requires { length line.now ≤ 160 }
-    ensures { result ≡ refusal status line.now }
+    ensures { result ≡ refusal (exit_code reason) line.now }
 {
     let mut text = ArrayVec::new();
     add_text(&mut text, line);
-    Refusal { status, line: text }
+    Refusal { reason, line: text }
+}
+
+/// Want of memory.
+pub fn no_memory() -> Refusal
+    ensures { result ≡ refusal 7 no_memory_line }
+{
+    plain_refusal(Reason::NoMemory, NO_MEMORY)
 }
 
 /// Why an input wasn't read whole.
@@ -52,9 +62,9 @@ pub fn read_refusal(fault: ReadFault) -> Refusal
     ensures { result ≡ read_refusal fault }
 {
     match fault {
-        ReadFault::Failed => plain_refusal(5, READ_FAULT),
-        ReadFault::TooLarge => plain_refusal(4, TOO_LARGE_INPUT),
-        ReadFault::NoMemory => plain_refusal(7, NO_MEMORY),
+        ReadFault::Failed => plain_refusal(Reason::ReadFault, READ_FAULT),
+        ReadFault::TooLarge => plain_refusal(Reason::TooLarge, TOO_LARGE_INPUT),
+        ReadFault::NoMemory => no_memory(),
     }
 }
 
@@ -64,14 +74,14 @@ fn jobless_refusal(fault: JobFault) -> Refusal
 {
     match fault {
         JobFault::BadJob { line } => Refusal {
-            status: 2,
+            reason: Reason::BadJob,
             line: bad_job_line(line),
         },
         JobFault::TooLarge { what, line } => Refusal {
-            status: 4,
+            reason: Reason::TooLarge,
             line: large_job_line(what, line),
         },
-        JobFault::NoMemory => plain_refusal(7, NO_MEMORY),
+        JobFault::NoMemory => no_memory(),
     }
 }
 
@@ -90,7 +100,7 @@ pub fn bad_marks(offset: usize) -> Refusal
     ensures { result ≡ refusal 10 (bad_marks_line offset) }
 {
     Refusal {
-        status: 10,
+        reason: Reason::BadMarks,
         line: bad_marks_line(offset),
     }
 }
@@ -100,7 +110,7 @@ pub fn other_table(other: &OtherTable) -> Refusal
     ensures { result ≡ refusal 11 (other_table_line (difference_of other.now)) }
 {
     Refusal {
-        status: 11,
+        reason: Reason::OtherTable,
         line: other_table_line(other),
     }
 }
@@ -127,7 +137,7 @@ fn bad_listing(name: &Name, n: u32, why: &[u8]) -> Refusal
     ensures { result ≡ bad_listing name.now n why.now }
 {
     Refusal {
-        status: 12,
+        reason: Reason::BadListing,
         line: line_text(b"BAD LISTING ", name, n, why),
     }
 }
@@ -167,7 +177,7 @@ fn list_refusal(name: &Name, fault: ListFault) -> Refusal
     match fault {
         ListFault::NoHeading => bad_listing(name, 0, b" HEADING"),
         ListFault::BadObject { line } => bad_listing(name, line, b" OBJECT"),
-        ListFault::NoMemory => plain_refusal(7, NO_MEMORY),
+        ListFault::NoMemory => no_memory(),
     }
 }
 
@@ -180,11 +190,11 @@ fn build_refusal(name: &Name, loc: u32, fault: BuildFault) -> Refusal
         BuildFault::Outside { line } => bad_listing(name, line, b" OUTSIDE"),
         BuildFault::Overlap { line } => bad_listing(name, line, b" OVERLAP"),
         BuildFault::TooMany { line } => Refusal {
-            status: 4,
+            reason: Reason::TooLarge,
             line: line_text(b"TOO LARGE PLACES ", name, line, b""),
         },
         BuildFault::OwnSvc { line } => Refusal {
-            status: 8,
+            reason: Reason::OwnSvc,
             line: line_text(b"OWN SVC ", name, line, b""),
         },
         BuildFault::Mismatch {
@@ -194,11 +204,11 @@ fn build_refusal(name: &Name, loc: u32, fault: BuildFault) -> Refusal
         } => {
             let why = mismatch_text(loc, &listing, &module);
             Refusal {
-                status: 3,
+                reason: Reason::Mismatch,
                 line: line_text(b"MISMATCH ", name, line, &why),
             }
         }
-        BuildFault::NoMemory => plain_refusal(7, NO_MEMORY),
+        BuildFault::NoMemory => no_memory(),
     }
 }
 
@@ -213,6 +223,6 @@ pub fn tables_refusal(fault: TablesFault) -> Refusal
             location,
             fault,
         } => build_refusal(&module, location, fault),
-        TablesFault::NoMemory => plain_refusal(7, NO_MEMORY),
+        TablesFault::NoMemory => no_memory(),
     }
 }

@@ -7,10 +7,10 @@ mod lines;
 mod status;
 
 pub use faults::{
-    Refusal, bad_marks, input_refusal, other_table, plain_refusal, read_refusal, tables_refusal,
+    Refusal, bad_marks, input_refusal, no_memory, other_table, read_refusal, tables_refusal,
 };
 pub use lines::{
-    NO_MEMORY, USAGE, bad_evidence_line, bad_schedule_line, controlled_line, no_session_line,
-    refuted_line, verified_line,
+    USAGE, bad_evidence_line, bad_schedule_line, controlled_line, no_session_line, refuted_line,
+    verified_line,
 };
-pub use status::{Status, status_of, told};
+pub use status::{Reason, Status, status_of, told, told_no_memory};

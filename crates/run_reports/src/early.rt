@@ -8,7 +8,7 @@ use cov_outside::{Gate, Sink};
 use early_report::{EarlyRunner, early};
 use job_run::run_job_with;
 use module_area::Areas;
-use refusals::{NO_MEMORY, Status, status_of, told};
+use refusals::{Status, status_of, told_no_memory};
 use session_book::Job;
 use std::alloc::Global;
 use std::sync::Wait;
@@ -32,7 +32,7 @@ pub fn write_drained<T: Threads + Wait + Sync, K: Sink, A: Areas, G: Gate + Sync
     let runner = EarlyRunner;
     let (outcome, drains) = match run_job_with(rt, alloc, areas, gate, &runner, job, tables) {
         Ok(ran) => ran,
-        Err(_) => return told(sink, NO_MEMORY, 7),
+        Err(_) => return told_no_memory(sink),
     };
     status_of(early(sink, job, tables, &outcome, &drains))
 }

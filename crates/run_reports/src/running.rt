@@ -9,7 +9,7 @@ use cov_outside::{Gate, Sink};
 use job_run::run_job_with;
 use marks_file::write;
 use module_area::Areas;
-use refusals::{NO_MEMORY, Status, status_of, told};
+use refusals::{Status, status_of, told_no_memory};
 use report_text::report;
 use session_book::Job;
 use session_marks::{NoSets, fill_marks, marks_of};
@@ -42,7 +42,7 @@ pub fn write_report<
 {
     let (outcome, _) = match run_job_with(rt, alloc, areas, gate, by, job, tables) {
         Ok(ran) => ran,
-        Err(_) => return told(sink, NO_MEMORY, 7),
+        Err(_) => return told_no_memory(sink),
     };
     status_of(report(sink, job, tables, &outcome))
 }
@@ -78,10 +78,10 @@ pub fn write_marks<
         places: tables.len(),
     };
     let Ok(mut marks) = marks_of(alloc, job, tables, &none, s) else {
-        return told(sink, NO_MEMORY, 7);
+        return told_no_memory(sink);
     };
     let Ok((outcome, _)) = run_job_with(rt, alloc, areas, gate, by, job, tables) else {
-        return told(sink, NO_MEMORY, 7);
+        return told_no_memory(sink);
     };
     fill_marks(&mut marks, job, tables, &outcome, s);
     status_of(write(sink, &marks))

@@ -7,7 +7,7 @@ use brk_table::Tables;
 use cov_outside::{Gate, Sink};
 use job_run::run_job;
 use module_area::Areas;
-use refusals::{NO_MEMORY, Status, status_of, told};
+use refusals::{Status, status_of, told_no_memory};
 use report_text::trial_text;
 use session_book::Job;
 use std::alloc::Global;
@@ -35,7 +35,7 @@ pub fn write_trial<T: Threads + Wait + Sync, K: Sink, A: Areas, G: Gate + Sync>(
     ensures { Tried A.Areas K.Sink number tasks job.now tables.now areas.old areas.new sink.old sink.new result }
 {
     let Ok(outcome) = run_job(rt, alloc, areas, gate, job, tables) else {
-        return told(sink, NO_MEMORY, 7);
+        return told_no_memory(sink);
     };
     status_of(trial_text(sink, number, tasks, tables, &outcome))
 }

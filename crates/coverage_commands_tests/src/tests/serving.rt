@@ -52,7 +52,7 @@ pub fn serve_with<T: Threads + Wait + Sync>(
         &mut areas,
         &OpenGate,
     );
-    Ok((status.0, sink.bytes().to_vec(alloc)?))
+    Ok((status.code(), sink.bytes().to_vec(alloc)?))
 }
 
 /// Whether the words have this status and this text without areas, on the job of a count.
@@ -61,7 +61,7 @@ fn is_told(alloc: Global, words: &str, number: u8, text: &[u8]) -> Result<bool, 
     let mut source = MemSource::new(job_of(alloc, "COUNT", FROM_3)?, 64, Vec::new(alloc));
     let mut sink = MemSink::new(alloc, 4096, 4096, Vec::new(alloc))?;
     let status = cover_one(alloc, &all, &mut source, &mut sink);
-    Ok(status.0 == number && sink.bytes() == text)
+    Ok(status.code() == number && sink.bytes() == text)
 }
 
 #[test]
@@ -110,7 +110,7 @@ fn is_served_surely<T: Threads + Wait + Sync>(
         Some(counts) => is_only_tally(areas.ledger(), counts),
         None => areas.ledger().len() == 0,
     };
-    Ok(status.0 == number && is_so)
+    Ok(status.code() == number && is_so)
 }
 
 #[test]

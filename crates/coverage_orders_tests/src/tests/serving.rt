@@ -33,5 +33,5 @@ pub fn serve_over<T: Threads + Wait + Sync, A: Areas, G: Gate + Sync>(
     let mut source = MemSource::new(input.to_vec(alloc)?, 64, Vec::new(alloc));
     let mut sink = MemSink::new(alloc, 4096, 4096, Vec::new(alloc))?;
     let status = cover(rt, alloc, &all, &mut source, &mut sink, areas, gate);
-    Ok((status.0, sink.bytes().to_vec(alloc)?))
+    Ok((status.code(), sink.bytes().to_vec(alloc)?))
 }

@@ -1,4 +1,5 @@
 use Rattle.std.proofs.Common.{refl, ◌∙◌}
+use Rattle.refusals.specs.Codes.{exit_code}
 use Rattle.refusals.specs.Meaning.{read_refusal}
 use Rattle.refusals.proofs.Laws.{told_as}
 use Rattle.job_input.specs.declared.words.Command.TheVariants.{Combine}
@@ -13,4 +14,4 @@ returns-in-Err g c a =
     let r = c.refusal in
     let e = c.in-Err.fault in
     unread Combine _ a _ _ e refl c.in-Err.ensures.fault
-    (told_as r.inside.status r.inside.line.items c.deref-in-Err.result.now (read_refusal e) _ _ (r.view_is ∙ c.read_refusal-refusal.ensures) c.deref-in-Err.ensures.0 c.told.ensures)
+    (told_as (exit_code r.inside.reason) r.inside.line.items c.deref-in-Err.result.now (read_refusal e) _ _ (r.view_is ∙ c.read_refusal-refusal.ensures) c.deref-in-Err.ensures.0 c.told.ensures)

@@ -30,9 +30,9 @@ returns g c s unread =
 pub returns-in_default : goal.returns-in_default
 returns-in_default g c s unread =
     let a = areas_change g.A.Areas.ledger g.A.Areas.finals g.A.Areas.made c.args.areas.now c.args.areas.now in
-    unmade c.args.number c.args.tasks s a.before _ _ unread c.told.ensures
+    unmade c.args.number c.args.tasks s a.before _ _ unread c.told_no_memory.ensures
 
 pub returns-in_default-faultless_tables : goal.returns-in_default-faultless_tables
 returns-in_default-faultless_tables g c s unread =
     let a = areas_change g.A.Areas.ledger g.A.Areas.finals g.A.Areas.made c.args.areas.now c.args.areas.now in
-    unmade c.args.number c.args.tasks s a.before _ _ unread c.told-in_default-faultless_tables.ensures
+    unmade c.args.number c.args.tasks s a.before _ _ unread c.told_no_memory-in_default-faultless_tables.ensures

@@ -12,4 +12,4 @@ returns-in-Ok g c =
 pub returns-in-Err : goal.returns-in-Err
 returns-in-Err g c =
     let k = sink_change (written_by g.W.Write.contents) write_faults c.args.sink.now c.cover-status.new.sink in
-    (lost k _ _ _ c.flush.ensures.kept c.in-Err.ensures.one c.cover-status.ensures, λ other. absurd (other refl))
+    rw c.of.ensures (lost k _ _ _ c.flush.ensures.kept c.in-Err.ensures.one c.cover-status.ensures, λ other. absurd (other refl))

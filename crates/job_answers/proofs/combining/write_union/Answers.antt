@@ -1,3 +1,4 @@
+use Rattle.refusals.specs.Codes.{exit_code}
 use Rattle.refusals.proofs.Laws.{written_as, told_as}
 use Rattle.job_answers.proofs.FileLemmas.{united, ununited}
 use Rattle.job_answers.specs.Files.{combine_refusal}
@@ -11,4 +12,4 @@ pub returns-in-Err : goal.returns-in-Err
 returns-in-Err g c =
     let r = c.refusal in
     ununited c.args.bytes.now c.in-Err.fault _ _ c.in-Err.ensures.fault
-    (told_as r.inside.status r.inside.line.items c.deref.result.now (combine_refusal c.in-Err.fault) _ _ (r.view_is ∙ c.combine_refusal-refusal.ensures) c.deref.ensures.0 c.told.ensures)
+    (told_as (exit_code r.inside.reason) r.inside.line.items c.deref.result.now (combine_refusal c.in-Err.fault) _ _ (r.view_is ∙ c.combine_refusal-refusal.ensures) c.deref.ensures.0 c.told.ensures)

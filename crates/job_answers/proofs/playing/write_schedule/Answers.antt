@@ -15,7 +15,7 @@ returns g c =
     (written_as _ _ _ c.replay_text.ensures.as_text c.status_of.ensures.whole c.status_of.ensures.failed)
 
 pub returns-in-Err-NoMemory : goal.returns-in-Err-NoMemory
-returns-in-Err-NoMemory g c = Wanting c.told-in-Err-NoMemory.ensures
+returns-in-Err-NoMemory g c = Wanting c.told_no_memory.ensures
 
 pub returns-in-Err-Bad : goal.returns-in-Err-Bad
 returns-in-Err-Bad g c =

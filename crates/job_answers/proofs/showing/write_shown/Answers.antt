@@ -1,5 +1,6 @@
 use Rattle.std.proofs.Common.{refl}
 use Rattle.session_marks.specs.FromFile.{set_at}
+use Rattle.refusals.specs.Codes.{exit_code}
 use Rattle.refusals.specs.Told.{Told}
 use Rattle.job_answers.specs.Meaning.{Shown}
 use Rattle.job_answers.specs.Ready.{view_of}
@@ -15,4 +16,4 @@ pub returns-in-Err : goal.returns-in-Err
 returns-in-Err g c =
     let r = c.refusal in
     unshown (view_of c.args.ready.now) c.in-Err.refusal _ _ (rw c.deref.ensures.value at c.in-Err.ensures.refused)
-    (told_as r.inside.status r.inside.line.items c.deref-in-Err.result.now c.in-Err.refusal _ _ r.view_is c.deref-in-Err.ensures.0 c.told.ensures)
+    (told_as (exit_code r.inside.reason) r.inside.line.items c.deref-in-Err.result.now c.in-Err.refusal _ _ r.view_is c.deref-in-Err.ensures.0 c.told.ensures)

@@ -28,4 +28,4 @@ returns g c is =
     (written_as _ _ _ (rw c.deref.ensures.value at c.early.ensures) c.status_of.ensures.whole c.status_of.ensures.failed)
 
 pub returns-in-Err : goal.returns-in-Err
-returns-in-Err g c is = Wanting c.told.ensures
+returns-in-Err g c is = Wanting c.told_no_memory.ensures

@@ -15,10 +15,10 @@ returns g c =
     let kept : keeps_rules marks ≡ true = search rules in
     Told 0 (file_bytes Second marks)
     (refl, marked (g.R.Runner.course c.args.by.now) c.args.job.now c.args.tables.now c.args.s.0 a o.outcome.tasks.items o.outcome.sets marks o.ensures.left o.ensures.outcome kept c.fill_marks.ensures)
-    (written_as (file_bytes Second marks) c.write.result c.status_of.result.0 c.write.ensures c.status_of.ensures.whole c.status_of.ensures.failed)
+    (written_as (file_bytes Second marks) c.write.result c.status_of.result c.write.ensures c.status_of.ensures.whole c.status_of.ensures.failed)
 
 pub returns-in_default : goal.returns-in_default
-returns-in_default g c = Wanting c.told.ensures
+returns-in_default g c = Wanting c.told_no_memory.ensures
 
 pub returns-in_default-run_job_with : goal.returns-in_default-run_job_with
-returns-in_default-run_job_with g c = Wanting c.told-in_default-run_job_with.ensures
+returns-in_default-run_job_with g c = Wanting c.told_no_memory-in_default-run_job_with.ensures

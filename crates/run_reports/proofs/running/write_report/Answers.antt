@@ -16,4 +16,4 @@ returns g c =
     (written_as _ _ _ c.report.ensures c.status_of.ensures.whole c.status_of.ensures.failed)
 
 pub returns-in-Err : goal.returns-in-Err
-returns-in-Err g c = Wanting c.told.ensures
+returns-in-Err g c = Wanting c.told_no_memory.ensures

@@ -26,4 +26,4 @@ returns g c =
     (written_as _ _ _ c.trial_text.ensures c.status_of.ensures.whole c.status_of.ensures.failed)
 
 pub returns-in_default : goal.returns-in_default
-returns-in_default g c = Wanting c.told.ensures
+returns-in_default g c = Wanting c.told_no_memory.ensures
