@@ -5,16 +5,14 @@ use Rattle.cov_outside.specs.declared.streams.Sink as sink
 use Rattle.cov_outside.specs.declared.streams.Source as source
 use Rattle.module_area.specs.declared.areas.Areas as areas
 use Rattle.job_input.specs.Meaning.{SourceChange, source_change}
-use Rattle.job_input.specs.Inputs.{IsInput}
 use Rattle.job_run.specs.Meaning.{Account}
 use Rattle.refusals.specs.Meaning.{sink_change}
 use Rattle.session_book.specs.Meaning.{JobView}
 use Rattle.job_input.specs.declared.words.Command.{Command}
-use Rattle.coverage_commands.specs.Meaning.{Answers, Counts, IsServed, IsUnread, asked, way_of}
+use Rattle.coverage_commands.specs.Meaning.{Answers, Counts, IsServed, IsUnread, asked}
 use Rattle.run_reports.specs.Meaning.{areas_change}
 use Rattle.coverage_commands.specs.Changes.{no_change}
 use Rattle.coverage_commands.specs.Words.{without_threads}
-use Rattle.job_answers.specs.declared.ready.Ready.{Ready}
 
 -- ---- from a source
 
@@ -36,18 +34,7 @@ ServedAlone s k words source0 source1 sink0 sink1 answer =
     (a : Account) → IsServed (without_threads (asked words)) (source_change s.left s.faults source0 source1) (no_change a)
     (sink_change k.written k.faults sink0 sink1) answer
 
--- ---- of a job that is ready, however it came
-
--- over areas, and where none are made
-abbrev pub AnsweredJob : {A C P K : Type 0} → areas.Ghosts A C P → sink.Ghosts K → Command → Ready → A → A → K → K → ℕ → Type 0
-AnsweredJob a k c r areas0 areas1 sink0 sink1 answer =
-    (s : SourceChange) → IsInput (way_of c).form s r.input →
-    Answers c s (areas_change a.ledger a.finals a.made areas0 areas1) (sink_change k.written k.faults sink0 sink1) answer
-
-abbrev pub AnsweredJobAlone : {K : Type 0} → sink.Ghosts K → Command → Ready → K → K → ℕ → Type 0
-AnsweredJobAlone k c r sink0 sink1 answer =
-    (s : SourceChange) (a : Account) → IsInput (way_of c).form s r.input
-    → Answers c s (no_change a) (sink_change k.written k.faults sink0 sink1) answer
+-- ---- of a job that is ready
 
 abbrev pub IsCount : JobView → TablesView → ℕ → List ℕ → Type 0
 IsCount j tables status text = (status ≡ 0) × Counts j tables text

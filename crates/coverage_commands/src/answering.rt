@@ -1,139 +1,48 @@
 //! The program over any source, sink and areas.
-ghost use Rattle.std.specs.Prelude.{◌≡◌, ◌<◌, ◌^◌, false, true};
+ghost use Rattle.std.specs.Prelude.{◌<◌, ◌^◌};
 ghost use Rattle.job_input.specs.Words.{HasFewTasks};
-ghost use Rattle.coverage_commands.specs.Words.{runs_threads, without_threads};
-ghost use Rattle.coverage_commands.specs.Meaning.{Serves, way_of};
-ghost use Rattle.coverage_commands.specs.Calls.{Answered, AnsweredAlone, AnsweredJob, AnsweredJobAlone, ServedAlone};
-ghost use Rattle.job_answers.specs.Ready.{HasNumbers, IsReadyFor};
+ghost use Rattle.coverage_commands.specs.Words.{without_threads};
+ghost use Rattle.coverage_commands.specs.Meaning.{Serves};
+ghost use Rattle.coverage_commands.specs.Calls.{Answered, AnsweredAlone, ServedAlone};
 
-use crate::combining::answer_combine;
-use crate::counting::write_counts;
+use crate::combine::answer_combine;
+use crate::count::answer_count;
+use crate::early::answer_early;
+use crate::ends::answer_ends;
+use crate::exits::answer_exits;
+use crate::marks::answer_marks;
+use crate::prove::answer_prove;
+use crate::replay::answer_replay;
+use crate::run::answer_run;
+use crate::show::answer_show;
+use crate::table::answer_table;
 use crate::trial::answer_trial;
-use crate::ways::{asked_of, form_of};
+use crate::verify::answer_verify;
 use cov_outside::{Gate, Sink, Source};
-use job_answers::{
-    Ready, make_ready, write_evidence, write_job_ends, write_schedule, write_shown, write_verdict,
-};
 use job_input::{Command, command_of};
 use module_area::Areas;
-use refusals::{Reason, Status, USAGE, status_of, told};
-use report_text::table;
-use run_reports::{write_drained, write_marks, write_report};
+use refusals::{Reason, Status, USAGE, told};
 use std::alloc::Global;
 use std::sync::Wait;
 use std::thread::Threads;
-use task_services::{ExitRunner, JobRunner};
-
-/// Answers a command whose tasks run on threads, of a job that is ready for it.
-fn answer_tasks<T: Threads + Wait + Sync, K: Sink, A: Areas, G: Gate + Sync>(
-    rt: &T,
-    alloc: Global,
-    command: &Command,
-    ready: &Ready,
-    sink: &mut K,
-    areas: &mut A,
-    gate: &G,
-) -> Status
-    requires threads { runs_threads command.now ≡ true }
-    requires reads { (way_of command.now).reads_job ≡ true }
-    requires ready { IsReadyFor (way_of command.now).asked ready.now }
-    requires room { A.made areas.old < 2 ^ 61 }
-    ensures { AnsweredJob A.Areas K.Sink command.now ready.now areas.old areas.new sink.old sink.new result }
-{
-    let job = &ready.input.job;
-    let tables = &ready.tables;
-    let runner = JobRunner {
-        services: job.services(),
-    };
-    match command {
-        Command::Run(_) => write_report(rt, alloc, &runner, job, tables, sink, areas, gate),
-        Command::Exits => write_report(rt, alloc, &ExitRunner, job, tables, sink, areas, gate),
-        Command::Early => write_drained(rt, alloc, job, tables, sink, areas, gate),
-        Command::Count(_) => write_counts(rt, alloc, job, tables, sink, gate),
-        Command::Marks { .. } => write_marks(
-            rt,
-            alloc,
-            &runner,
-            job,
-            tables,
-            ready.session,
-            sink,
-            areas,
-            gate,
-        ),
-        Command::Table(_)
-        | Command::Ends(_)
-        | Command::Replay
-        | Command::Show { .. }
-        | Command::Prove(_)
-        | Command::Verify(_)
-        | Command::Trial { .. }
-        | Command::Combine
-        | Command::Unknown => unreachable!(),
-    }
-}
-
-/// Answers a command that needs no threads, of a job that is ready for it.
-fn answer_job<K: Sink>(alloc: Global, command: &Command, ready: &Ready, sink: &mut K) -> Status
-    requires alone { runs_threads command.now ≡ false }
-    requires reads { (way_of command.now).reads_job ≡ true }
-    requires ready { IsReadyFor (way_of command.now).asked ready.now }
-    requires numbers { (way_of command.now).form.more ≡ true → HasNumbers ready.now }
-    ensures { AnsweredJobAlone K.Sink command.now ready.now sink.old sink.new result }
-{
-    let job = &ready.input.job;
-    let tables = &ready.tables;
-    let behind = &ready.input.rest;
-    match command {
-        Command::Table(_) => status_of(table(sink, job, tables)),
-        Command::Ends(_) => write_job_ends(alloc, job, tables, sink),
-        Command::Replay => write_schedule(alloc, job, tables, ready.input.lines, behind, sink),
-        Command::Show { .. } => write_shown(alloc, ready, sink),
-        Command::Prove(_) => write_evidence(alloc, job, tables, ready.session, sink),
-        Command::Verify(name) => write_verdict(
-            alloc,
-            &name,
-            job,
-            tables,
-            ready.session,
-            behind,
-            sink,
-        ),
-        Command::Run(_)
-        | Command::Exits
-        | Command::Early
-        | Command::Count(_)
-        | Command::Marks { .. }
-        | Command::Trial { .. }
-        | Command::Combine
-        | Command::Unknown => unreachable!(),
-    }
-}
 
 /// Answers the commands that need no threads; all others are usage.
 fn answer_one<S: Source, K: Sink>(
     alloc: Global,
-    command: &Command,
+    command: Command,
     source: &mut S,
     sink: &mut K,
 ) -> Status
-    ensures { AnsweredAlone S.Source K.Sink (without_threads command.now) source.old source.new sink.old sink.new result }
+    ensures { AnsweredAlone S.Source K.Sink (without_threads command) source.old source.new sink.old sink.new result }
 {
     match command {
-        Command::Table(_)
-        | Command::Ends(_)
-        | Command::Replay
-        | Command::Show { .. }
-        | Command::Prove(_)
-        | Command::Verify(_) => {
-            let form = form_of(command);
-            let asked = asked_of(command);
-            match make_ready(alloc, source, form, &asked) {
-                Ok(ready) => answer_job(alloc, command, &ready, sink),
-                Err(refusal) => told(sink, &refusal.line, refusal.reason),
-            }
-        }
+        Command::Table(grammar) => answer_table(alloc, grammar, source, sink),
+        Command::Ends(grammar) => answer_ends(alloc, grammar, source, sink),
+        Command::Replay => answer_replay(alloc, source, sink),
         Command::Combine => answer_combine(alloc, source, sink),
+        Command::Show { name, grammar } => answer_show(alloc, name, grammar, source, sink),
+        Command::Prove(name) => answer_prove(alloc, name, source, sink),
+        Command::Verify(name) => answer_verify(alloc, name, source, sink),
         Command::Run(_)
         | Command::Exits
         | Command::Early
@@ -159,18 +68,13 @@ fn answer<T: Threads + Wait + Sync, S: Source, K: Sink, A: Areas, G: Gate + Sync
     ensures { Answered S.Source A.Areas K.Sink command source.old source.new areas.old areas.new sink.old sink.new result }
 {
     match command {
-        Command::Run(_)
-        | Command::Exits
-        | Command::Early
-        | Command::Count(_)
-        | Command::Marks { .. } => {
-            let form = form_of(&command);
-            let asked = asked_of(&command);
-            match make_ready(alloc, source, form, &asked) {
-                Ok(ready) => answer_tasks(rt, alloc, &command, &ready, sink, areas, gate),
-                Err(refusal) => told(sink, &refusal.line, refusal.reason),
-            }
-        }
+        Command::Run(grammar) => answer_run(rt, alloc, grammar, source, sink, areas, gate),
+        Command::Exits => answer_exits(rt, alloc, source, sink, areas, gate),
+        Command::Early => answer_early(rt, alloc, source, sink, areas, gate),
+        Command::Count(grammar) => answer_count(rt, alloc, grammar, source, sink, gate),
+        Command::Marks { name, grammar } => answer_marks(
+            rt, alloc, name, grammar, source, sink, areas, gate,
+        ),
         Command::Trial { number, tasks } => answer_trial(
             rt, alloc, number, tasks, sink, areas, gate,
         ),
@@ -181,7 +85,7 @@ fn answer<T: Threads + Wait + Sync, S: Source, K: Sink, A: Areas, G: Gate + Sync
         | Command::Show { .. }
         | Command::Prove(_)
         | Command::Verify(_)
-        | Command::Unknown => answer_one(alloc, &command, source, sink),
+        | Command::Unknown => answer_one(alloc, command, source, sink),
     }
 }
 
@@ -249,6 +153,5 @@ pub fn cover_one<S: Source, K: Sink>(
 ) -> Status
     ensures { ServedAlone S.Source K.Sink words.now source.old source.new sink.old sink.new result }
 {
-    let command = command_of(words);
-    answer_one(alloc, &command, source, sink)
+    answer_one(alloc, command_of(words), source, sink)
 }

@@ -2,9 +2,20 @@
 #![tactic(auto)]
 
 mod answering;
-mod combining;
-mod counting;
+mod combine;
+mod count;
+mod early;
+mod ends;
+mod exits;
+mod marks;
+mod prove;
+mod refusing;
+mod replay;
+mod run;
+mod show;
+mod table;
 mod trial;
+mod verify;
 mod ways;
 
 pub use answering::{cover, cover_one};

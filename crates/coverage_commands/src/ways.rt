@@ -1,70 +1,36 @@
-//! What a command asks for.
+//! What commands ask for.
 ghost use Rattle.std.specs.Prelude.{◌≡◌};
-ghost use Rattle.coverage_commands.specs.Meaning.{way_of};
+ghost use Rattle.job_input.specs.Meaning.{to_end, to_go_on};
+ghost use Rattle.job_answers.specs.Meaning.{asks_session};
 
+use cov_base::Name;
 use job_answers::{Asked, Wanted};
-use job_input::{Command, Form};
+use job_input::Form;
 use job_text::Grammar;
 
-/// The form of its input, where that has a job.
-pub fn form_of(command: &Command) -> Form
-    ensures { result ≡ (way_of command.now).form }
+/// A job of this grammar, and nothing behind it.
+pub fn to_end(grammar: Grammar) -> Form
+    ensures { result ≡ to_end grammar }
 {
-    match command {
-        Command::Run(grammar)
-        | Command::Count(grammar)
-        | Command::Marks { name: _, grammar }
-        | Command::Table(grammar)
-        | Command::Ends(grammar) => Form {
-            grammar: *grammar,
-            more: false,
-        },
-        Command::Show { name: _, grammar } => Form {
-            grammar: *grammar,
-            more: true,
-        },
-        Command::Replay | Command::Verify(_) => Form {
-            grammar: Grammar::Plain,
-            more: true,
-        },
-        Command::Exits
-        | Command::Early
-        | Command::Prove(_)
-        | Command::Trial { .. }
-        | Command::Combine
-        | Command::Unknown => Form {
-            grammar: Grammar::Plain,
-            more: false,
-        },
+    Form {
+        grammar,
+        more: false,
     }
 }
 
-/// What it asks of the job's sessions.
-pub fn asked_of(command: &Command) -> Asked
-    ensures { result ≡ (way_of command.now).asked }
+/// A job of this grammar, behind which more may stand.
+pub fn to_go_on(grammar: Grammar) -> Form
+    ensures { result ≡ to_go_on grammar }
 {
-    match command {
-        Command::Marks { name, grammar: _ } | Command::Show { name, grammar: _ } => {
-            Asked::WithSession(Wanted {
-                name: *name,
-                whole: false,
-            })
-        }
-        Command::Prove(name) | Command::Verify(name) => {
-            Asked::WithSession(Wanted {
-                name: *name,
-                whole: true,
-            })
-        }
-        Command::Count(_) => Asked::AllWhole,
-        Command::Run(_)
-        | Command::Exits
-        | Command::Early
-        | Command::Table(_)
-        | Command::Ends(_)
-        | Command::Replay
-        | Command::Trial { .. }
-        | Command::Combine
-        | Command::Unknown => Asked::AnyJob,
+    Form {
+        grammar,
+        more: true,
     }
+}
+
+/// The session of the name, which may have to be whole.
+pub fn asks_session(name: Name, whole: bool) -> Asked
+    ensures { result ≡ asks_session name whole }
+{
+    Asked::WithSession(Wanted { name, whole })
 }

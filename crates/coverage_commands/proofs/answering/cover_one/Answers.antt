@@ -5,4 +5,4 @@ use Rattle.coverage_commands.proofs.ServedLemmas.{served}
 use Rattle.coverage_commands.proofs.answering.cover_one.Goals as goal
 
 pub returns : goal.returns
-returns g c a = rw (sym c.command_of-command.ensures.value) (served (without_threads c.command_of-command.result) _ (no_change a) _ _ (c.answer_one.ensures a))
+returns g c a = rw (sym c.command_of.ensures.value) (served (without_threads c.command_of.result) _ (no_change a) _ _ (c.answer_one.ensures a))

@@ -2,7 +2,7 @@ use Rattle.job_run.specs.Slots.{dones}
 use Rattle.refusals.specs.Told.{Wanting}
 use Rattle.refusals.proofs.Laws.{written_as}
 use Rattle.coverage_commands.proofs.CountLemmas.{are_whole, counted}
-use Rattle.coverage_commands.proofs.counting.write_counts.Goals as goal
+use Rattle.coverage_commands.proofs.count.write_counts.Goals as goal
 
 pub count_job-requires-clause-whole : goal.count_job-requires-clause-whole
 count_job-requires-clause-whole g c = λ lifetimes live. are_whole c.args.job.now c.requires.free

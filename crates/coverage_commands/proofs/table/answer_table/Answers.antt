@@ -1,0 +1,15 @@
+use Rattle.std.proofs.Common.{refl}
+use Rattle.job_input.specs.declared.words.Command.TheVariants.{Table}
+use Rattle.coverage_commands.proofs.AnswerLemmas.{answered, stopped}
+use Rattle.refusals.proofs.Laws.{told_text}
+use Rattle.coverage_commands.proofs.table.answer_table.Goals as goal
+
+pub returns-in-Ok : goal.returns-in-Ok
+returns-in-Ok g c a =
+    let ready = rw (c.to_end.ensures) at c.in-Ok.ensures.ready in
+    answered (Table c.args.grammar) _ a _ _ c.in-Ok.ready _ refl ready.is ready.input (λ status text h. h) (λ status text h z. tt)
+    (told_text _ _ _ c.table.ensures c.status_of.ensures.whole c.status_of.ensures.failed)
+
+pub returns-in-Err : goal.returns-in-Err
+returns-in-Err g c a =
+    stopped (Table c.args.grammar) _ a _ _ c.in-Err.refusal refl (rw (c.to_end.ensures) at c.in-Err.ensures.stopped) c.refuse.ensures
