@@ -22,6 +22,7 @@ use cov_outside::{Gate, Sink, Source};
 use job_input::{Command, command_of};
 use module_area::Areas;
 use refusals::{Reason, Status, USAGE, told};
+use run_reports::Host;
 use std::alloc::Global;
 use std::sync::Wait;
 use std::thread::Threads;
@@ -55,29 +56,23 @@ fn answer_one<S: Source, K: Sink>(
 
 /// Answers every command.
 fn answer<T: Threads + Wait + Sync, S: Source, K: Sink, A: Areas, G: Gate + Sync>(
-    rt: &T,
-    alloc: Global,
+    host: &Host<T, G>,
     command: Command,
     source: &mut S,
     sink: &mut K,
     areas: &mut A,
-    gate: &G,
 ) -> Status
     requires room { A.made areas.old < 2 ^ 61 }
     requires few { HasFewTasks command }
     ensures { Answered S.Source A.Areas K.Sink command source.old source.new areas.old areas.new sink.old sink.new result }
 {
     match command {
-        Command::Run(grammar) => answer_run(rt, alloc, grammar, source, sink, areas, gate),
-        Command::Exits => answer_exits(rt, alloc, source, sink, areas, gate),
-        Command::Early => answer_early(rt, alloc, source, sink, areas, gate),
-        Command::Count(grammar) => answer_count(rt, alloc, grammar, source, sink, gate),
-        Command::Marks { name, grammar } => answer_marks(
-            rt, alloc, name, grammar, source, sink, areas, gate,
-        ),
-        Command::Trial { number, tasks } => answer_trial(
-            rt, alloc, number, tasks, sink, areas, gate,
-        ),
+        Command::Run(grammar) => answer_run(host, grammar, source, sink, areas),
+        Command::Exits => answer_exits(host, source, sink, areas),
+        Command::Early => answer_early(host, source, sink, areas),
+        Command::Count(grammar) => answer_count(host, grammar, source, sink),
+        Command::Marks { name, grammar } => answer_marks(host, name, grammar, source, sink, areas),
+        Command::Trial { number, tasks } => answer_trial(host, number, tasks, sink, areas),
         Command::Table(_)
         | Command::Ends(_)
         | Command::Replay
@@ -85,7 +80,7 @@ fn answer<T: Threads + Wait + Sync, S: Source, K: Sink, A: Areas, G: Gate + Sync
         | Command::Show { .. }
         | Command::Prove(_)
         | Command::Verify(_)
-        | Command::Unknown => answer_one(alloc, command, source, sink),
+        | Command::Unknown => answer_one(host.alloc, command, source, sink),
     }
 }
 
@@ -125,7 +120,8 @@ pub fn cover<T: Threads + Wait + Sync, S: Source, K: Sink, A: Areas, G: Gate + S
     requires { A.made areas.old < 2 ^ 61 }
     ensures { Serves S.Source A.Areas K.Sink words.now source.old source.new areas.old areas.new sink.old sink.new result }
 {
-    answer(rt, alloc, command_of(words), source, sink, areas, gate)
+    let host = Host { rt, alloc, gate };
+    answer(&host, command_of(words), source, sink, areas)
 }
 
 /// Serves the commands that need no threads:

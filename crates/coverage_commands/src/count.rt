@@ -15,26 +15,24 @@ use job_answers::{Asked, make_ready};
 use job_text::Grammar;
 use refusals::{Status, status_of, told_no_memory};
 use report_text::count_text;
+use run_reports::Host;
 use session_book::Job;
-use std::alloc::Global;
 use std::sync::Wait;
 use std::thread::Threads;
 
 /// Counts a job whose sessions have no controller, and writes its counts.
 #[tactic(auto, using(brk_table::proofs::Laws::are_in))]
 fn write_counts<T: Threads + Wait + Sync, K: Sink, G: Gate + Sync>(
-    rt: &T,
-    alloc: Global,
+    host: &Host<T, G>,
     job: &Job,
     tables: &Tables,
     sink: &mut K,
-    gate: &G,
 ) -> Status
     requires free { first_controlled job.now ≡ None }
     requires job { IsReadyJob job.now tables.now }
     ensures { Tells K.Sink (IsCount job.now tables.now) sink.old sink.new result }
 {
-    let Ok(counted) = count_job(rt, alloc, gate, job, tables) else {
+    let Ok(counted) = count_job(host.rt, host.alloc, host.gate, job, tables) else {
         return told_no_memory(sink);
     };
     status_of(count_text(sink, job, tables, &counted))
@@ -42,17 +40,15 @@ fn write_counts<T: Threads + Wait + Sync, K: Sink, G: Gate + Sync>(
 
 /// Reads a job whose sessions have no controllers, runs its tasks, and writes how often each fact was met.
 pub fn answer_count<T: Threads + Wait + Sync, S: Source, K: Sink, G: Gate + Sync>(
-    rt: &T,
-    alloc: Global,
+    host: &Host<T, G>,
     grammar: Grammar,
     source: &mut S,
     sink: &mut K,
-    gate: &G,
 ) -> Status
     ensures { AnsweredAlone S.Source K.Sink (Count grammar) source.old source.new sink.old sink.new result }
 {
-    match make_ready(alloc, source, to_end(grammar), &Asked::AllWhole) {
-        Ok(ready) => write_counts(rt, alloc, &ready.input.job, &ready.tables, sink, gate),
+    match make_ready(host.alloc, source, to_end(grammar), &Asked::AllWhole) {
+        Ok(ready) => write_counts(host, &ready.input.job, &ready.tables, sink),
         Err(refusal) => refuse(sink, &refusal),
     }
 }

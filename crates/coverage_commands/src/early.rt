@@ -10,33 +10,22 @@ use job_answers::{Asked, make_ready};
 use job_text::Grammar;
 use module_area::Areas;
 use refusals::Status;
-use run_reports::write_drained;
-use std::alloc::Global;
+use run_reports::{Host, write_drained};
 use std::sync::Wait;
 use std::thread::Threads;
 
 /// Reads a job, runs its tasks, and writes its report with that.
 pub fn answer_early<T: Threads + Wait + Sync, S: Source, K: Sink, A: Areas, G: Gate + Sync>(
-    rt: &T,
-    alloc: Global,
+    host: &Host<T, G>,
     source: &mut S,
     sink: &mut K,
     areas: &mut A,
-    gate: &G,
 ) -> Status
     requires { A.made areas.old < 2 ^ 61 }
     ensures { Answered S.Source A.Areas K.Sink Early source.old source.new areas.old areas.new sink.old sink.new result }
 {
-    match make_ready(alloc, source, to_end(Grammar::Plain), &Asked::AnyJob) {
-        Ok(ready) => write_drained(
-            rt,
-            alloc,
-            &ready.input.job,
-            &ready.tables,
-            sink,
-            areas,
-            gate,
-        ),
+    match make_ready(host.alloc, source, to_end(Grammar::Plain), &Asked::AnyJob) {
+        Ok(ready) => write_drained(host, &ready.input.job, &ready.tables, sink, areas),
         Err(refusal) => refuse(sink, &refusal),
     }
 }

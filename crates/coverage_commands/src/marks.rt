@@ -11,42 +11,42 @@ use job_answers::make_ready;
 use job_text::Grammar;
 use module_area::Areas;
 use refusals::Status;
-use run_reports::write_marks;
-use std::alloc::Global;
+use run_reports::{Host, write_marks};
 use std::sync::Wait;
 use std::thread::Threads;
 use task_services::JobRunner;
 
 /// Reads a job, runs its tasks with its services, and writes the marks file of the session of the name.
 pub fn answer_marks<T: Threads + Wait + Sync, S: Source, K: Sink, A: Areas, G: Gate + Sync>(
-    rt: &T,
-    alloc: Global,
+    host: &Host<T, G>,
     name: Name,
     grammar: Grammar,
     source: &mut S,
     sink: &mut K,
     areas: &mut A,
-    gate: &G,
 ) -> Status
     requires { A.made areas.old < 2 ^ 61 }
     ensures { Answered S.Source A.Areas K.Sink (Marks name grammar) source.old source.new areas.old areas.new sink.old sink.new result }
 {
-    match make_ready(alloc, source, to_end(grammar), &asks_session(name, false)) {
+    match make_ready(
+        host.alloc,
+        source,
+        to_end(grammar),
+        &asks_session(name, false),
+    ) {
         Ok(ready) => {
             let job = &ready.input.job;
             let runner = JobRunner {
                 services: job.services(),
             };
             write_marks(
-                rt,
-                alloc,
+                host,
                 &runner,
                 job,
                 &ready.tables,
                 ready.session,
                 sink,
                 areas,
-                gate,
             )
         },
         Err(refusal) => refuse(sink, &refusal),

@@ -10,32 +10,29 @@ use job_answers::{Asked, make_ready};
 use job_text::Grammar;
 use module_area::Areas;
 use refusals::Status;
-use run_reports::write_report;
-use std::alloc::Global;
+use run_reports::{Host, write_report};
 use std::sync::Wait;
 use std::thread::Threads;
 use task_services::JobRunner;
 
 /// Reads a job, runs its tasks with its services, and writes its report.
 pub fn answer_run<T: Threads + Wait + Sync, S: Source, K: Sink, A: Areas, G: Gate + Sync>(
-    rt: &T,
-    alloc: Global,
+    host: &Host<T, G>,
     grammar: Grammar,
     source: &mut S,
     sink: &mut K,
     areas: &mut A,
-    gate: &G,
 ) -> Status
     requires { A.made areas.old < 2 ^ 61 }
     ensures { Answered S.Source A.Areas K.Sink (Run grammar) source.old source.new areas.old areas.new sink.old sink.new result }
 {
-    match make_ready(alloc, source, to_end(grammar), &Asked::AnyJob) {
+    match make_ready(host.alloc, source, to_end(grammar), &Asked::AnyJob) {
         Ok(ready) => {
             let job = &ready.input.job;
             let runner = JobRunner {
                 services: job.services(),
             };
-            write_report(rt, alloc, &runner, job, &ready.tables, sink, areas, gate)
+            write_report(host, &runner, job, &ready.tables, sink, areas)
         },
         Err(refusal) => refuse(sink, &refusal),
     }

@@ -12,7 +12,7 @@ use job_gen::trial;
 use job_input::{Command, TablesFault, tables_of};
 use module_area::Areas;
 use refusals::{Status, told_no_memory};
-use run_reports::write_trial;
+use run_reports::{Host, write_trial};
 use session_book::Job;
 use std::alloc::Global;
 use std::sync::Wait;
@@ -33,24 +33,22 @@ pub fn faultless_tables(alloc: Global, job: &Job) -> Result<Tables, NoMemory>
 
 /// Makes the job of this number and so many tasks, runs it, and writes its summary.
 pub fn answer_trial<T: Threads + Wait + Sync, K: Sink, A: Areas, G: Gate + Sync>(
-    rt: &T,
-    alloc: Global,
+    host: &Host<T, G>,
     number: u32,
     tasks: u32,
     sink: &mut K,
     areas: &mut A,
-    gate: &G,
 ) -> Status
     requires some { 1 ≤ tasks }
     requires most { tasks ≤ 64 }
     requires room { A.made areas.old < 2 ^ 61 }
     ensures { AnsweredUnread A.Areas K.Sink (Command.Trial number tasks) areas.old areas.new sink.old sink.new result }
 {
-    let Ok(job) = trial(alloc, number, tasks) else {
+    let Ok(job) = trial(host.alloc, number, tasks) else {
         return told_no_memory(sink);
     };
-    let Ok(tables) = faultless_tables(alloc, &job) else {
+    let Ok(tables) = faultless_tables(host.alloc, &job) else {
         return told_no_memory(sink);
     };
-    write_trial(rt, alloc, number, tasks, &job, &tables, sink, areas, gate)
+    write_trial(host, number, tasks, &job, &tables, sink, areas)
 }

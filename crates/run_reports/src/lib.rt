@@ -3,9 +3,11 @@
 #![tactic(auto)]
 
 mod early;
+mod host;
 mod running;
 mod trial;
 
 pub use early::write_drained;
+pub use host::Host;
 pub use running::{write_marks, write_report};
 pub use trial::write_trial;

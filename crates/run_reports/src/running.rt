@@ -3,6 +3,7 @@ ghost use Rattle.std.specs.Prelude.{◌<◌, ◌≤◌, ◌^◌, length};
 ghost use Rattle.job_input.specs.Tables.{IsReadyJob};
 ghost use Rattle.run_reports.specs.Calls.{Marked, Reported};
 
+use crate::host::Host;
 use brk_table::Tables;
 use cov_base::SessNo;
 use cov_outside::{Gate, Sink};
@@ -13,7 +14,6 @@ use refusals::{Status, status_of, told_no_memory};
 use report_text::report;
 use session_book::Job;
 use session_marks::{NoSets, fill_marks, marks_of};
-use std::alloc::Global;
 use std::sync::Wait;
 use std::thread::Threads;
 use task_run::Runner;
@@ -26,21 +26,12 @@ pub fn write_report<
     A: Areas,
     G: Gate + Sync,
     R: Runner<A::C> + Sync,
->(
-    rt: &T,
-    alloc: Global,
-    by: &R,
-    job: &Job,
-    tables: &Tables,
-    sink: &mut K,
-    areas: &mut A,
-    gate: &G,
-) -> Status
+>(host: &Host<T, G>, by: &R, job: &Job, tables: &Tables, sink: &mut K, areas: &mut A) -> Status
     requires job { IsReadyJob job.now tables.now }
     requires room { A.made areas.old < 2 ^ 61 }
     ensures { Reported A.Areas K.Sink (R.course by.now) job.now tables.now areas.old areas.new sink.old sink.new result }
 {
-    let (outcome, _) = match run_job_with(rt, alloc, areas, gate, by, job, tables) {
+    let (outcome, _) = match run_job_with(host.rt, host.alloc, areas, host.gate, by, job, tables) {
         Ok(ran) => ran,
         Err(_) => return told_no_memory(sink),
     };
@@ -56,15 +47,13 @@ pub fn write_marks<
     G: Gate + Sync,
     R: Runner<A::C> + Sync,
 >(
-    rt: &T,
-    alloc: Global,
+    host: &Host<T, G>,
     by: &R,
     job: &Job,
     tables: &Tables,
     s: SessNo,
     sink: &mut K,
     areas: &mut A,
-    gate: &G,
 ) -> Status
     requires from { 0 < s.0 }
     requires to { s.0 ≤ length job.now.sessions }
@@ -77,10 +66,11 @@ pub fn write_marks<
         sessions: s.0,
         places: tables.len(),
     };
-    let Ok(mut marks) = marks_of(alloc, job, tables, &none, s) else {
+    let Ok(mut marks) = marks_of(host.alloc, job, tables, &none, s) else {
         return told_no_memory(sink);
     };
-    let Ok((outcome, _)) = run_job_with(rt, alloc, areas, gate, by, job, tables) else {
+    let Ok((outcome, _)) = run_job_with(host.rt, host.alloc, areas, host.gate, by, job, tables)
+    else {
         return told_no_memory(sink);
     };
     fill_marks(&mut marks, job, tables, &outcome, s);
