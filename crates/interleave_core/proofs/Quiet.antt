@@ -1,6 +1,6 @@
 -- What is quiet stays so, and its sets with it; what is drained is quiet.
-use Rattle.std.proofs.Common.{◌≡◌, inl, inr, ℕ, zero, suc, ◌+◌, ◌*◌, ◌<◌, ◌≤◌, Bool, true, false, not, ◌&&◌, ◌||◌, nat_eq, nat_lt, if◌then◌else◌, Option, Some, None, is_some, List, [], ◌∷◌, length, get_or, set, refl, sym, ◌∙◌, ap, subst, arith, eqb-true, eq-eqb, is_none, option_map}
-use Rattle.std.specs.List.{find, list_any}
+use Rattle.std.proofs.Common.{◌≡◌, inl, inr, ℕ, zero, suc, ◌+◌, ◌*◌, ◌<◌, ◌≤◌, Bool, true, false, not, ◌&&◌, nat_eq, nat_lt, if◌then◌else◌, Option, Some, None, is_some, List, [], ◌∷◌, length, get_or, set, refl, sym, ◌∙◌, ap, subst, arith, eqb-true, eq-eqb, is_none, option_map}
+use Rattle.std.specs.List.{find}
 use Rattle.std.proofs.lemmas.Grind.{get_or-set_at}
 use Rattle.std.proofs.lemmas.List.{get_or-set_other, length-set, get_or_default}
 use Rattle.std.proofs.lemmas.List.Folds.{list_any_none}
@@ -19,7 +19,7 @@ use Rattle.module_area.proofs.Laws.{same_index, any_at, any_shown, over_cases, a
 use Rattle.session_book.specs.Meaning.{no_task}
 use Rattle.interleave_core.specs.Meaning.{World, TaskPart, Parts, part_of, plan_in, place_at, first_part, PlaceChange, controller_of, Stepped, parts_step, cell_fetched, fact_marked, lifted, done_by, task_done, task_goes_on, breakpoint_of, changed_cell, changed, change_due, with_cell, with_due, with_stage, original_under, same_cell, same_due, in_hand, hand_at, step_of, subject_place, place_due, is_awaiting, is_spent, stage_after, executed, awaits_or, instruction_executed, set_of, fact_in}
 use Rattle.interleave_core.specs.Quiet.{has_unmarked, any_unmarked, is_quiet, SetsStay}
-use Rattle.interleave_core.specs.Views.{RunningView, AreSteady, IsHand, no_controlled, parts_of}
+use Rattle.interleave_core.specs.Views.{AreSteady, IsHand, no_controlled}
 use Rattle.interleave_core.specs.declared.events.Event.{Event}
 use Rattle.interleave_core.specs.declared.events.Event.TheVariants.{Fetch, Mark, Lift, Do, Plant, Close}
 use Rattle.interleave_core.specs.declared.stage.Due.TheVariants.{Marking, Lifting, Nothing}
@@ -379,9 +379,3 @@ quiet_step w s c e x is h quiet =
       }),
       sets_step w s c e x is local.some h old.clear,
     )
-
--- ---- as the core finds it
-
-pub unmarked_parts : (s : ℕ) (tasks : List RunningView) → list_any (λ (r : RunningView). has_unmarked s r.part.stage) tasks ≡ any_unmarked s (parts_of tasks)
-unmarked_parts s [] = refl
-unmarked_parts s (r ∷ rs) = ap (λ (b : Bool). has_unmarked s r.part.stage || b) (unmarked_parts s rs)

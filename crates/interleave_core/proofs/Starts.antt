@@ -1,5 +1,5 @@
 -- A core before its first event, and what each core fits.
-use Rattle.std.proofs.Common.{◌≡◌, ◌⊎◌, inl, inr, ℕ, All, ◌+◌, ◌-◌, ◌*◌, ◌<◌, true, Some, List, [], ◌∷◌, ◌++◌, length, get_or, map, replicate, nat_lt, refl, sym, ◌∙◌, ap, subst, arith, eq-or-lt_of_le}
+use Rattle.std.proofs.Common.{◌≡◌, ◌⊎◌, inl, inr, ℕ, All, ◌+◌, ◌*◌, ◌<◌, true, Some, List, [], ◌∷◌, ◌++◌, length, get_or, map, replicate, nat_lt, refl, sym, ◌∙◌, ap, subst, arith, eq-or-lt_of_le}
 use Rattle.std.proofs.lemmas.List.{get_or-map, length-map, length-replicate, length-append, ext_get_or, get_or_push, get_or_append_left}
 use Rattle.std.proofs.lemmas.Bool.{lt-ltb}
 use Rattle.cov_base.specs.Meaning.{FactSet, no_facts, is_within}

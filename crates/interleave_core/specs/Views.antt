@@ -1,6 +1,5 @@
 -- What a task of a core keeps besides what the core stores of it, and what holds of a core at every moment.
 use Rattle.std.specs.Prelude.{◌≡◌, ◌≢◌, ℕ, ◌+◌, ◌-◌, ◌*◌, ◌<◌, ◌≤◌, Bool, true, false, nat_le, nat_lt, if◌then◌else◌, Option, Some, None, option_map, option_and_then, Result, IfOk, OnErr, List, [], length, get_or, map, All, filter, nat_eq}
-use Rattle.std.specs.List.{list_all}
 use Rattle.cov_base.specs.Meaning.{is_within, FactSet}
 use Rattle.cov_base.specs.declared.numbers.PlaceNo.{PlaceNo}
 use Rattle.cov_base.specs.declared.limits.TheConstants.{SESSION_LIMIT, PLACE_LIMIT}
@@ -161,13 +160,6 @@ seen_at change = option_map seen_place change
 
 abbrev pub numbered : Option PlaceNo → Option ℕ
 numbered place = option_map (λ (p : PlaceNo). p.0) place
-
-abbrev pub tag_in : List Cell → ℕ → ℕ
-tag_in cells p = (word_at cells p).tag
-
--- these places have the tag of the session's closing or a higher one
-abbrev pub are_closed : (ℕ → ℕ) → ℕ → List PlaceNo → Bool
-are_closed tags s places = list_all (λ (q : PlaceNo). nat_le (2 * s) (tags q.0)) places
 
 -- a session that a task opens or closes at a place: all are in range
 pub record IsPlaced (w : World) (c : Parts) (t s p : ℕ) : Type 0 where

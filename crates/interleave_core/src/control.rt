@@ -1,14 +1,12 @@
 //! The sessions that tasks open and close.
-ghost use Rattle.std.specs.Prelude.{◌≡◌, ◌<◌, not, ◌||◌, nat_eq, option_map, slice_get, IsSome};
+ghost use Rattle.std.specs.Prelude.{◌≡◌, ◌<◌, nat_eq, option_map, slice_get, IsSome};
 ghost use Rattle.std.specs.List.{find};
-ghost use Rattle.module_area.specs.Notes.{is_closed};
 ghost use Rattle.cov_base.specs.declared.limits.TheConstants.{SESSION_LIMIT};
 ghost use Rattle.interleave_core.specs.Meaning.{next_place};
-ghost use Rattle.interleave_core.specs.Views.{controlled_by, seen_change, seen_at, tag_in, are_closed};
+ghost use Rattle.interleave_core.specs.Views.{controlled_by, seen_change, seen_at};
 
-use crate::hands::tag_at;
 use cov_base::{PlaceNo, SessNo, TaskNo};
-use module_area::{Cell, Controlled, Plan};
+use module_area::{Controlled, Plan};
 
 /// The opening or the closing of a session.
 #[derive(Clone, Copy)]
@@ -74,28 +72,4 @@ pub(crate) fn controller_of(controlled: &[Controlled], s: SessNo) -> Option<Task
         }
     }
     None
-}
-
-/// Whether each of the places has the tag of the session's closing or a higher one.
-fn are_closed(cells: &[Cell], s: SessNo, places: &[PlaceNo]) -> bool
-    ensures { result ≡ are_closed (tag_in cells.now) s.0 places.now }
-{
-    places
-        .iter()
-        .all(|q| 2 * u64::from(s.0) <= u64::from(tag_at(cells, *q)))
-}
-
-fn is_another_or_closed(c: &Controlled, cells: &[Cell], s: SessNo) -> bool
-    ensures { result ≡ (not (nat_eq c.now.session s.0) || are_closed (tag_in cells.now) s.0 c.now.places) }
-{
-    c.session.0 != s.0 || are_closed(cells, s, &c.places)
-}
-
-/// Whether each place of the session has such a tag; so it is where there is no such session.
-pub(crate) fn is_closed(plan: &Plan, cells: &[Cell], s: SessNo) -> bool
-    ensures { result ≡ is_closed plan.now (tag_in cells.now) s.0 }
-{
-    plan.controlled
-        .iter()
-        .all(|c| is_another_or_closed(c, cells, s))
 }

@@ -5,9 +5,7 @@ ghost use Rattle.cov_base.specs.declared.limits.TheConstants.{SESSION_LIMIT};
 ghost use Rattle.module_area.specs.Meaning.{word_at};
 ghost use Rattle.interleave_core.specs.declared.events.Shown.TheVariants.{Planted, Closed};
 ghost use Rattle.interleave_core.specs.declared.stage.Due.TheVariants.{Lifting, Nothing};
-ghost use Rattle.interleave_core.specs.declared.stage.Stage.TheVariants.{Holding};
 ghost use Rattle.interleave_core.specs.Meaning.{World, due_after_fetch, same_cell, breakpoint_of};
-ghost use Rattle.interleave_core.specs.Quiet.{has_unmarked};
 
 use crate::events::Shown;
 use crate::stage::{Due, Hand};
@@ -74,13 +72,6 @@ pub(crate) fn due_after_mark(kind: Kind, facts: Bits) -> Due
     }
 }
 
-/// Whether the cell is a breakpoint of the session that is to be marked.
-pub(crate) fn is_unmarked(hand: Hand, s: SessNo) -> bool
-    ensures { result ≡ has_unmarked s.0 (Holding hand) }
-{
-    hand.due == Due::Marking && u64::from(hand.cell.tag) + 1 == 2 * u64::from(s.0)
-}
-
 pub(crate) fn with_due(hand: Hand, due: Due) -> Hand
     ensures { result ≡ record hand { due = due } }
 {
@@ -99,15 +90,5 @@ pub(crate) fn shown_of(closes: bool) -> Shown
         Shown::Closed
     } else {
         Shown::Planted
-    }
-}
-
-/// The cell's tag; 0 behind the last cell.
-pub(crate) fn tag_at(cells: &[Cell], p: PlaceNo) -> u32
-    ensures { result ≡ (word_at cells.now p.0).tag }
-{
-    match cells.get(p.0 as usize) {
-        Some(cell) => cell.tag,
-        None => 0,
     }
 }

@@ -2,10 +2,9 @@
 ghost use Rattle.std.specs.Prelude.{◌≡◌, ℕ, ◌+◌, ◌*◌, ◌<◌, ◌≤◌, nat_lt, ◌||◌, true, false, [], length, All, IfOk, OnErr, IfSome, is_some, IsTrue, IsNone, ◌↔◌};
 ghost use Rattle.std.specs.declared.option.Option.TheVariants.{Some, None};
 ghost use Rattle.module_area.specs.Meaning.{word_at};
-ghost use Rattle.module_area.specs.Notes.{is_closed};
 ghost use Rattle.brk_table.specs.Places.{IsIn};
 ghost use Rattle.cov_base.specs.declared.limits.TheConstants.{SESSION_LIMIT};
-ghost use Rattle.interleave_core.specs.Meaning.{first_parts, plan_in, controller_of, whole_step, changed_cell, parts_step, run_on, set_of, next_of, results_of};
+ghost use Rattle.interleave_core.specs.Meaning.{first_parts, controller_of, whole_step, changed_cell, parts_step, run_on, set_of, next_of, results_of};
 ghost use Rattle.interleave_core.specs.World.{IsWorld, world_of};
 ghost use Rattle.interleave_core.specs.CoreState.{core_start, KeepsRule};
 ghost use Rattle.interleave_core.specs.MeaningOfEvents.{Stands};
@@ -14,14 +13,14 @@ ghost use Rattle.interleave_core.specs.declared.events.Event.{Event};
 ghost use Rattle.interleave_core.specs.declared.events.Event.TheVariants as event;
 ghost use Rattle.interleave_core.specs.Going.{HasGone, all_events};
 ghost use Rattle.interleave_core.specs.Results.{IsDue, IsOver, Fits};
-ghost use Rattle.interleave_core.specs.Quiet.{any_unmarked, is_quiet, StayQuiet, DrainedStay, QuietAsDrained};
+ghost use Rattle.interleave_core.specs.Quiet.{StayQuiet, DrainedStay};
 ghost use Rattle.interleave_core.specs.Views.{AreSteady, IsPlaced, Leaves, Tries, change_by};
 
-use crate::control::{controller_of, is_closed};
+use crate::control::controller_of;
 use crate::events::{Event, NotPossible, Shown};
 use crate::fresh::{fresh_cells, fresh_sets, make_tasks};
 use crate::hands::{breakpoint_of, due_after_fetch, due_after_mark, exchange, shown_of, with_due};
-use crate::running::{Running, any_unmarked};
+use crate::running::Running;
 use crate::stage::{Due, Hand};
 use brk_table::Tables;
 use cov_base::{Bits, NoMemory, PlaceNo, SessNo, TaskNo};
@@ -320,36 +319,6 @@ impl<'a> Core<'a> {
         }
         self.go_on(t);
         Ok(())
-    }
-
-    fn is_controlled(&self, s: SessNo) -> bool
-        ensures { result ≡ is_some (controller_of self.now.world s.0) }
-    {
-        controller_of(&self.plan.controlled, s).is_some()
-    }
-
-    fn is_closed(&self, s: SessNo) -> bool
-        ensures { result ≡ is_closed (plan_in self.now.world) (λ p. (word_at self.now.parts.cells p).tag) s.0 }
-    {
-        is_closed(&self.plan, &self.cells, s)
-    }
-
-    fn any_unmarked(&self, s: SessNo) -> bool
-        ensures { result ≡ any_unmarked s.0 self.now.parts.tasks }
-    {
-        any_unmarked(&self.tasks, s)
-    }
-
-    /// Whether the session is a controlled one that is closed at each of its places, or a later one was planted there,
-    /// and no task has a breakpoint of it in hand that is to be marked. No event then changes a set of it any more. It is
-    /// so once the session was closed at all its places and each task had ended its run by then, or has ended an
-    /// instruction or its run since. False for a whole session, and for a number of none.
-    pub fn quiet(&self, s: SessNo) -> bool
-        ensures value { result ≡ is_quiet self.now.world self.now.parts s.0 }
-        ensures drained { QuietAsDrained self.now.world self.now.parts s.0 }
-    {
-        self.fits();
-        self.is_controlled(s) && self.is_closed(s) && !self.any_unmarked(s)
     }
 
     /// How the task of the job has ended; none exactly where it hasn't.

@@ -8,6 +8,7 @@ mod hands;
 mod interleaving;
 mod running;
 mod stage;
+pub mod theorems;
 
 pub use events::{Event, NotPossible, Shown};
 pub use interleaving::{Core, start};

@@ -1,6 +1,5 @@
 //! A task of a core.
 ghost use Rattle.std.specs.Prelude.{◌≡◌, ℕ, ◌+◌, ◌<◌, false, true, option_map, length, IsSome, IfSome, nat_le, All, IfOk, OnErr};
-ghost use Rattle.std.specs.List.{list_any};
 ghost use Rattle.std.specs.declared.option.Option.{Option};
 ghost use Rattle.std.specs.declared.option.Option.TheVariants.{Some, None};
 ghost use Rattle.brk_table.specs.Places.{IsIn};
@@ -10,15 +9,13 @@ ghost use Rattle.interleave_core.specs.declared.stage.Stage.TheVariants.{Ready, 
 ghost use Rattle.cov_base.specs.declared.limits.TheConstants.{SESSION_LIMIT, PLACE_LIMIT};
 ghost use Rattle.interleave_core.specs.Meaning.{World, first_part, place_at, Change as Told, change_for, change_of, place_due, subject_place, step_of, stage_after, is_awaiting, with_stage, in_hand, executed, instruction_executed, ready_done, task_goes_on, task_done, will_execute, change_due, stage_event, change_or_do, ending_of};
 ghost use Rattle.interleave_core.specs.World.{world_of};
-ghost use Rattle.interleave_core.specs.Quiet.{has_unmarked};
 ghost use Rattle.interleave_core.specs.Views.{due_of, IsRunning, InWorlds, InPlaces, InPlan, ByPlan, Doing, Gives, DiffersInSessions, numbered, seen, seen_at, closing, with_part, changed_by};
 
 use crate::control::{Change, PlaceChange, next_place, nth_session};
 use crate::events::{Event, NotPossible};
-use crate::hands::is_unmarked;
 use crate::stage::{Due, Hand, Stage};
 use brk_table::Tables;
-use cov_base::{Addr, NoMemory, PlaceNo, SessNo, TaskNo};
+use cov_base::{Addr, NoMemory, PlaceNo, TaskNo};
 use module_area::Plan;
 use phase_plan::{Begun, begin};
 use s370_exec::{has_returned, instruction_went, step, subject_seen, supervisor_call};
@@ -174,16 +171,6 @@ impl<'a> Running<'a> {
         match self.stage {
             Stage::Holding(hand) => if hand.due == due { Some(hand) } else { None },
             _ => None,
-        }
-    }
-
-    /// Whether it has a breakpoint of the session in hand that is to be marked.
-    pub(crate) fn has_unmarked(&self, s: SessNo) -> bool
-        ensures { result ≡ has_unmarked s.0 self.now.part.stage }
-    {
-        match self.stage {
-            Stage::Holding(hand) => is_unmarked(hand, s),
-            _ => false,
         }
     }
 
@@ -474,11 +461,4 @@ impl<'a> Running<'a> {
             changed: 0,
         })
     }
-}
-
-/// Whether one of the tasks has a breakpoint of the session in hand that is to be marked.
-pub(crate) fn any_unmarked(tasks: &[Running], s: SessNo) -> bool
-    ensures { result ≡ list_any (λ r. has_unmarked s.0 r.part.stage) tasks.now }
-{
-    tasks.iter().any(|task| task.has_unmarked(s))
 }
