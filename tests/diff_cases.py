@@ -12,9 +12,8 @@ from report_cases import COUNTS, ENDED, ENDS, MARKED, NO_LISTING, RETURNED, labe
 
 sys.path.insert(0, f"{TOP}/scripts")
 
-import difference  # noqa: E402
-import in_common  # noqa: E402
-from report import Line, read_report  # noqa: E402
+from readers import difference, in_common  # noqa: E402
+from readers.report import Line, read_report  # noqa: E402
 
 # What a place shows and then shows, by its marks: what is told, lost facts and gained ones.
 STRAIGHT = {("^", ":"): ["gained executed now"], (":", "^"): ["lost no longer executed"]}

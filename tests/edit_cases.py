@@ -1,4 +1,4 @@
-"""scripts/edits.py: whether each edit can be applied here, and what comes of edits by a toolchain that only pretends."""
+"""The command edits: whether each edit can be applied here, and what comes of edits by a toolchain that only pretends."""
 from __future__ import annotations
 
 import os
@@ -12,7 +12,7 @@ from harness import SECONDS, TOP, Ran, equal, interruptible, refused, run, well
 
 sys.path.insert(0, f"{TOP}/scripts")
 
-from edit_files import name_of_impl
+from developer.edit_files import name_of_impl
 
 # It tells its line, and proves the crates of a room: of each it leaves a library there.
 RT = """#!/usr/bin/env bash
@@ -150,7 +150,7 @@ def prepare(it: Copy, **edits: str) -> None:
 
 
 def call(it: Copy, *words: str) -> Ran:
-    return run(["python3", "-B", f"{it.at}/scripts/edits.py", *words], env=it.env)
+    return run(["python3", "-B", f"{it.at}/scripts", "edits", *words], env=it.env)
 
 
 def said(ran: Ran) -> list[str]:
@@ -163,7 +163,7 @@ def last(ran: Ran) -> tuple[int, str]:
 
 def can_be_applied() -> None:
     """edits: each edit can be applied to the sources as they stand, and the function that it changes is known"""
-    ran = run(["python3", "-B", f"{TOP}/scripts/edits.py", "--look"])
+    ran = run(["python3", "-B", f"{TOP}/scripts", "edits", "--look"])
     words = well(ran).output.decode().split()
     assert words[:3] == ["edits", "looked", "at:"] and 250 < int(words[3].rstrip(";")) < 500 and words[4] == "0", ran
 
@@ -325,7 +325,7 @@ def are_refused() -> None:
     with copy(LISTED) as it:
         prepare(it, a=first)
         for words in (["--x"], ["low", "--look"], ["--look", "--all"], ["--here", "--all"]):
-            refused(call(it, *words), 1, "usage: python3 scripts/edits.py [--look | --all] [--here] [--unedited] [CRATE ..]\n")
+            refused(call(it, *words), 1, "usage: python3 scripts edits [--look | --all] [--here] [--unedited] [CRATE ..]\n")
         refused(call(it, "low", "other"), 2, "coverage: other: is no crate with edits that the gate tries\n")
         refused(call(it, "--all", "other"), 2, "coverage: other: is no crate with edits\n")
         listed(it, a=first, more_b=first)
@@ -377,7 +377,7 @@ def is_ended() -> None:
         with copy(LISTED) as it, interruptible():
             prepare(it, a=body("first", "wrong"))
             for _ in ways_to_hold(it):
-                command, pipe = ["python3", "-B", f"{it.at}/scripts/edits.py"], subprocess.PIPE
+                command, pipe = ["python3", "-B", f"{it.at}/scripts", "edits"], subprocess.PIPE
                 with subprocess.Popen(command, env=it.env, stdout=pipe, stderr=pipe, start_new_session=True) as started:
                     wait_for(lambda: it.lines("held"))
                     started.send_signal(number)

@@ -64,7 +64,7 @@ def sorted_columns() -> None:
     choices = [(values.get("type"), values.get("id"), "checked" in values) for tag, values in page.tags if tag == "input"]
     others = [("radio", f"by-{it}", False) for it in [*wanted][1:]]
     equal(choices, [("radio", "by-report", True), ("checkbox", "turned", False), *others])
-    with open(f"{browser.__file__.rpartition('/tests/')[0]}/scripts/page.css", encoding="utf-8") as file:
+    with open(f"{browser.__file__.rpartition('/tests/')[0]}/scripts/makers/page.css", encoding="utf-8") as file:
         css = file.read()
     # Each column that there can be has its rule.
     found: set[str] = set()

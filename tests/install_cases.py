@@ -17,7 +17,7 @@ from jobs import FIRST, FIRST_REPORT, USAGE
 NOT_BUILT = "isn't built of the sources as they stand: ./coverage run builds it\n"
 # Some of what is put.
 PUT = (
-    "bin/coverage", "lib/coverage/coverage_program", "lib/coverage/scripts/page.css", "share/man/man1/coverage.1",
+    "bin/coverage", "lib/coverage/coverage_program", "lib/coverage/scripts/makers/page.css", "share/man/man1/coverage.1",
     "share/doc/coverage/README.md", "share/doc/coverage/docs/JOB.md", "share/doc/coverage/examples/first.job",
 )
 # What an installed copy may call; rt and python3 are none of it.
@@ -54,7 +54,7 @@ def is_put() -> None:
         equal(listed, [f"{at}/{name}" for name in files_below(at)])
         equal(it.read("a/b/lib/coverage/files").splitlines(), files_below(at))
         equal([name for name in PUT if f"{at}/{name}" not in listed], [])
-        equal([name for name in ("build", "try", "install") if f"{at}/lib/coverage/scripts/{name}.py" in listed], [])
+        equal([name for name in listed if "/developer/" in name or "/assemble" in name], [])
         for name, mode in modes_below(f"{it.at}/a").items():
             runs = name in ("b/bin/coverage", "b/lib/coverage/coverage_program") or os.path.isdir(f"{it.at}/a/{name}")
             equal((name, oct(mode)), (name, oct(0o755 if runs else 0o644)))

@@ -15,8 +15,8 @@ from harness import PROGRAM, SECONDS, TOP, coverage, equal, folder, misused, ref
 from jobs import FIRST, HEADING
 
 sys.path.insert(0, f"{TOP}/scripts")
-import job as job_script  # noqa: E402
-from command import Fault  # noqa: E402
+from common.command import Fault  # noqa: E402
+from makers import job as job_script  # noqa: E402
 
 EXAMPLES = f"{TOP}/examples"
 NAME = "a name is 1 to 8 characters, the first of A to Z, @, #, $, the others of these or digits"

@@ -288,7 +288,7 @@ def large_pages() -> None:
 
 def contrast() -> None:
     """page: text stands out from its ground by 4.5 to 1 and more, in light and in dark"""
-    with open(f"{TOP}/scripts/page.css", encoding="utf-8") as file:
+    with open(f"{TOP}/scripts/makers/page.css", encoding="utf-8") as file:
         schemes = file.read().split("@media screen")[:2]
     grounds = ("ground", "panel", "not-ground", "half-ground", "lost-ground", "gained-ground", "fresh-ground")
     # Lines that have changed have text alone on their grounds, and what ended there.

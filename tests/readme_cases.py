@@ -61,26 +61,31 @@ def usages_in(text: str) -> list[str]:
     return re.findall(r"^(?:usage:|      ) coverage (.*)$", text, re.M)
 
 
+def scripts(*endings: str) -> list[str]:
+    """The texts of the scripts whose names end so."""
+    paths = [f"{at}/{name}" for at, _, names in os.walk(f"{TOP}/scripts") for name in sorted(names) if name.endswith(endings)]
+    return [text_of(os.path.relpath(it, TOP)) for it in paths]
+
+
 def usages_of_scripts() -> list[str]:
     """What each script's own help says so."""
-    names = [it for it in sorted(os.listdir(f"{TOP}/scripts")) if it.endswith(".py")]
-    return [usage for it in names for usage in usages_in(text_of(f"scripts/{it}"))]
+    return [usage for it in scripts(".py") for usage in usages_in(it)]
 
 
 def commands_in_help() -> None:
     """coverage: the help and docs/REPORT.md have the commands of the program's usage line, and the help those of the scripts"""
-    own, scripts = USAGE.decode().strip().removeprefix("USAGE: ").split(" | "), usages_of_scripts()
-    names = [it.split()[0] for it in scripts]
+    own, others = USAGE.decode().strip().removeprefix("USAGE: ").split(" | "), usages_of_scripts()
+    names = [it.split()[0] for it in others]
     text = well(coverage("--help")).output.decode()
     usages = usages_in(text)
-    equal(sorted(it for it in usages if it.split()[0] in names), sorted(scripts))
+    equal(sorted(it for it in usages if it.split()[0] in names), sorted(others))
     equal(sorted(re.sub(r" [<>].*", "", it) for it in usages if it.split()[0] not in names), sorted(own))
     words = list(dict.fromkeys(it.split()[0] for it in usages))
     # The words for which the script builds the program.
     arms = re.findall(r"^  ([a-z]+(?: \| [a-z]+)*)\) \[", text_of("scripts/front.bash").partition("fits() {")[2].partition("\n}\n")[0], re.M)
     equal(sorted(" | ".join(arms).split(" | ")), sorted(it.split()[0] for it in own))
     equal(re.findall(r"^  ([a-z]+) +[a-z]", text, re.M), words)
-    for name, usage in zip(names, scripts):
+    for name, usage in zip(names, others):
         assert usage in usages_in(well(coverage(name, "--help")).output.decode()), usage
     equal(sorted(re.findall(r"^\| `([a-z]+[A-Z ]*)` \|", section("docs/REPORT.md", "Words"), re.M)), sorted(own))
     assert f"`{USAGE.decode().strip()}`" in section("docs/REPORT.md", "Exit status").replace("\n", " "), "docs/REPORT.md has another usage line"
@@ -111,8 +116,7 @@ def trouble() -> None:
     equal([it for it in re.findall(r"^\| [^|]+ \| ([0-9]+) \|", section("docs/TROUBLE.md", "What the program refuses"), re.M)],
           [it for it in re.findall(r"^\| ([0-9]+) \|", table, re.M) if it != "0"])
     equal(sorted(first_cells(section("docs/TROUBLE.md", "How a task ended"))), sorted(endings()))
-    names = sorted(os.listdir(f"{TOP}/scripts"))
-    said = "\n".join(map(text_of, ["coverage", *(f"scripts/{it}" for it in names if it.endswith((".py", ".bash")))]))
+    said = "\n".join([text_of("coverage"), *scripts(".py", ".bash")])
     warned = first_cells(section("docs/TROUBLE.md", "What `module` warns of"))
     assert len(warned) == 9, warned
     for message in first_cells(section("docs/TROUBLE.md", "Before anything runs")) + warned:

@@ -105,7 +105,7 @@ def examples_are_made() -> None:
 
 def make_cards(at: str, source: str, module: str, base: str, *style: str) -> None:
     """Makes the cards of an example's module in a folder; those of the services too where it is their module."""
-    words = ["python3", "-B", "scripts/assemble.py", f"examples/{source}.asm", f"{at}/object", f"{at}/listing", *style]
+    words = ["python3", "-B", "scripts", "assemble", f"examples/{source}.asm", f"{at}/object", f"{at}/listing", *style]
     well(run(words))
     for one in ("object", "listing"):
         with open(f"{at}/{one}", "rb") as made, open(f"{EXAMPLES}/{source}.{one}", "rb") as kept:

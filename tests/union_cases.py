@@ -305,7 +305,7 @@ def interrupted() -> None:
         for names in (["pipe", "fell"], ["fell", "pipe"]):
             words = [COVERAGE, "union", *(f"{it}.marks" for it in names)]
             started = subprocess.Popen(words, cwd=at, stdin=subprocess.DEVNULL, stdout=subprocess.PIPE, stderr=subprocess.PIPE)
-            wait_for(lambda: waits(started.pid, "union.py"))
+            wait_for(lambda: waits(started.pid, "/scripts\0union\0"))
             started.send_signal(signal.SIGINT)
             output, error = started.communicate(timeout=SECONDS)
             equal((started.returncode, output, error), (130, b"", b""))

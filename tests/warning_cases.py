@@ -11,8 +11,8 @@ from harness import TOP, Ran, coverage, equal, folder, misused, refused, well
 from jobs import HEADING, WIDE_HEADING
 
 sys.path.insert(0, f"{TOP}/scripts")
-import module as module_script  # noqa: E402
-from listing_warnings import warnings_of  # noqa: E402
+from makers import module as module_script  # noqa: E402
+from makers.listing_warnings import warnings_of  # noqa: E402
 
 LISTED = "listing"
 NONE = "no instruction line, so that it bears no mark: "

@@ -1,0 +1,169 @@
+"""What the scripts share: how they refuse input, read it, and write their output whole or not at all."""
+from __future__ import annotations
+
+import contextlib
+import os
+import re
+import sys
+from typing import Callable, Optional, Sequence
+
+USAGE, BAD_INPUT, READ_FAULT, WRITE_FAULT, INTERRUPTED = 1, 2, 5, 6, 130
+# What a checkout or an installed copy has: the folder in which scripts stands; and how the command is called there.
+TOP = os.path.realpath(f"{os.path.dirname(os.path.realpath(__file__))}/../..")
+CALLED = "./coverage" if os.path.exists(f"{TOP}/crates.txt") else "coverage"
+
+
+class Fault(Exception):
+    """Why a command ends: a place (a file and what of it), what is wrong there, and the exit status."""
+
+    def __init__(self, place: str, what: str, status: int = BAD_INPUT) -> None:
+        super().__init__(f"{place}: {what}")
+        self.status = status
+
+
+def read_file(path: str) -> bytes:
+    """The bytes of a file; of standard input where the path is '-'."""
+    if path == "-":
+        return read_input()
+    try:
+        with open(path, "rb") as file:
+            return file.read()
+    except (OSError, ValueError) as error:
+        raise Fault(path, reason(error)) from None
+
+
+def read_input(most: int = -1) -> bytes:
+    """The bytes of standard input, and at most so many where a number is given."""
+    try:
+        if sys.stdin is None:
+            raise Fault("standard input", "is closed", READ_FAULT)
+        tell_terminal()
+        return sys.stdin.buffer.read(most)
+    except OSError as error:
+        raise Fault("standard input", reason(error), READ_FAULT) from None
+
+
+def tell_terminal() -> None:
+    """Says that a terminal is read from, which looks as if nothing went on."""
+    if sys.stdin.isatty():
+        name = sys.argv[1]
+        complain(f"coverage: {name} reads standard input, which is the terminal here: {CALLED} {name} --help says what it reads")
+
+
+def write_output(data: bytes) -> None:
+    """Writes all of standard output."""
+    try:
+        if sys.stdout is None:
+            raise Fault("standard output", "is closed", WRITE_FAULT)
+        sys.stdout.buffer.write(data)
+        sys.stdout.buffer.flush()
+    except OSError as error:
+        drop_output()
+        raise Fault("standard output", reason(error), WRITE_FAULT) from None
+
+
+def drop_output() -> None:
+    """Turns standard output away, so that what it still holds makes no second fault as Python ends."""
+    nothing = os.open(os.devnull, os.O_WRONLY)
+    os.dup2(nothing, sys.stdout.fileno())
+    os.close(nothing)
+
+
+def write_file(path: str, data: bytes) -> None:
+    """Writes a file."""
+    try:
+        with open(path, "wb") as file:
+            file.write(data)
+    except (OSError, ValueError) as error:
+        raise Fault(path, reason(error), WRITE_FAULT) from None
+
+
+def reason(error: Exception) -> str:
+    """The system's words for a fault."""
+    return getattr(error, "strerror", None) or str(error)
+
+
+def run(usage: str, main: Callable[[list[str]], Optional[int]], words: list[str]) -> int:
+    """Runs a command on its words, and answers the exit status: 0, or main's where it answers one. `--help` prints the
+    usage; main raises `UsageError` where the words are no command's."""
+    try:
+        if words != ["--help"]:
+            return main(words) or 0
+        write_output(usage.encode())
+        return 0
+    except KeyboardInterrupt:
+        return INTERRUPTED
+    except UsageError as error:
+        said = [f"coverage: {error}: {CALLED} {name_in(usage)} --help says which words it has"] if error.args else [usage.rstrip("\n")]
+        complain("\n".join([*said, *call_meant(usage, words)]))
+        return USAGE
+    except Fault as fault:
+        complain(f"coverage: {fault}")
+        return fault.status
+
+
+class UsageError(Exception):
+    """The words are not those of the command; where it says why, that is told in place of the usage."""
+
+
+def take_options(words: list[str], valued: tuple[str, ...], bare: tuple[str, ...] = ()) -> tuple[dict[str, str], list[str]]:
+    """The options among the words, each once at most and before all other words, those that have a value with the word
+    behind them; and the words that are left. Another option before those is none of the command's."""
+    found: dict[str, str] = {}
+    left = list(words)
+    while left and left[0].startswith("--"):
+        option = take_word(left, valued)
+        if option not in valued + bare:
+            raise UsageError(f"{option} is none of its options")
+        if option in found or option in valued and not left:
+            raise UsageError(f"{option} {'stands twice' if option in found else 'lacks the word behind it'}")
+        found[option] = left.pop(0) if option in valued else ""
+    late = [it for it in left if it.partition("=")[0] in valued + bare]
+    if late:
+        raise UsageError(f"{late[0]} stands behind {left[0]}, and not before it")
+    return found, left
+
+
+def take_word(words: list[str], valued: Sequence[str]) -> str:
+    """Takes the first word. Where that is an option with its value, as --leave-out=FILE, the value is the next then."""
+    option, equals, value = words.pop(0).partition("=")
+    if option in valued and equals:
+        words.insert(0, value)
+        return option
+    return option + equals + value
+
+
+def refuse_more(words: list[str], most: int = 0) -> None:
+    """Refuses a word behind so many."""
+    if len(words) > most:
+        raise UsageError(f"{words[most]} is a word too many")
+
+
+def name_in(usage: str) -> str:
+    """The command's name."""
+    return usage.split()[2]
+
+
+def call_meant(usage: str, words: list[str]) -> list[str]:
+    """A line with the call that was meant, where the last word is a file, and all before it are those of a command that wants
+    one on standard input."""
+    first = usage.partition("\n")[0]
+    call, reads, _ = re.sub(r" \[[^]]*\]", "", first).removeprefix("usage: coverage ").partition(" < ")
+    if not reads or not words or not os.path.isfile(words[-1]):
+        return []
+    try:
+        valued, bare = (tuple(re.findall(rf"\[(--[a-z-]+){it}", first)) for it in (" [A-Z]", "]"))
+        _, left = take_options(words[:-1], valued, bare)
+    except UsageError:
+        return []
+    if len(left) != len(call.split()) - 1:
+        return []
+    return [f"coverage: did you mean {CALLED} {' '.join([name_in(usage), *words[:-1]])} < {words[-1]} ?"]
+
+
+def complain(text: str) -> None:
+    """Writes to standard error, where there is one."""
+    # Python prints to standard output where there is none.
+    if sys.stderr is not None:
+        with contextlib.suppress(OSError, ValueError):
+            print(text, file=sys.stderr, flush=True)

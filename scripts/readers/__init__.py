@@ -1,0 +1,1 @@
+"""One reader of each form: jobs, object decks, listings, reports, and what is found in them."""

@@ -1,0 +1,106 @@
+"""Places that a team has decided not to count: the file that names them, and a report without them."""
+from __future__ import annotations
+
+import re
+from dataclasses import dataclass
+from typing import Iterable, Optional
+
+from common.command import Fault, complain, read_file
+from readers.labels import Spot, spots_of
+from readers.report import Line, Module, Report, counts_of, modules_of, places_of, shown
+
+OPTION = "--leave-out"
+# Behind a module's name, or * for all, a range of locations, or a label, with * behind it for all that begin so; then, if
+# anything, the reason.
+RULE = re.compile(
+    rb"(\*|[A-Z@#$][A-Z@#$0-9]{0,7}) (?:([0-9A-Fa-f]{6})-([0-9A-Fa-f]{6})|([A-Za-z@#$_][A-Za-z0-9@#$_]*)(\*?))(?: .*)?"
+)
+COMMENT = b"//"
+
+
+@dataclass(frozen=True)
+class Rule:
+    """Which places of a module are left out, or of all modules, where it names none: those that begin in a range, or those
+    at and behind a label, or behind all labels that begin so."""
+
+    place: str
+    text: str
+    module: Optional[str]
+    range: Optional[tuple[int, int]]
+    label: str
+    is_prefix: bool
+
+    def is_of(self, module: Module) -> bool:
+        """Whether it is of the module."""
+        return self.module in (None, module.name)
+
+    def names(self, line: Line, spot: Spot) -> bool:
+        """Whether it leaves out a place."""
+        if self.range:
+            return self.range[0] <= (line.location or 0) <= self.range[1]
+        # A name that comes again in a listing has its location behind it.
+        label = (spot.label or spot.behind or "").partition(".")[0].upper()
+        return label.startswith(self.label) if self.is_prefix else label == self.label
+
+
+def rule_of(place: str, line: bytes) -> Rule:
+    """The rule on a line of the file."""
+    found = RULE.fullmatch(line)
+    if found is None:
+        raise Fault(place, f"no module, or *, with a range as 0000E2-0000F9 or a label behind it: {shown(line)}")
+    module = None if found[1] == b"*" else found[1].decode()
+    span = (int(found[2], 16), int(found[3], 16)) if found[2] else None
+    if span and span[0] > span[1]:
+        raise Fault(place, f"a range that ends before it begins: {shown(line)}")
+    return Rule(place, shown(line), module, span, (found[4] or b"").decode().upper(), bool(found[5]))
+
+
+def read_rules(path: Optional[str]) -> list[Rule]:
+    """The rules of a file, none where no file is named."""
+    if path is None:
+        return []
+    lines = [it.removesuffix(b"\r") for it in read_file(path).split(b"\n")]
+    wanted = [(at, it) for at, it in enumerate(lines, 1) if it.strip(b" ") and not it.startswith(COMMENT)]
+    return [rule_of(f"{path}: line {at}", it) for at, it in wanted]
+
+
+def leave_out(report: Report, rules: list[Rule]) -> list[Rule]:
+    """Leaves the places that the rules name out of what a report counts. Answers the rules of its modules that name none."""
+    named: set[Rule] = set()
+    for module in modules_of(report):
+        own = [it for it in rules if it.is_of(module)]
+        for at, spot in spots_of(module.lines).items() if own else ():
+            line = module.lines[at]
+            found = [it for it in own if it.names(line, spot)]
+            line.is_left_out = line.is_left_out or bool(found)
+            named.update(found)
+        recount(module)
+    names = {it.name for it in modules_of(report) if it.lines}
+    return [it for it in rules if it not in named and (it.module is None or it.module in names)]
+
+
+def tell_idle(rules: list[Rule]) -> None:
+    """Says which rules name no place, as what they were written for may have moved."""
+    for rule in rules:
+        complain(f"coverage: {rule.place}: no place of the report is there: {rule.text}")
+
+
+def recount(module: Module) -> None:
+    """Makes a module's counts and ranges those of the places that are not left out."""
+    module.places, module.executed, module.facts, module.possible = counts_of(module.lines)
+    module.ranges = list(ranges_of(places_of(module))) if module.ranges else []
+
+
+def ranges_of(places: list[Line]) -> Iterable[tuple[int, int]]:
+    """The longest runs of places, by location, that were not executed: the first location and the last byte of each. A place
+    that is left out ends a run."""
+    first = end = None
+    for it in places:
+        location = it.location or 0
+        if it.mark == "^" and it.is_counted():
+            first, end = location if first is None else first, location + it.length - 1
+        elif first is not None and end is not None:
+            yield first, end
+            first = None
+    if first is not None and end is not None:
+        yield first, end
