@@ -44,7 +44,7 @@ def assembled(source: str, at: str) -> None:
     """Assembles a source in a folder."""
     with open(f"{at}/source", "w", encoding="ascii") as file:
         file.write(source)
-    well(run(["python3", "-B", "scripts", "assemble", f"{at}/source", f"{at}/object", f"{at}/listing", "ascii"]))
+    well(run(["python3", "-I", "-B", "scripts", "assemble", f"{at}/source", f"{at}/object", f"{at}/listing", "ascii"]))
 
 
 def calls() -> None:
@@ -93,7 +93,7 @@ def refusals() -> None:
         with folder() as at:
             with open(f"{at}/source", "w", encoding="ascii") as file:
                 file.write(f"A CSECT\n {line}\n END A\n")
-            words = ["python3", "-B", "scripts", "assemble", f"{at}/source", f"{at}/object", f"{at}/listing", "ascii"]
+            words = ["python3", "-I", "-B", "scripts", "assemble", f"{at}/source", f"{at}/object", f"{at}/listing", "ascii"]
             refused(run(words), 2, f"{at}/source: line 2", what)
 
 

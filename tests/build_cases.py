@@ -316,7 +316,7 @@ def on_terminal() -> None:
 def is_kept() -> None:
     """build: what the gate has proved is kept for the command, for the same sources alone"""
     with copy() as it:
-        words = ["python3", "-B", f"{it.at}/scripts", "build"]
+        words = ["python3", "-I", "-B", f"{it.at}/scripts", "build"]
         call = lambda *more: subprocess.run([*words, *more], capture_output=True, text=True, env=it.env, check=False)
         of_sources = call("sources").stdout.strip()
         equal(call("keep", of_sources).returncode, 70)

@@ -57,7 +57,7 @@ class Checkout:
         out = f"{self.at}/crates/coverage_program/out"
         os.makedirs(out, exist_ok=True)
         shutil.copy(PROGRAM, out)
-        build = ["python3", "-B", f"{self.at}/scripts", "build"]
+        build = ["python3", "-I", "-B", f"{self.at}/scripts", "build"]
         of_sources = well(run([*build, "sources"], env=self.env)).output.decode().strip()
         well(run([*build, "keep", of_sources], env=self.env))
         return of_sources

@@ -150,7 +150,7 @@ def prepare(it: Copy, **edits: str) -> None:
 
 
 def call(it: Copy, *words: str) -> Ran:
-    return run(["python3", "-B", f"{it.at}/scripts", "edits", *words], env=it.env)
+    return run(["python3", "-I", "-B", f"{it.at}/scripts", "edits", *words], env=it.env)
 
 
 def said(ran: Ran) -> list[str]:
@@ -163,7 +163,7 @@ def last(ran: Ran) -> tuple[int, str]:
 
 def can_be_applied() -> None:
     """edits: each edit can be applied to the sources as they stand, and the function that it changes is known"""
-    ran = run(["python3", "-B", f"{TOP}/scripts", "edits", "--look"])
+    ran = run(["python3", "-I", "-B", f"{TOP}/scripts", "edits", "--look"])
     words = well(ran).output.decode().split()
     assert words[:3] == ["edits", "looked", "at:"] and 250 < int(words[3].rstrip(";")) < 500 and words[4] == "0", ran
 
@@ -377,7 +377,7 @@ def is_ended() -> None:
         with copy(LISTED) as it, interruptible():
             prepare(it, a=body("first", "wrong"))
             for _ in ways_to_hold(it):
-                command, pipe = ["python3", "-B", f"{it.at}/scripts", "edits"], subprocess.PIPE
+                command, pipe = ["python3", "-I", "-B", f"{it.at}/scripts", "edits"], subprocess.PIPE
                 with subprocess.Popen(command, env=it.env, stdout=pipe, stderr=pipe, start_new_session=True) as started:
                     wait_for(lambda: it.lines("held"))
                     started.send_signal(number)

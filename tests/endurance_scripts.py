@@ -68,7 +68,7 @@ def fault_of(call: Call) -> str | None:
         for name, data in call.files.items():
             with open(f"{at}/{name}", "wb") as file:
                 file.write(data)
-        command = [sys.executable, "-B", f"{TOP}/scripts", *call.words]
+        command = [sys.executable, "-I", "-B", f"{TOP}/scripts", *call.words]
         ran = run(command, call.data, at, env={**os.environ, "TMPDIR": f"{at}/tmp"})
         left = sorted({*os.listdir(at), *os.listdir(f"{at}/tmp")} - {*call.files, "tmp", MADE})
         if left:

@@ -59,6 +59,20 @@ def values_behind_equals() -> None:
             equal((one == other, bool(one)), (True, True))
 
 
+def isolated() -> None:
+    """scripts: none of a user's own modules runs in them, whatever the variables of Python and the current folder are"""
+    with folder() as at:
+        for name in ("json", "re", "common", "readers", "sitecustomize"):
+            with open(f"{at}/{name}.py", "w", encoding="ascii") as file:
+                file.write("raise SystemExit(99)\n")
+        for more in ({}, {"PYTHONPATH": at}, {"PYTHONSAFEPATH": "1"}, {"PYTHONHOME": at}, {"PYTHONPATH": at, "PYTHONSAFEPATH": "1"}):
+            env = {**os.environ, **more}
+            ran = well(run([COVERAGE, "summary", "--json"], FIRST_REPORT, at, env=env))
+            assert ran.output.startswith(b'{\n  "form": "coverage summary 1",'), ran.output
+            why = run([COVERAGE, "run", "json.py"], cwd=at, env=env)
+            assert why.status == 1 and why.error.endswith("coverage: did you mean ./coverage run < json.py ?\n"), why.error
+
+
 def reads_a_terminal() -> None:
     """scripts: one that waits for a terminal says so"""
     for words in (["summary"], ["page"], ["job", "-"], ["job", "--check"], ["union", "-"]):
@@ -105,7 +119,7 @@ def examples_are_made() -> None:
 
 def make_cards(at: str, source: str, module: str, base: str, *style: str) -> None:
     """Makes the cards of an example's module in a folder; those of the services too where it is their module."""
-    words = ["python3", "-B", "scripts", "assemble", f"examples/{source}.asm", f"{at}/object", f"{at}/listing", *style]
+    words = ["python3", "-I", "-B", "scripts", "assemble", f"examples/{source}.asm", f"{at}/object", f"{at}/listing", *style]
     well(run(words))
     for one in ("object", "listing"):
         with open(f"{at}/{one}", "rb") as made, open(f"{EXAMPLES}/{source}.{one}", "rb") as kept:
@@ -183,4 +197,4 @@ def tariff() -> None:
     assert b"\nNOT EXECUTED 0000AE-0000B7\n" in report
 
 
-CHECKS = [words_and_streams, values_behind_equals, reads_a_terminal, interrupted, examples_are_made, example_jobs, orders, palindromes, tariff]
+CHECKS = [words_and_streams, values_behind_equals, isolated, reads_a_terminal, interrupted, examples_are_made, example_jobs, orders, palindromes, tariff]

@@ -154,7 +154,7 @@ def of_source(name: str) -> Subject:
         with open(f"{at}/source", "w", encoding="ascii") as file:
             head = f"{name.upper():8} CSECT\n         USING {name.upper()},15\n         USING WORK,11\n"
             file.write(f"{head}{SOURCES[name]}{AREA}         END\n")
-        well(run(["python3", "-B", "scripts", "assemble", f"{at}/source", f"{at}/object", f"{at}/listing", "ascii"]))
+        well(run(["python3", "-I", "-B", "scripts", "assemble", f"{at}/source", f"{at}/object", f"{at}/listing", "ascii"]))
         rows = well(coverage("module", name.upper(), f"{BASE:06X}", f"{at}/object", f"{at}/listing")).output.decode().splitlines()
     text = bytes.fromhex("".join(it[5:] for it in rows if re.match("TEXT [0-9A-F]+$", it)))
     return Subject(name, rows, text, {1: 3, 11: DATA}, STORED)

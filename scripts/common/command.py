@@ -1,7 +1,6 @@
 """What the scripts share: how they refuse input, read it, and write their output whole or not at all."""
 from __future__ import annotations
 
-import contextlib
 import os
 import re
 import sys
@@ -165,5 +164,8 @@ def complain(text: str) -> None:
     """Writes to standard error, where there is one."""
     # Python prints to standard output where there is none.
     if sys.stderr is not None:
-        with contextlib.suppress(OSError, ValueError):
+        try:
             print(text, file=sys.stderr, flush=True)
+        except (OSError, ValueError):
+            # What it still holds would else make a second fault, with a status of its own, as Python ends.
+            sys.stderr = open(os.devnull, "w", encoding="ascii")
