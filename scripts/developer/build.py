@@ -12,13 +12,12 @@ from __future__ import annotations
 import fcntl
 import os
 import shutil
-import signal
-import subprocess
 import sys
 from typing import IO
 
 from common.command import TOP, UsageError, complain
-from developer.crate_sources import sum_of, sum_of_sources
+from developer.built import FAILED, OUT, PROGRAM, STAMP, end_by_signals, is_built, stamp, toolchain
+from developer.crate_sources import sum_of_sources
 from developer.proving import LINKED, ProofFailed, Proving
 from developer.rooms import room
 
@@ -29,11 +28,9 @@ Builds the program where that is due. `sources` writes the checksum of the sourc
 has made of the sources of this checksum, the status of `is-built` is 0 where the program is built of the sources as they
 stand, else 1, and `seen` builds it where that is due and notes how the files stood that standard input lists.
 """
-OUT = f"{TOP}/out"
-PROGRAM, STAMP, SEEN, LOCK = (f"{OUT}/{it}" for it in ("coverage_program", "built", "seen", "lock"))
+SEEN, LOCK = f"{OUT}/seen", f"{OUT}/lock"
 HOW_LONG = "a quarter of an hour or so on four processors"
 MEANWHILE = "./coverage try COMMAND .. answers within a minute or so, without proof"
-FAILED = 70
 
 
 class BuildFailed(Exception):
@@ -43,27 +40,6 @@ class BuildFailed(Exception):
 def say(text: str) -> None:
     """Tells the user on standard error."""
     complain(f"coverage: {text}")
-
-
-def toolchain() -> str:
-    """The toolchain's own line: its name, and the logic in which it proves."""
-    ran = subprocess.run(["rt", "version"], stdin=subprocess.DEVNULL, stdout=subprocess.PIPE, check=False)
-    return ran.stdout.decode(errors="replace").strip()
-
-
-def stamp(of_sources: str) -> str:
-    """What out/built begins with where the program that stands there was built of these sources."""
-    return f"sources {of_sources}\nprogram {sum_of(PROGRAM)}\n"
-
-
-def is_built() -> bool:
-    """Whether the program that stands there was built of the sources as they stand."""
-    try:
-        with open(STAMP, encoding="utf-8") as file:
-            said = file.read()
-        return os.access(PROGRAM, os.X_OK) and said.startswith(stamp(sum_of_sources()))
-    except OSError:
-        return False
 
 
 def may_be_seen(taken: int, rows: list[bytes]) -> bool:
@@ -162,15 +138,8 @@ def keep_proved(of_sources: str) -> None:
         keep(f"{TOP}/{LINKED}", of_sources)
 
 
-def end_by_signal(number: int, _frame: object) -> None:
-    """Makes the signals that end a process end the build as an interrupt does."""
-    raise KeyboardInterrupt(number)
-
-
 def main(words: list[str]) -> int:
-    for number in (signal.SIGTERM, signal.SIGHUP):
-        if signal.getsignal(number) != signal.SIG_IGN:
-            signal.signal(number, end_by_signal)
+    end_by_signals()
     try:
         if words == ["sources"]:
             print(sum_of_sources())

@@ -3,11 +3,10 @@ from __future__ import annotations
 
 import hashlib
 import os
-import signal
 from typing import Sequence
 
 from common.command import BAD_INPUT, TOP, Fault, UsageError, complain, write_output
-from developer.build import FAILED, end_by_signal, toolchain
+from developer.built import FAILED, end_by_signals, toolchain
 from developer.crate_sources import crates, rows, sum_of
 from developer.edit_checks import PARTS, PASSED, REFUSED, Making, Verdict, attempt, module, rounds, unedited
 from developer.edit_files import GATE, TESTS, Edit, Unfit, applied, edits_of
@@ -180,9 +179,7 @@ def main(words: list[str]) -> int:
     in_order = [it for it in ("--all", "--here", "--unedited") if it in options]
     if options != words[:len(options)] or not looks and options != in_order:
         raise UsageError
-    for number in (signal.SIGTERM, signal.SIGHUP):
-        if signal.getsignal(number) != signal.SIG_IGN:
-            signal.signal(number, end_by_signal)
+    end_by_signals()
     try:
         edits = chosen(names, looks or "--all" in options)
         faults = look(edits)

@@ -10,7 +10,7 @@ from dataclasses import dataclass
 from typing import Iterator
 
 from common.command import TOP, WRITE_FAULT, Fault, UsageError, read_file, reason, write_output
-from developer.build import PROGRAM, STAMP, is_built
+from developer.built import PROGRAM, STAMP, is_built
 
 USAGE = """\
 usage: coverage install [--uninstall] FOLDER

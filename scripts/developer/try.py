@@ -2,12 +2,11 @@
 from __future__ import annotations
 
 import re
-import signal
 import subprocess
 import tempfile
 
 from common.command import TOP, Fault, UsageError, complain, read_input, write_output
-from developer.build import FAILED, end_by_signal
+from developer.built import FAILED, end_by_signals
 from developer.crate_sources import TOP_CRATE
 
 USAGE = """\
@@ -81,9 +80,7 @@ def is_text(words: list[str]) -> bool:
 def main(words: list[str]) -> int:
     if not words or not is_text(words):
         raise UsageError
-    for number in (signal.SIGTERM, signal.SIGHUP):
-        if signal.getsignal(number) != signal.SIG_IGN:
-            signal.signal(number, end_by_signal)
+    end_by_signals()
     complain(
         "coverage: this is not the proved program, but the same sources compiled with checks, within a minute or so: "
         f"./coverage {words[0]} is the proved one"

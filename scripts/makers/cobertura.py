@@ -6,7 +6,7 @@ import time
 from xml.sax.saxutils import quoteattr
 
 from common.command import read_input, refuse_more, take_options, write_output
-from makers.lcov import branch_hits, file_of, hits, labels_of, listings_of
+from readers.hits import branch_hits, file_of, hits, labels_of, listings_of
 from readers.leave_out import OPTION, leave_out, read_rules, tell_idle
 from readers.report import Line, Module, Session, read_report
 

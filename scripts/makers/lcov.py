@@ -6,9 +6,9 @@ import os
 import re
 
 from common.command import Fault, UsageError, WRITE_FAULT, read_input, reason, refuse_more, take_options, write_file
-from readers.labels import spots_of
+from readers.hits import IN_FILES, branch_hits, file_of, hits, labels_of, listings_of
 from readers.leave_out import OPTION, leave_out, read_rules, tell_idle
-from readers.report import Line, Module, Report, Session, read_report
+from readers.report import Line, Module, Session, read_report
 
 USAGE = """\
 usage: coverage lcov [--leave-out FILE] FOLDER < REPORT
@@ -40,40 +40,12 @@ is not proved.
 TRACEFILE = "coverage.info"
 # A file that file_of names, in a tracefile.
 LISTED = re.compile(rb"^SF:([A-Zand0-9]{1,8}/[A-Zand0-9]{1,8}\.lst)$", re.M)
-# Names have capital letters alone, so that these small ones make no two names the same.
-IN_FILES = str.maketrans({"@": "a", "#": "n", "$": "d"})
-
-
-def file_of(session: Session, module: Module) -> str:
-    """The name of a listing's file, from the folder of the tracefile on."""
-    return f"{session.name.translate(IN_FILES)}/{module.name.translate(IN_FILES)}.lst"
-
-
-def hits(line: Line) -> int:
-    """How often a place ran; where that wasn't counted 1 stands for once or more."""
-    return sum(line.counts) if line.counts else int(line.mark != "^")
-
-
-def branch_hits(line: Line) -> list[int]:
-    """How often a conditional branch was taken, and how often it wasn't."""
-    return list(line.counts or (int(line.mark in marks) for marks in (">&", "V&")))
 
 
 def branches(number: int, line: Line) -> list[str]:
     """The two branches of a conditional line: taken, and not taken."""
     counts = branch_hits(line) if line.mark != "^" else ["-", "-"]
     return [f"BRDA:{number},0,{branch},{count}" for branch, count in enumerate(counts)]
-
-
-def labels_of(module: Module) -> dict[int, str]:
-    """The labels at places, each by its line, counted from 0; the places before the first have the module's name for one.
-    That of a place which is left out is none."""
-    spots = {at: it for at, it in spots_of(module.lines).items() if module.lines[at].is_counted()}
-    found = {at: it.label for at, it in spots.items() if it.label}
-    for at in list(spots)[:1]:
-        is_taken = module.name in found.values() and at not in found
-        found.setdefault(at, f"{module.name}.{module.lines[at].location:06X}" if is_taken else module.name)
-    return found
 
 
 def functions(module: Module) -> list[str]:
@@ -105,14 +77,6 @@ def record(session: Session, module: Module) -> list[str]:
         f"LH:{sum(it.mark != '^' for _, it in lines)}",
         "end_of_record",
     ]
-
-
-def listings_of(report: Report) -> list[tuple[Session, Module]]:
-    """The modules of a report's sessions that have a listing, with their sessions; refused where there is none."""
-    found = [(session, it) for session in report.sessions for it in session.modules if it.lines]
-    if not found:
-        raise Fault("standard input", "the report has no listing")
-    return found
 
 
 def make_folder(path: str) -> None:

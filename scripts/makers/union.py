@@ -16,8 +16,9 @@ from concurrent.futures import ThreadPoolExecutor, wait
 from dataclasses import dataclass, field
 from typing import BinaryIO, Iterator, Optional, Sequence
 
-from common.command import BAD_INPUT, Fault, INTERRUPTED, READ_FAULT, TOP, UsageError, read_file, reason, take_word, tell_terminal, write_output
-from makers.why import bad_marks, other_table
+from common.command import BAD_INPUT, INTERRUPTED, READ_FAULT, TOP, Fault, UsageError
+from common.command import read_file, reason, take_word, tell_terminal, write_output
+from readers.marks import bad_marks, other_table, read_one
 
 USAGE = """\
 usage: coverage union [--processes N] [-0] [--files-from LIST] [FILES..] > MARKS
@@ -43,9 +44,6 @@ MOST_PROCESSES = 64
 # How many bytes of marks a process gets beside a union: so few that each gets its part soon, and so many that its start
 # costs little. A union has 590,166 bytes at most, and the program reads 16,777,216.
 ROOM = 4_000_000
-# By a marks file's magic the bytes from there to its first module. The last two are how many modules there are.
-HEADS = {b"S370COV1": 2, b"S370COV2": 14}
-MODULE, PLACE, MOST_MODULES, MOST_PLACES = 20, 9, 16, 65_536
 # How many files a thread takes at once, at most, and how often each takes some where they are fewer.
 MOST_SHARE = 32
 # From when on the terminal is told, and how often, in seconds.
@@ -157,36 +155,14 @@ def is_output(file: BinaryIO) -> bool:
     return stat.S_ISREG(one.st_mode) and os.path.samestat(one, other)
 
 
-def read_one(file: BinaryIO) -> tuple[bytes, bool]:
-    """What stands next in a file, and whether that is a whole marks file by its numbers (docs/MARKS.md); else so much of it
-    that the program finds it bad. No bytes: the file ends."""
-    magic = file.read(8)
-    head = file.read(HEADS.get(magic, 8))
-    parts, modules = [magic, head], int.from_bytes(head[-2:], "big")
-    if len(head) != HEADS.get(magic) or not 1 <= modules <= MOST_MODULES:
-        return b"".join(parts), False
-    places = 0
-    for _ in range(modules):
-        module = file.read(MODULE)
-        count = int.from_bytes(module[16:], "big")
-        places += count
-        parts.append(module)
-        if len(module) != MODULE or places > MOST_PLACES:
-            return b"".join(parts), False
-        parts.append(file.read(PLACE * count))
-        if len(parts[-1]) != PLACE * count:
-            return b"".join(parts), False
-    return b"".join(parts), True
-
-
 def read_all(file: BinaryIO, name: str, number: int) -> Iterator[Marks]:
     """What stands in a file, one behind the other; of an empty one that it is empty."""
     at = 0
-    data, is_whole = read_one(file)
-    while data or not at:
-        yield Marks(name, number, at, data, is_whole)
-        at += max(len(data), 1)
-        data, is_whole = read_one(file)
+    found = read_one(file)
+    while found.data or not at:
+        yield Marks(name, number, at, found.data, found.is_whole)
+        at += max(len(found.data), 1)
+        found = read_one(file)
 
 
 class Files:
@@ -318,7 +294,7 @@ class Uniting:
         """In what the table of marks is another than that of the first."""
         line = combine([self.first, marks.data]).line
         said = f"the marks are of other modules than those of {self.name}, or of another assembly of them: docs/MARKS.md"
-        return Fault(marks.name, in_lines([f"{line}: {said}", *other_table(line, None, ["combine"])]), OTHER_TABLE)
+        return Fault(marks.name, in_lines([f"{line}: {said}", *other_table(line, ["combine"])]), OTHER_TABLE)
 
     def end(self, unions: Sequence[bytes]) -> bytes:
         """The union of the first marks and of all threads' unions; or the first fault is raised."""

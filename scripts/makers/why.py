@@ -2,6 +2,7 @@
 from __future__ import annotations
 
 import difflib
+import io
 import os
 import re
 from dataclasses import dataclass, field
@@ -10,6 +11,7 @@ from typing import Callable, Optional
 from readers import listing
 from readers.cards import LIMITS, Broken
 from readers.job_rules import NO_SERVICES, Place, Reader
+from readers.marks import OTHER_TEXTS, bad_marks, other_table, read_one
 from readers.operations import OPERATIONS
 
 USAGE = """\
@@ -29,7 +31,6 @@ OPTIONS = ("--must-return",)
 ITEMS = ("FETCH", "MARK", "LIFT", "DO", "PLANT", "CLOSE", "GO")
 # The commands that the word `services` may stand before.
 SERVED = ("run", "marks", "show", "table", "count", "ends")
-OTHER_TEXTS = ((b"COVERAGE ", "a report or another output of ./coverage"), (b"S370COV", "a marks file"), (b"S370EVD", "evidence"))
 
 
 @dataclass
@@ -199,43 +200,6 @@ def overlap(lines: list[bytes], number: int) -> list[str]:
     return said
 
 
-def other_table(line: str, _data: Optional[bytes], words: list[str]) -> list[str]:
-    """What the two rows say in which the tables of marks differ."""
-    found = re.fullmatch(r"OTHER TABLE ROW [0-9]+ LEFT (-|[0-9A-F]+) RIGHT (-|[0-9A-F]+)", line)
-    if not found:
-        return []
-    sides = ("the first file", "a later file") if words[:1] == ["combine"] else ("the job's session", "the marks")
-    one, other = found[1], found[2]
-    rows = [f"{side}: {row_text(row)}" for side, row in zip(sides, (one, other))]
-    return [*rows, why_other_table(one, other)]
-
-
-def row_text(row: str) -> str:
-    """What a row of a table says."""
-    if row == "-":
-        return "no row any more"
-    if len(row) == 40:
-        data = bytes.fromhex(row)
-        name = data[:8].decode("ascii", "replace").rstrip(" ")
-        base, size, count = (int.from_bytes(data[at : at + 4], "big") for at in (8, 12, 16))
-        return f"module {name} at {base:06X}, {size} bytes, {count} instruction lines"
-    return f"the instruction at {int(row[:8], 16):06X}, of {int(row[8:10], 16)} bytes, that begins {row[-4:]}"
-
-
-def why_other_table(one: str, other: str) -> str:
-    """Why two rows of tables differ, probably."""
-    if "-" in (one, other):
-        return "one of the two has a module, or places, that the other lacks: the sessions are over other modules"
-    if len(one) == len(other) == 40:
-        if one[:16] != other[:16]:
-            return "the sessions are over other modules, or have them in another order"
-        if one[16:24] != other[16:24]:
-            return "the module stood at another base: give it one base in all jobs whose marks are united"
-        if one[24:32] == other[24:32]:
-            return "the listings have not the same instruction lines: one has lost lines, or is of another assembly"
-    return "the module was assembled anew between the two: marks are of one assembly alone"
-
-
 def bad_job(line: str, data: Optional[bytes], words: list[str]) -> list[str]:
     """The line with which no job goes on, and what the input is in place of a job."""
     found = re.fullmatch(r"BAD JOB LINE ([0-9]+)", line)
@@ -318,25 +282,16 @@ def item_fault(line: str, tasks: list[str]) -> str:
     return f"it is an item, but there is no such event of the task {name} behind the items before it"
 
 
-def bad_marks(line: str, data: Optional[bytes], words: list[str]) -> list[str]:
-    """What stands where a marks file is bad."""
-    found = re.fullmatch(r"BAD MARKS OFFSET ([0-9]+)", line)
-    if data is None or not found:
+def end_of_job(data: bytes) -> int:
+    """Where what stands behind the job begins."""
+    return len(b"\n".join(data.split(b"\n")[: read_job(data).lines])) + 1
+
+
+def marks_behind(line: str, data: Optional[bytes], words: list[str]) -> list[str]:
+    """What stands where marks are bad, which stand behind a job, but for combine."""
+    if data is None:
         return []
-    start = 0 if words[:1] == ["combine"] else len(b"\n".join(data.split(b"\n")[: read_job(data).lines])) + 1
-    rest = data[start + int(found[1]) :]
-    if not rest and int(found[1]) == 0:
-        if words[:1] == ["combine"]:
-            return ["the input is empty"]
-        return [f"nothing stands behind the job: cat JOB MARKS | ./coverage {' '.join(words)}"]
-    if not rest:
-        return ["the input ends there: a file is cut short"]
-    if words[:1] != ["combine"] and rest.startswith(b"S370COV") and found[1] != "0":
-        return ["it is a second marks file, and one stands behind a job: ./coverage union FILES > MARKS makes one of several"]
-    for start_of, what in ((b"COVERJOB", "a job"), *OTHER_TEXTS):
-        if rest.startswith(start_of) and start_of != b"S370COV":
-            return [f"what stands there is {what}"]
-    return []
+    return bad_marks(line, data, words, 0 if words[:1] == ["combine"] else end_of_job(data))
 
 
 def bad_evidence(line: str, data: Optional[bytes], words: list[str]) -> list[str]:
@@ -344,9 +299,9 @@ def bad_evidence(line: str, data: Optional[bytes], words: list[str]) -> list[str
     found = re.fullmatch(r"BAD EVIDENCE OFFSET ([0-9]+)", line)
     if data is None or not found:
         return []
-    start = len(b"\n".join(data.split(b"\n")[: read_job(data).lines])) + 1
-    length, facts = marks_in(data[start:])
-    rest, at = data[start + length :], int(found[1])
+    marks = data[end_of_job(data) :]
+    read = read_one(io.BytesIO(marks))
+    facts, rest, at = read.facts(), marks[len(read.data) :], int(found[1])
     if not rest:
         return [f"nothing stands behind the marks: cat JOB MARKS EVIDENCE | ./coverage {' '.join(words)}"]
     if at == 0:
@@ -357,17 +312,6 @@ def bad_evidence(line: str, data: Optional[bytes], words: list[str]) -> list[str
         return []
     has = ("1 entry" if entries == 1 else f"{entries} entries") + (f" and {cut} more byte{'s' * (cut > 1)}" if cut else "")
     return [f"the evidence has {has}, and the marks have {facts} fact{'s' * (facts != 1)}: each fact has one entry"]
-
-
-def marks_in(data: bytes) -> tuple[int, int]:
-    """How many bytes the marks file has with which the data begin (docs/MARKS.md), and how many facts."""
-    at, facts = 20 if data.startswith(b"S370COV2") else 8, 0
-    modules, at = int.from_bytes(data[at : at + 2], "big"), at + 2
-    for _ in range(modules):
-        count, at = int.from_bytes(data[at + 16 : at + 20], "big"), at + 20
-        facts += sum(bin(it).count("1") for it in data[at + 8 : at + 9 * count : 9])
-        at += 9 * count
-    return at, facts
 
 
 def refuted(line: str, data: Optional[bytes], words: list[str]) -> list[str]:
@@ -431,8 +375,8 @@ def other_words(usages: dict[str, str], words: list[str]) -> list[str]:
 
 
 REASONS: dict[int, Callable[[str, Optional[bytes], list[str]], list[str]]] = {
-    2: bad_job, 3: mismatch, 4: too_large, 9: bad_schedule, 10: bad_marks, 11: other_table, 12: bad_listing, 13: no_session,
-    15: bad_evidence, 16: refuted,
+    2: bad_job, 3: mismatch, 4: too_large, 9: bad_schedule, 10: marks_behind, 11: lambda line, _data, words: other_table(line, words),
+    12: bad_listing, 13: no_session, 15: bad_evidence, 16: refuted,
 }
 
 
