@@ -327,6 +327,25 @@ def streams() -> None:
         equal((redirect, ran.status, ran.output, ran.error), (redirect, status, output, f"coverage: {said}\n"))
 
 
+def explains_in_time() -> None:
+    """coverage: what explains a refusal takes a second of processor time at most, and is left out where that tells nothing"""
+    many = 8_192
+    twos = Program([(2 * at, "1811", "LR") for at in range(131_072)])
+    last = listing_of([*twos.code[: many - 1], (2 * many - 2, "1822", "LR")])
+    line = f"MISMATCH M LINE {many + 1} LOC {2 * many - 2:06X} LISTING 1822 MODULE 1811"
+    for row in (
+        of_job("", ["run"], twos.job(listing=last), 3, line, OTHER_BYTES, f"1 of the {many} instruction lines of M's listing has other bytes than the module:",
+               f"  line {many + 1}, location {2 * many - 2:06X}: listing 1822, module 1811",
+               "listing and object are probably of two assemblies: take both of one, and make the cards again by ./coverage module"),
+        of_job("", ["run"], FIRST.job(task(" / ".join(["DATA 0 00"] * 1_000_000 + ["no card"]))), 2, "BAD JOB LINE 1000012", NO_JOB),
+    ):
+        before = os.times()
+        check(row)
+        spent = os.times()
+        # Beside the front and the program, which take a tenth of it.
+        assert sum(spent[2:4]) - sum(before[2:4]) < 3, (row.error, before, spent)
+
+
 def must_return() -> None:
     """coverage: --must-return tells which tasks ended otherwise than RETURNED, and ends with a status of its own"""
     alone = "--must-return stands behind run, exits, early or services run alone, which tell how the tasks of a job ended"
@@ -627,7 +646,7 @@ def unbuilt_words() -> None:
 
 ROWS = [*words_meant(), *cards_refused(), *listings_refused(), *marks_refused()]
 CHECKS = [
-    *map(of_row, ROWS), into_pipe, appended, streams, must_return, must_return_streams, script_words, help_of_commands, statuses_and_signals,
+    *map(of_row, ROWS), into_pipe, appended, streams, explains_in_time, must_return, must_return_streams, script_words, help_of_commands, statuses_and_signals,
     ignored_signal, no_python, progress, no_progress, keys_and_background, typed,
     refused_on_terminal, unbuilt_words,
 ]

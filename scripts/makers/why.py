@@ -5,8 +5,9 @@ import difflib
 import io
 import os
 import re
+import signal
 from dataclasses import dataclass, field
-from typing import Callable, Optional
+from typing import Callable, NoReturn, Optional
 
 from readers import listing
 from readers.cards import LIMITS, Broken
@@ -22,11 +23,15 @@ Says what a refusal of the program probably is, on standard output, a line each.
 CALLED is how the command is called, as ./coverage, STATUS the program's exit status, and LINE its refusal, empty where
 it can't be known. Standard input is the program's; FROM is where it stood, and empty where it is no regular file: then
 nothing is read. HELP is what `coverage --help` says, and the WORDs are those that the program was given. What isn't
-known is left out. This script is not proved.
+known, or isn't found within a second of processor time, is left out. This script is not proved.
 """
-INPUT_LIMIT, SHOWN = 16_777_216, 3
+INPUT_LIMIT, SHOWN, SECONDS = 16_777_216, 3, 1
+# How many lines of code are compared while their origin is looked for: four times the places that a job may have.
+MOST_COMPARED = 262_144
 FACTS = {"R": "was executed", "W": "branched", "S": "fell through"}
 NAME = re.compile(r"[A-Z@#$][A-Z@#$0-9]{0,7}")
+# An operation behind a statement's name, or without one; a comment has none.
+OPERATION = re.compile(rb"[^ *][^ ]* +([^ ]+)| +([^ ]+)")
 OPTIONS = ("--must-return",)
 ITEMS = ("FETCH", "MARK", "LIFT", "DO", "PLANT", "CLOSE", "GO")
 # The commands that the word `services` may stand before.
@@ -92,10 +97,8 @@ def read_job(data: bytes) -> Job:
 
 def operation(line: bytes, heading: listing.Heading) -> str:
     """The operation of a line's source statement; empty where it has none."""
-    source = line[heading.shift + heading.columns.source :]
-    words = [it for it in source.split(b" ") if it]
-    at = 0 if source.startswith(b" ") else 1
-    return words[at].decode("latin-1").upper() if not source.startswith(b"*") and len(words) > at else ""
+    found = OPERATION.match(line, heading.shift + heading.columns.source)
+    return (found[1] or found[2]).decode("latin-1").upper() if found else ""
 
 
 def instructions(lines: list[bytes]) -> list[Code]:
@@ -153,14 +156,18 @@ def why_other(module: Module, code: list[Code], others: list[Code]) -> str:
 
 
 def shift_of(module: Module, code: list[Code]) -> int:
-    """By how many bytes all the listing's code stands further in the module than the listing says; 0 where it doesn't."""
-    if not code:
-        return 0
-    start = module.text.find(code[0].code)
-    while start >= 0:
+    """By how many bytes all the listing's code stands further in the module than the listing says; 0 where it doesn't, or where
+    that many comparisons don't tell."""
+    left, start = MOST_COMPARED, module.text.find(code[0].code) if code else -1
+    while start >= 0 and left > 0:
         by = start - code[0].location
-        if by and all(module.text[it.location + by : it.location + by + len(it.code)] == it.code for it in code):
-            return by
+        for it in code:
+            left -= 1
+            if not module.text.startswith(it.code, max(0, it.location + by)):
+                break
+        else:
+            if by:
+                return by
         start = module.text.find(code[0].code, start + 1)
     return 0
 
@@ -416,11 +423,17 @@ def reasons(words: list[str]) -> list[str]:
     return [it.replace("./coverage", called) for it in said]
 
 
+def give_up(_number: int, _frame: object) -> NoReturn:
+    raise TimeoutError
+
+
 def main(words: list[str]) -> None:
+    signal.signal(signal.SIGPROF, give_up)
+    signal.setitimer(signal.ITIMER_PROF, SECONDS)
     try:
         said = reasons(words)
-    except (OSError, ValueError, LookupError):
-        # An input that can't be read so has no further reason.
+    except (OSError, ValueError, LookupError, MemoryError):
+        # An input that can't be read so, or in that time, has no further reason.
         return
     for it in said:
         print(f"coverage: {it}")

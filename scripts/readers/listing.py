@@ -1,6 +1,7 @@
 """Listings: the columns that docs/LISTING.md reads, and the lines that a job takes."""
 from __future__ import annotations
 
+import functools
 import re
 from dataclasses import dataclass
 from typing import Optional
@@ -18,6 +19,12 @@ class Columns:
     object_code: slice
     statement: slice
     source: int
+
+    @functools.cached_property
+    def code(self) -> re.Pattern[bytes]:
+        """A location and what stands behind it in the columns of object code."""
+        width = self.object_code.stop - self.object_code.start
+        return re.compile(rb"([0-9A-Fa-f]{%d}) (.{1,%d})" % (self.location.stop, width), re.S)
 
 
 NARROW = Columns(
@@ -58,11 +65,10 @@ def heading_of(lines: list[bytes]) -> Optional[Heading]:
 def object_code(line: bytes, heading: Heading) -> Optional[tuple[int, bytes]]:
     """The location of a line and what stands in its columns of object code, where it can be an instruction's line."""
     columns = heading.columns
-    text = line[heading.shift :].ljust(columns.source)
-    location, code = text[columns.location], text[columns.object_code]
-    if not re.fullmatch(rb"[0-9A-Fa-f]+", location) or not text.startswith(b" ", columns.location.stop) or not code.strip(b" "):
+    found = columns.code.match(line, heading.shift)
+    if found is None or not found[2].strip(b" "):
         return None
-    return int(location, 16), code
+    return int(found[1], 16), found[2].ljust(columns.object_code.stop - columns.object_code.start)
 
 
 def statement_number(text: str, columns: Columns) -> Optional[int]:
