@@ -22,8 +22,7 @@ def main(words: list[str]) -> int:
     if not words or words[0] not in COMMANDS:
         complain(f"usage: python3 scripts COMMAND .., and COMMAND is one of {', '.join(COMMANDS)}")
         return USAGE
-    module = importlib.import_module(COMMANDS[words[0]])
-    return run(module.USAGE, module.main, words[1:])
+    return run(lambda: importlib.import_module(COMMANDS[words[0]]), words[1:])
 
 
 if __name__ == "__main__":

@@ -148,7 +148,11 @@ def same_reports() -> None:
 def timestamps() -> None:
     """cobertura: the timestamp is that of the call, or that of SOURCE_DATE_EPOCH, in milliseconds"""
     before = int(1000 * time.time())
-    assert before <= int(made(FIRST_REPORT).get("timestamp", "")) <= 1000 * time.time()
+    # A variable that is no number of seconds is none.
+    for said in ("", "x", "-1", "9" * 5_000):
+        ran = run(["bash", "-c", 'SOURCE_DATE_EPOCH=$0 ./coverage cobertura', said], FIRST_REPORT)
+        (had,) = re.findall(rb'timestamp="([0-9]+)"', well(ran).output)
+        assert before <= int(had) <= 1000 * time.time(), (said, had)
     ran = run(["bash", "-c", "SOURCE_DATE_EPOCH=1700000000 ./coverage cobertura"], FIRST_REPORT)
     equal(re.findall(rb'timestamp="([0-9]+)"', well(ran).output), [b"1700000000000"])
 

@@ -1,14 +1,17 @@
 """The words and streams of all scripts; and the examples."""
 from __future__ import annotations
 
+import itertools
 import os
 import pty
 import re
 import signal
 import subprocess
+import sys
+import time
 
 from harness import COVERAGE, SECONDS, TOP, coverage, equal, example_report, folder, interruptible, misused, refused, run, well
-from jobs import FIRST_REPORT
+from jobs import FIRST_REPORT, HEADING
 
 EXAMPLES = f"{TOP}/examples"
 
@@ -97,6 +100,39 @@ def interrupted() -> None:
         started.send_signal(signal.SIGINT)
         output, error = started.communicate(timeout=SECONDS)
     equal((started.returncode, output, error), (130, b"", b""))
+
+
+def interrupted_at_once() -> None:
+    """scripts: an interrupt in the first moments ends them with 130, in no words of Python's"""
+    pipe = subprocess.PIPE
+    # As the front starts a script, and through the front: there bash passes over an interrupt with which a command of its own has ended.
+    script = ["env", "--block-signal=INT", sys.executable, "-I", "-S", "-B", f"{TOP}/scripts"]
+    for front, wait in itertools.product((script, [COVERAGE]), range(0, 160, 5)):
+        with interruptible(), subprocess.Popen([*front, "summary"], stdin=pipe, stdout=pipe, stderr=pipe, start_new_session=True) as started:
+            time.sleep(wait / 1000)
+            os.killpg(started.pid, signal.SIGINT)
+            output, error = started.communicate(timeout=SECONDS)
+        if front is script or started.returncode != 2:
+            equal((wait, started.returncode in (130, -signal.SIGINT), output, error), (wait, True, b"", b""))
+
+
+def want_of_memory() -> None:
+    """scripts: where memory is wanting, as they are loaded, read or make, one line says so, and the status is 7"""
+    modules = "import importlib, re, signal, sys, types, typing"
+    starts = [it for it in range(8_000, 80_000, 1_000) if run([sys.executable, "-I", "-S", "-B", "-c", modules], before=f"ulimit -v {it}").status == 0]
+    report = FIRST_REPORT.replace(b"  " + HEADING.encode(), b"  " + HEADING.encode() + b"\n  text" * 1_000_000)
+    with folder() as at:
+        with open(f"{at}/report", "wb") as file:
+            file.write(report)
+        for words in (["summary"], ["page"], ["diff", "report", "report"], ["lcov", "out"], ["cobertura"], ["job", "report"], ["module", "M", "100000", "report"], ["union", "report"]):
+            # Those that read a report read this one of 7 MB.
+            has_report = words[0] not in ("job", "module", "union")
+            for limit in (starts[0] + 1_500, starts[0] + 3_000, *[starts[0] + 10_000, 60_000][: 2 * has_report]):
+                ran = run([sys.executable, "-I", "-S", "-B", f"{TOP}/scripts", *words], report, at, "", f"ulimit -v {limit}")
+                said = ran.error.splitlines()
+                equal((words, limit, ran.status, ran.output, len(said)), (words, limit, 7, b"", 1))
+                assert re.match("coverage: (there was too little memory for it$|its script: could not be loaded, probably for want of memory: )", said[0]), said
+            equal(os.listdir(at), ["report"])
 
 
 # the examples
@@ -197,4 +233,4 @@ def tariff() -> None:
     assert b"\nNOT EXECUTED 0000AE-0000B7\n" in report
 
 
-CHECKS = [words_and_streams, values_behind_equals, isolated, reads_a_terminal, interrupted, examples_are_made, example_jobs, orders, palindromes, tariff]
+CHECKS = [words_and_streams, values_behind_equals, isolated, reads_a_terminal, interrupted, interrupted_at_once, want_of_memory, examples_are_made, example_jobs, orders, palindromes, tariff]

@@ -215,7 +215,7 @@ def words() -> None:
         refused(coverage("union", *given), 1, "usage: coverage union ")
     for given in (["--files-from"], ["--processes"]):
         misused(coverage("union", *given), "union", f"{given[0]} lacks the word behind it")
-    for count in ("0", "65", "x", "", "-1", "\u0661"):
+    for count in ("0", "65", "x", "", "-1", "\u0661", "9" * 5_000):
         misused(coverage("union", "--processes", count, "a"), "union", f"--processes {count} is no number from 1 to 64")
     with folder() as path:
         write(path, a=FELL)

@@ -3,10 +3,12 @@ from __future__ import annotations
 
 import os
 import re
+import signal
 import sys
-from typing import Callable, Optional, Sequence
+from types import ModuleType
+from typing import Callable, Sequence
 
-USAGE, BAD_INPUT, READ_FAULT, WRITE_FAULT, INTERRUPTED = 1, 2, 5, 6, 130
+USAGE, BAD_INPUT, READ_FAULT, WRITE_FAULT, NO_MEMORY, INTERRUPTED = 1, 2, 5, 6, 7, 130
 # What a checkout or an installed copy has: the folder in which scripts stands; and how the command is called there.
 TOP = os.path.realpath(f"{os.path.dirname(os.path.realpath(__file__))}/../..")
 CALLED = "./coverage" if os.path.exists(f"{TOP}/crates.txt") else "coverage"
@@ -82,12 +84,21 @@ def reason(error: Exception) -> str:
     return getattr(error, "strerror", None) or str(error)
 
 
-def run(usage: str, main: Callable[[list[str]], Optional[int]], words: list[str]) -> int:
-    """Runs a command on its words, and answers the exit status: 0, or main's where it answers one. `--help` prints the
-    usage; main raises `UsageError` where the words are no command's."""
+def run(load: Callable[[], ModuleType], words: list[str]) -> int:
+    """Runs the command of a module, which is loaded first, on its words, and answers the exit status: 0, or that which its main
+    answers. `--help` prints its usage; main raises `UsageError` where the words are no command's."""
+    usage = ""
     try:
+        try:
+            module = load()
+        except (ImportError, OSError, SyntaxError, SystemError) as error:
+            # Python ends by any of them where memory is wanting.
+            raise Fault("its script", f"could not be loaded, probably for want of memory: {error}", NO_MEMORY) from None
+        # The front has blocked it, so that Python's own start and what it loads are not interrupted.
+        signal.pthread_sigmask(signal.SIG_UNBLOCK, {signal.SIGINT})
+        usage = module.USAGE
         if words != ["--help"]:
-            return main(words) or 0
+            return module.main(words) or 0
         write_output(usage.encode())
         return 0
     except KeyboardInterrupt:
@@ -99,6 +110,11 @@ def run(usage: str, main: Callable[[list[str]], Optional[int]], words: list[str]
     except Fault as fault:
         complain(f"coverage: {fault}")
         return fault.status
+    except MemoryError:
+        pass
+    # By here what the command had is given back.
+    complain("coverage: there was too little memory for it")
+    return NO_MEMORY
 
 
 class UsageError(Exception):

@@ -2,6 +2,7 @@
 from __future__ import annotations
 
 import os
+import re
 import time
 from xml.sax.saxutils import quoteattr
 
@@ -96,7 +97,7 @@ def package_element(session: Session) -> list[str]:
 def milliseconds() -> int:
     """The time of the call, or that which the variable says."""
     said = os.environ.get("SOURCE_DATE_EPOCH", "")
-    return 1000 * int(said) if said.isascii() and said.isdigit() else int(1000 * time.time())
+    return 1000 * int(said) if re.fullmatch("[0-9]{1,18}", said) else int(1000 * time.time())
 
 
 def xml(sessions: list[Session]) -> str:

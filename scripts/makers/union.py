@@ -6,7 +6,9 @@ gets whole ones, and which file it is that the program refuses.
 from __future__ import annotations
 
 import contextlib
+import errno
 import os
+import re
 import stat
 import subprocess
 import sys
@@ -16,7 +18,7 @@ from concurrent.futures import ThreadPoolExecutor, wait
 from dataclasses import dataclass, field
 from typing import BinaryIO, Iterator, Optional, Sequence
 
-from common.command import BAD_INPUT, INTERRUPTED, READ_FAULT, TOP, Fault, UsageError
+from common.command import BAD_INPUT, INTERRUPTED, NO_MEMORY, READ_FAULT, TOP, Fault, UsageError
 from common.command import read_file, reason, take_word, tell_terminal, write_output
 from readers.marks import bad_marks, other_table, read_one
 
@@ -120,7 +122,7 @@ def read_call(words: Sequence[str]) -> Call:
 
 def count_asked(word: str) -> int:
     """The number of processes that is asked for."""
-    if not (word.isascii() and word.isdecimal() and 1 <= int(word) <= MOST_PROCESSES):
+    if not (re.fullmatch("[0-9]{1,9}", word) and 1 <= int(word) <= MOST_PROCESSES):
         raise UsageError(f"--processes {word} is no number from 1 to {MOST_PROCESSES}")
     return int(word)
 
@@ -220,7 +222,7 @@ def combine(parts: Sequence[bytes]) -> Answer:
             file.seek(0)
             ran = subprocess.run([PROGRAM, "combine"], stdin=file, stdout=subprocess.PIPE, check=False)
     except OSError as error:
-        raise Fault(PROGRAM, reason(error)) from None
+        raise Fault(PROGRAM, reason(error), NO_MEMORY if error.errno == errno.ENOMEM else BAD_INPUT) from None
     if ran.returncode in (0, BAD_MARKS, OTHER_TABLE):
         return Answer(b"", ran.stdout.decode().rstrip("\n")) if ran.returncode else Answer(ran.stdout)
     if ran.returncode < 0:
@@ -364,6 +366,9 @@ def unite(names: Sequence[str], threads: int) -> bytes:
                 works = [pool.submit(uniting.work, it) for it in found]
                 while wait(works, STEP).not_done:
                     progress.tell()
+            except RuntimeError as error:
+                files.is_over = True
+                raise Fault("union", str(error), NO_MEMORY) from None
             except KeyboardInterrupt:
                 # A thread may wait for a pipe, and can't be told not to.
                 progress.end()
