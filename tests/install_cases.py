@@ -197,15 +197,17 @@ def is_taken_away() -> None:
         os.remove(f"{it.at}/examples/first.job")
         it.write("a/bin/other", "another's")
         it.write("a/lib/coverage/scripts/other", "another's")
-        # What a call that was killed would have left.
-        it.write("a/bin/coverage.new", "half")
+        # Names of temporary files are none of others'.
+        it.write("a/bin/other.target", "another's")
+        it.write("a/bin/other.new", "another's")
+        os.symlink("other.target", f"{it.at}/a/bin/coverage.new")
         well(it.call("install", "a"))
         equal(os.path.exists(f"{it.at}/a/share/doc/coverage/examples/first.job"), False)
-        own = [name for name in files_below(f"{it.at}/a") if "other" not in name]
+        own = [name for name in files_below(f"{it.at}/a") if "other" not in name and name != "bin/coverage.new"]
         equal(it.read("a/lib/coverage/files").splitlines(), own)
-        it.write("a/bin/coverage.new", "half")
         well(it.call("install", "--uninstall", "a"))
-        equal(bytes_below(f"{it.at}/a"), {"bin/other": b"another's", "lib/coverage/scripts/other": b"another's"})
+        names = ("bin/other", "bin/other.new", "bin/other.target", "bin/coverage.new", "lib/coverage/scripts/other")
+        equal(bytes_below(f"{it.at}/a"), dict.fromkeys(sorted(names), b"another's"))
         equal(sorted(os.listdir(f"{it.at}/a/share")), ["doc", "man"])
         equal(os.listdir(f"{it.at}/a/share/doc"), [])
         refused(it.call("install", "--uninstall", "a"), 2, "nothing is installed\n")

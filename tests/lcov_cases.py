@@ -6,7 +6,8 @@ import os
 import re
 import shutil
 
-from harness import Tally, coverage, equal, example_report, folder, refused, run, run_checks, well
+from harness import COVERAGE, Tally, coverage, equal, example_report, folder, refused, run, run_checks, well
+from install_cases import bytes_below
 from jobs import COUNTED, FIRST_REPORT, OPENED_REPLAY, OPENED_REPORT, Program, Result
 from report_cases import DRAINED, MARKED, RETURNED, ends, labelled
 
@@ -98,6 +99,25 @@ def lcov_files() -> None:
         equal(os.path.lexists(f"{at}/out"), False)
 
 
+def lcov_fails() -> None:
+    """lcov: one that can't write all of its files leaves an earlier call's as they were, and nothing of its own"""
+    first, long = COUNTED.report([], "V:", 3), COUNTED.listing()
+    second = Program(COUNTED.code, [*long, *["x" * 100] * 40]).report([], "V:" + " " * 40, 3).replace(b"SESSION S", b"SESSION T")
+    with folder() as at:
+        for earlier in ({}, {"S/M.lst": "\n".join([*long, ""]).encode()}):
+            if earlier:
+                well(coverage("lcov", "out", data=first, cwd=at))
+                with open(f"{at}/out/coverage.info", "rb") as file:
+                    earlier["coverage.info"] = file.read()
+            # In blocks of 1,024 bytes: more than the tracefile has, and less than the listing.
+            refused(run([COVERAGE, "lcov", "out"], second, at, before="ulimit -f 2"), 6, "out/T/M.lst: File too large")
+            equal((bytes_below(f"{at}/out"), sorted(os.listdir(at))), (earlier, ["out"] if earlier else []))
+            equal(os.path.exists(f"{at}/out/T"), False)
+        os.makedirs(f"{at}/out/T/M.lst")
+        refused(coverage("lcov", "out", data=second, cwd=at), 6, "out/T/M.lst: Is a directory")
+        equal(bytes_below(f"{at}/out"), earlier)
+
+
 def lcov_counts() -> None:
     """lcov: how often lines and branches were hit, by counts behind a report; counts alone have locations for a listing"""
     totals = "BRF:2\nBRH:{}\nDA:{},{}\nDA:{},{}\nLF:2\nLH:{}\nend_of_record\n"
@@ -177,4 +197,4 @@ def tools(tally: Tally) -> None:
         tally.left_out.append("genhtml and lcov over the tracefile, since they aren't there")
 
 
-CHECKS = [same_tracefiles, functions, names_of_files, lcov_files, lcov_counts]
+CHECKS = [same_tracefiles, functions, names_of_files, lcov_files, lcov_fails, lcov_counts]

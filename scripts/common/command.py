@@ -1,12 +1,14 @@
 """What the scripts share: how they refuse input, read it, and write their output whole or not at all."""
 from __future__ import annotations
 
+import contextlib
+import itertools
 import os
 import re
 import signal
 import sys
 from types import ModuleType
-from typing import Callable, Sequence
+from typing import Callable, Iterator, Optional, Sequence
 
 USAGE, BAD_INPUT, READ_FAULT, WRITE_FAULT, NO_MEMORY, INTERRUPTED = 1, 2, 5, 6, 7, 130
 # What a checkout or an installed copy has: the folder in which scripts stands; and how the command is called there.
@@ -72,11 +74,36 @@ def drop_output() -> None:
 
 def write_file(path: str, data: bytes) -> None:
     """Writes a file."""
+    with writing(path), open(path, "wb") as file:
+        file.write(data)
+
+
+@contextlib.contextmanager
+def writing(path: str) -> Iterator[None]:
+    """Turns the system's refusal of a change there into a fault."""
     try:
-        with open(path, "wb") as file:
-            file.write(data)
-    except (OSError, ValueError) as error:
+        yield
+    except OSError as error:
         raise Fault(path, reason(error), WRITE_FAULT) from None
+
+
+def write_beside(path: str, data: bytes, mode: Optional[int] = None) -> str:
+    """Writes a new file in the folder of another, which it is to replace, and answers its path; what it hasn't written whole it
+    takes away. The name is of no file that is there."""
+    for count in itertools.count():
+        room = f"{path}.{os.getpid()}.{count}"
+        with contextlib.suppress(FileExistsError):
+            number = os.open(room, os.O_WRONLY | os.O_CREAT | os.O_EXCL, 0o666)
+            break
+    try:
+        with open(number, "wb") as file:
+            file.write(data)
+            if mode is not None:
+                os.fchmod(number, mode)
+    except BaseException:
+        os.remove(room)
+        raise
+    return room
 
 
 def reason(error: Exception) -> str:

@@ -7,9 +7,8 @@ import hashlib
 import os
 import subprocess
 from dataclasses import dataclass
-from typing import Iterator
 
-from common.command import TOP, WRITE_FAULT, Fault, UsageError, read_file, reason, write_output
+from common.command import TOP, Fault, UsageError, read_file, reason, write_beside, write_output, writing
 from developer.built import PROGRAM, STAMP, is_built
 
 USAGE = """\
@@ -119,15 +118,6 @@ def listed(at: str) -> list[str]:
     return places
 
 
-@contextlib.contextmanager
-def writing(path: str) -> Iterator[None]:
-    """Turns the system's refusal of a change there into a fault."""
-    try:
-        yield
-    except OSError as error:
-        raise Fault(path, reason(error), WRITE_FAULT) from None
-
-
 def make_folder(path: str) -> None:
     """Makes the folders down to this one where they are missing, open to all readers whatever the umask is."""
     if os.path.isdir(path):
@@ -140,17 +130,13 @@ def make_folder(path: str) -> None:
 def put(at: str, file: File) -> None:
     """Puts a file in its place, whole or not at all."""
     path = f"{at}/{file.place}"
-    room = f"{path}.new"
     with writing(path):
         make_folder(os.path.dirname(path))
+        room = write_beside(path, file.data, file.mode)
         try:
-            with open(room, "wb") as opened:
-                opened.write(file.data)
-                os.fchmod(opened.fileno(), file.mode)
             os.replace(room, path)
         except BaseException:
-            with contextlib.suppress(OSError):
-                os.remove(room)
+            os.remove(room)
             raise
 
 
@@ -161,12 +147,10 @@ def put_list(at: str, places: set[str]) -> None:
 
 
 def take_away(at: str, places: set[str]) -> None:
-    """Removes files, with what a call that was killed has left of them, and then the program's own folders where they
-    are empty."""
+    """Removes files, and then the program's own folders where they are empty."""
     for place in places:
-        for path in (f"{at}/{place}", f"{at}/{place}.new"):
-            with writing(path), contextlib.suppress(FileNotFoundError):
-                os.remove(path)
+        with writing(f"{at}/{place}"), contextlib.suppress(FileNotFoundError):
+            os.remove(f"{at}/{place}")
     folders = {place[:cut] for place in places for cut, it in enumerate(place) if it == "/"}
     for folder in sorted(folders, reverse=True):
         if "coverage" in folder.split("/"):

@@ -2,10 +2,11 @@
 from __future__ import annotations
 
 import contextlib
+import errno
 import os
 import re
 
-from common.command import Fault, UsageError, WRITE_FAULT, read_input, reason, refuse_more, take_options, write_file
+from common.command import UsageError, read_input, refuse_more, take_options, write_beside, writing
 from readers.hits import IN_FILES, branch_hits, file_of, hits, labels_of, listings_of
 from readers.leave_out import OPTION, leave_out, read_rules, tell_idle
 from readers.report import Line, Module, Session, read_report
@@ -79,12 +80,13 @@ def record(session: Session, module: Module) -> list[str]:
     ]
 
 
-def make_folder(path: str) -> None:
-    """Makes a folder, where it isn't there."""
-    try:
-        os.makedirs(path, exist_ok=True)
-    except (OSError, ValueError) as error:
-        raise Fault(path, reason(error), WRITE_FAULT) from None
+def make_folders(path: str) -> list[str]:
+    """Makes the folders down to this one where they are missing, and answers them."""
+    if not path or os.path.isdir(path):
+        return []
+    made = make_folders(os.path.dirname(path))
+    os.mkdir(path)
+    return [*made, path]
 
 
 def take_away(folder: str, kept: set[str]) -> None:
@@ -101,6 +103,33 @@ def take_away(folder: str, kept: set[str]) -> None:
             os.rmdir(os.path.dirname(path))
 
 
+def replace(folder: str, texts: dict[str, bytes]) -> None:
+    """Puts these files into a folder, in place of those of an earlier call: all are written beside their places first, and where
+    that fails nothing has changed."""
+    rooms: dict[str, str] = {}
+    folders: list[str] = []
+    try:
+        for name, text in texts.items():
+            path = os.path.join(folder, name)
+            with writing(path):
+                folders += make_folders(os.path.dirname(path))
+                if os.path.isdir(path):
+                    raise IsADirectoryError(errno.EISDIR, os.strerror(errno.EISDIR))
+                rooms[path] = write_beside(path, text)
+        take_away(folder, set(texts))
+        for path in list(rooms):
+            with writing(path):
+                os.replace(rooms[path], path)
+            del rooms[path]
+    except BaseException:
+        with contextlib.suppress(OSError):
+            for it in rooms.values():
+                os.remove(it)
+            for it in reversed(folders):
+                os.rmdir(it)
+        raise
+
+
 def main(words: list[str]) -> None:
     options, folders = take_options(words, (OPTION,))
     # A word like -h is meant for an option, which there is none of.
@@ -112,10 +141,6 @@ def main(words: list[str]) -> None:
     found = listings_of(report)
     idle = leave_out(report, rules)
     tracefile = [line for session, it in found for line in record(session, it)]
-    take_away(folder, {file_of(session, it) for session, it in found})
-    for session, module in found:
-        path = os.path.join(folder, file_of(session, module))
-        make_folder(os.path.dirname(path))
-        write_file(path, b"".join(it.text + b"\n" for it in module.lines))
-    write_file(os.path.join(folder, TRACEFILE), "".join(f"{it}\n" for it in tracefile).encode("ascii"))
+    texts = {file_of(session, it): b"".join(line.text + b"\n" for line in it.lines) for session, it in found}
+    replace(folder, {**texts, TRACEFILE: "".join(f"{it}\n" for it in tracefile).encode("ascii")})
     tell_idle(idle)
