@@ -7,7 +7,7 @@ import shutil
 from typing import Any, Optional
 
 from harness import TOP, Tally, coverage, equal, example_report, folder, misused, refused, run, run_checks, well
-from jobs import COUNTED, FIRST_REPORT, Program
+from jobs import COUNTED, FIRST_REPORT, HEADING, Program
 from report_cases import COUNTS, ENDED, MARKED, NO_LISTING, RETURNED, ends, labelled
 
 BAD_SHARES = ("", "x", "-1", "101", "100.1", "9e1", "1.", ".5", "50 %", "50%%", "1234", "\u0661")
@@ -230,4 +230,21 @@ def tools(tally: Tally) -> None:
         tally.left_out.append("jq over a summary, since it isn't there")
 
 
-CHECKS = [tables, in_json, shares, leaves_out, example, every_command, idle_rules, bad_rules]
+def many_rules() -> None:
+    """--leave-out: 1,000 rules over the 65,536 places that there may be take no more than some seconds of a slow processor"""
+    count, rows = 65_536, 1_000
+    lines = [f": {2 * at:06X} 1A11{'':23}{at % 99_999 + 1:>5} L{at:05}   AR    1,1" for at in range(count)]
+    head = ["COVERAGE REPORT", "SESSION S PHASE P", f"MODULE M PLACES {count} EXECUTED {count} FACTS {count} OF {count}", f"  {HEADING}"]
+    with folder() as at:
+        with open(f"{at}/rules", "w", encoding="ascii") as file:
+            file.write("".join(f"M L{65 * it:05}\n* L{65 * it + 1:05}*\nM {130 * it + 4:06X}-{130 * it + 7:06X}\n" for it in range(rows)))
+        before = os.times()
+        ran = well(coverage("summary", "--leave-out", "rules", data="\n".join([*head, *lines, "END", ""]).encode(), cwd=at))
+        spent = os.times()
+    # Of each 65 places the first two have a label that is named, and the next two are in a range.
+    left = count - 4 * rows
+    assert f"{left:,} of {left:,}  100 %".encode() in ran.output and b"  4,000, 4,000 executed" in ran.output, ran.output
+    assert sum(spent[2:4]) - sum(before[2:4]) < 6, (before, spent)
+
+
+CHECKS = [tables, in_json, shares, leaves_out, example, every_command, idle_rules, bad_rules, many_rules]

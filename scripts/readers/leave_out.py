@@ -2,8 +2,9 @@
 from __future__ import annotations
 
 import re
+from bisect import bisect_left, bisect_right
 from dataclasses import dataclass
-from typing import Iterable, Optional
+from typing import Any, Iterable, Iterator, Optional
 
 from common.command import Fault, complain, read_file
 from readers.labels import Spot, spots_of
@@ -16,6 +17,8 @@ RULE = re.compile(
     rb"(\*|[A-Z@#$][A-Z@#$0-9]{0,7}) (?:([0-9A-Fa-f]{6})-([0-9A-Fa-f]{6})|([A-Za-z@#$_][A-Za-z0-9@#$_]*)(\*?))(?: .*)?"
 )
 COMMENT = b"//"
+# No label has such a character, and all have lower ones.
+AFTER_LABELS = "~"
 
 
 @dataclass(frozen=True)
@@ -33,14 +36,6 @@ class Rule:
     def is_of(self, module: Module) -> bool:
         """Whether it is of the module."""
         return self.module in (None, module.name)
-
-    def names(self, line: Line, spot: Spot) -> bool:
-        """Whether it leaves out a place."""
-        if self.range:
-            return self.range[0] <= (line.location or 0) <= self.range[1]
-        # A name that comes again in a listing has its location behind it.
-        label = (spot.label or spot.behind or "").partition(".")[0].upper()
-        return label.startswith(self.label) if self.is_prefix else label == self.label
 
 
 def rule_of(place: str, line: bytes) -> Rule:
@@ -64,16 +59,38 @@ def read_rules(path: Optional[str]) -> list[Rule]:
     return [rule_of(f"{path}: line {at}", it) for at, it in wanted]
 
 
+def key_of(line: Line, spot: Spot, by_range: bool) -> int | str:
+    """The location of a place, or the label at or before it. A name that comes again in a listing has its location after it."""
+    return (line.location or 0) if by_range else (spot.label or spot.behind or "").partition(".")[0].upper()
+
+
+def span_of(rule: Rule, keys: list[Any]) -> range:
+    """Which places a rule leaves out, of which these are the locations, or else the labels, in order."""
+    first, last = rule.range or (rule.label, rule.label + AFTER_LABELS * rule.is_prefix)
+    return range(bisect_left(keys, first), bisect_right(keys, last))
+
+
+def inside(spans: Iterable[range]) -> Iterator[int]:
+    """The numbers in any of the spans, each once."""
+    end = 0
+    for it in sorted(spans, key=lambda span: span.start):
+        yield from range(max(end, it.start), it.stop)
+        end = max(end, it.stop)
+
+
 def leave_out(report: Report, rules: list[Rule]) -> list[Rule]:
     """Leaves the places that the rules name out of what a report counts. Answers the rules of its modules that name none."""
     named: set[Rule] = set()
     for module in modules_of(report):
         own = [it for it in rules if it.is_of(module)]
-        for at, spot in spots_of(module.lines).items() if own else ():
-            line = module.lines[at]
-            found = [it for it in own if it.names(line, spot)]
-            line.is_left_out = line.is_left_out or bool(found)
-            named.update(found)
+        spots = spots_of(module.lines) if own else {}
+        for by_range in (True, False):
+            places = sorted((key_of(module.lines[at], spot, by_range), at) for at, spot in spots.items())
+            keys = [key for key, _ in places]
+            spans = {it: span_of(it, keys) for it in own if bool(it.range) == by_range}
+            for at in inside(spans.values()):
+                module.lines[places[at][1]].is_left_out = True
+            named.update(it for it, span in spans.items() if span)
         recount(module)
     names = {it.name for it in modules_of(report) if it.lines}
     return [it for it in rules if it not in named and (it.module is None or it.module in names)]
