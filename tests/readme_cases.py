@@ -118,7 +118,7 @@ def trouble() -> None:
     equal(sorted(first_cells(section("docs/TROUBLE.md", "How a task ended"))), sorted(endings()))
     said = "\n".join([text_of("coverage"), *scripts(".py", ".bash")])
     warned = first_cells(section("docs/TROUBLE.md", "What `module` warns of"))
-    assert len(warned) == 9, warned
+    assert len(warned) == 11, warned
     for message in first_cells(section("docs/TROUBLE.md", "Before anything runs")) + warned:
         for part in re.split(r"\b[A-Z]+\b", message):
             assert part in said, f"no script says {part!r}"

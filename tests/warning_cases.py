@@ -325,26 +325,35 @@ CALLS = lines_of(
 11+ 00000A 0A0A          SVC   10
 12 - -          ONE
 13+ 00000C 0A01          SVC   1
-14 00000E 07FE          BR    14
-15 - -          END   PROG
+14 - -          WAIT  1,ECB=EVENT
+15+ 00000E 0A01          SVC   1
+16 - -          POST  EVENT
+17+ 000010 0A02          SVC   2
+18 - -          ONE
+19+ 000012 0A02          SVC   2
+20 000014 07FE          BR    14
+21 - -          END   PROG
 """
 )
 
 
 def calls_of_macros() -> None:
-    """module: SVC 4 and 5 that macros generate are warned of, since they open and close sessions here"""
-    data = bytes.fromhex("0A040A050A040A040A050A0A0A0107FE")
+    """module: SVC 4 and 5 that macros generate are warned of, since they open and close sessions here, and 1 and 2 of WAIT and POST"""
+    data = bytes.fromhex("0A040A050A040A040A050A0A0A010A010A020A0207FE")
     opens = "line 4: SVC 4 of the macro GETMAIN opens a controlled session here, and gives no storage; likewise 1 more, the last of them line 8"
     closes = "line 6: SVC 5 of the macro FREEMAIN closes a controlled session here, and frees no storage"
+    waits, posts = "line 16: SVC 1 of the macro WAIT writes output here, and waits for nothing", "line 18: SVC 2 of the macro POST reads input here, and posts nothing"
+    calls = (opens, closes, waits, posts)
     for is_wide, heading in ((False, HEADING), (True, WIDE_HEADING)):
         for before in ("", " "):
             lines = [before + it for it in (heading, *(it.text(is_wide) for it in CALLS))]
-            warns(lines, opens, closes, data=data)
+            warns(lines, *calls, data=data)
             # A page that begins among the lines of the macro, whose title and usings are no call of another.
             top = [before + it for it in ("PROG     HOW IT IS CALLED".ljust(106) + "Page    2", "  Active Usings: PROGRAM1(X'FF0'),R15  WORK,R13  AREA,R12", heading)]
-            later = [re.sub("line ([0-9]+)(?=:|$)", lambda found: f"line {int(found[1]) + 3}", it) for it in (opens, closes)]
+            later = [re.sub("line ([0-9]+)(?=:|$)", lambda found: f"line {int(found[1]) + 3}", it) for it in calls]
             warns([*lines[:3], *top, *lines[3:]], *later, data=data)
-    warns([HEADING, CALLS[0].text(), *(it.text() for it in CALLS[7:])], f"000000-000005: 6 bytes {BARE}: statements 2 to 7 are missing behind line 2", data=data)
+    waits, posts = (re.sub("line ([0-9]+)", lambda found: f"line {int(found[1]) - 6}", it) for it in (waits, posts))
+    warns([HEADING, CALLS[0].text(), *(it.text() for it in CALLS[7:])], waits, posts, f"000000-000005: 6 bytes {BARE}: statements 2 to 7 are missing behind line 2", data=data)
 
 
 CHECKS = [said_by_module, nothing_to_warn_of, words_of_titles, usings_in_the_columns_of_numbers, calls_of_macros,

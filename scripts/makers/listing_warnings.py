@@ -14,8 +14,13 @@ from readers.operations import OPERATIONS
 PAGE = re.compile(rb"(?:^|.* )page *([0-9]{1,5}) *", re.I)
 SECTIONS, OTHER_SECTIONS = ("CSECT", "RSECT", "START"), ("DSECT", "COM")
 END_OF_ADDRESSES = 1 << 32
-# The calls that GETMAIN and FREEMAIN of some forms make, and what they do here (docs/MACHINE.md).
-SESSION_CALLS = {4: "opens a controlled session here, and gives no storage", 5: "closes a controlled session here, and frees no storage"}
+# The calls that WAIT, POST, and some forms of GETMAIN and FREEMAIN make, and what they do here (docs/MACHINE.md).
+TASK_CALLS = {
+    1: "writes output here, and waits for nothing", 2: "reads input here, and posts nothing",
+    4: "opens a controlled session here, and gives no storage", 5: "closes a controlled session here, and frees no storage",
+}
+# A program's own macros may generate these for what they do here, so that they are told of the system's alone.
+OF_MACROS = {1: ("WAIT", "WAITR"), 2: ("POST",)}
 # How many lines or ranges of one kind are told each by itself.
 MOST = 5
 
@@ -134,11 +139,11 @@ def other_calls(rows: list[Row], text: bytes) -> Iterator[str]:
         macro = macro if it.is_generated else macro_of(it) or macro
         code = text[it.location : it.location + 2] if it.is_generated and it.location is not None else b""
         number = int.from_bytes(code[1:], "big")
-        if it.is_instruction and code[:1] == b"\x0a" and number in SESSION_CALLS:
+        if it.is_instruction and code[:1] == b"\x0a" and number in TASK_CALLS and macro in OF_MACROS.get(number, (macro,)):
             found.setdefault((number, macro), []).append(it.number)
     for (number, name), numbers in found.items():
         whose = f"of the macro {name}" if name else "of a macro"
-        yield f": line {numbers[0]}: SVC {number} {whose} {SESSION_CALLS[number]}{likewise(numbers)}"
+        yield f": line {numbers[0]}: SVC {number} {whose} {TASK_CALLS[number]}{likewise(numbers)}"
 
 
 def second_section(rows: list[Row]) -> list[str]:

@@ -34,8 +34,8 @@ written. What the listing seems to lack is warned of there, and the cards are wr
 jump, a missing END, bytes of the object that stand on no line, with what PRINT NOGEN leaves out, lines that look like
 instructions but whose columns are off, a section that begins at 0 again (docs/LISTING.md, "What module warns of").
 Coverage of such a listing is better than that of the program. Warned of are too instruction lines with other bytes than
-the object, as of another assembly, whose listing the program refuses; and SVC 4 and 5 of macros, as of GETMAIN: they open
-and close sessions here.
+the object, as of another assembly, whose listing the program refuses; and SVC 1, 2, 4 and 5 of macros, as of WAIT, POST
+and GETMAIN: they write, read, and open and close sessions here.
 
   --strict    refuses the listing where there is something to warn of, with the status 2
   --services  writes behind them the SERVICE cards of the names that the deck exports, sections' and of ENTRY, and that
