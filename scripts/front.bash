@@ -241,7 +241,7 @@ hint() {
   esac
   if [ -z "$from" ]; then exec {input}</dev/null; fi
   command -v python3 >/dev/null &&
-    python3 -I -S -B "$top/scripts" why "$me" "$status" "$from" "$line" "$(help)" "${words[@]}" <&"$input" >&2
+    python3 -I -S -B "$top/scripts" why "$me" "$status" "$from" "$line" "${words[@]}" <&"$input" >&2
 }
 
 # Says which tasks of the report have not returned, and answers whether there are any.

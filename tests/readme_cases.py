@@ -5,10 +5,14 @@ import os
 import re
 import shutil
 import subprocess
+import sys
 import textwrap
 
 from harness import TOP, Tally, coverage, equal, folder, run, well
 from jobs import USAGE
+
+sys.path.insert(0, f"{TOP}/scripts")
+from common.commands import COMMANDS, usage_of  # noqa: E402
 
 BLOCK = re.compile(r"^```.*\n((?:.*\n)*?)```$|((?:^ {4,}.*\n)+)", re.M)
 # What a reader types begins so. Samples, as cards and lines of reports, begin with capitals, digits or marks.
@@ -68,8 +72,8 @@ def scripts(*endings: str) -> list[str]:
 
 
 def usages_of_scripts() -> list[str]:
-    """What each script's own help says so."""
-    return [usage for it in scripts(".py") for usage in usages_in(it)]
+    """What the table of commands has so."""
+    return [usage for it in COMMANDS for usage in usages_in(usage_of(it))]
 
 
 def commands_in_help() -> None:
@@ -84,7 +88,9 @@ def commands_in_help() -> None:
     # The words for which the script builds the program.
     arms = re.findall(r"^  ([a-z]+(?: \| [a-z]+)*)\) \[", text_of("scripts/front.bash").partition("fits() {")[2].partition("\n}\n")[0], re.M)
     equal(sorted(" | ".join(arms).split(" | ")), sorted(it.split()[0] for it in own))
-    equal(re.findall(r"^  ([a-z]+) +[a-z]", text, re.M), words)
+    told = dict(re.findall(r"^  ([a-z]+) +([a-z].*(?:\n {13}.*)*)", text, re.M))
+    equal(list(told), words)
+    equal({it: " ".join(told[it].split()) for it in names}, {it: COMMANDS[it].told for it in names})
     for name, usage in zip(names, others):
         assert usage in usages_in(well(coverage(name, "--help")).output.decode()), usage
     equal(sorted(re.findall(r"^\| `([a-z]+[A-Z ]*)` \|", section("docs/REPORT.md", "Words"), re.M)), sorted(own))

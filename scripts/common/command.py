@@ -4,11 +4,12 @@ from __future__ import annotations
 import contextlib
 import itertools
 import os
-import re
 import signal
 import sys
 from types import ModuleType
 from typing import Callable, Iterator, Optional, Sequence
+
+from common.commands import COMMANDS, usage_of
 
 USAGE, BAD_INPUT, READ_FAULT, WRITE_FAULT, NO_MEMORY, INTERRUPTED = 1, 2, 5, 6, 7, 130
 # What a checkout or an installed copy has: the folder in which scripts stands; and how the command is called there.
@@ -111,10 +112,10 @@ def reason(error: Exception) -> str:
     return getattr(error, "strerror", None) or str(error)
 
 
-def run(load: Callable[[], ModuleType], words: list[str]) -> int:
-    """Runs the command of a module, which is loaded first, on its words, and answers the exit status: 0, or that which its main
-    answers. `--help` prints its usage; main raises `UsageError` where the words are no command's."""
-    usage = ""
+def run(name: str, load: Callable[[], ModuleType], words: list[str]) -> int:
+    """Runs a command, whose module is loaded first, on its words, and answers the exit status: 0, or that which its main answers.
+    `--help` prints its usage and what the module tells below it; main raises `UsageError` if the words are not the command's."""
+    told = ""
     try:
         try:
             module = load()
@@ -123,16 +124,17 @@ def run(load: Callable[[], ModuleType], words: list[str]) -> int:
             raise Fault("its script", f"could not be loaded, probably for want of memory: {error}", NO_MEMORY) from None
         # The front has blocked it, so that Python's own start and what it loads are not interrupted.
         signal.pthread_sigmask(signal.SIG_UNBLOCK, {signal.SIGINT})
-        usage = module.USAGE
+        told = module.HELP
         if words != ["--help"]:
             return module.main(words) or 0
-        write_output(usage.encode())
+        write_output(f"{usage_of(name)}\n{told}".encode())
         return 0
     except KeyboardInterrupt:
         return INTERRUPTED
     except UsageError as error:
-        said = [f"coverage: {error}: {CALLED} {name_in(usage)} --help says which words it has"] if error.args else [usage.rstrip("\n")]
-        complain("\n".join([*said, *call_meant(usage, words)]))
+        more = f"{CALLED} {name} --help says which words it has"
+        said = [f"coverage: {error}: {more}"] if error.args else [f"{usage_of(name)}\n{told}".rstrip("\n")]
+        complain("\n".join([*said, *call_meant(name, words)]))
         return USAGE
     except Fault as fault:
         complain(f"coverage: {fault}")
@@ -148,21 +150,38 @@ class UsageError(Exception):
     """The words are not those of the command; where it says why, that is told in place of the usage."""
 
 
-def take_options(words: list[str], valued: tuple[str, ...], bare: tuple[str, ...] = ()) -> tuple[dict[str, str], list[str]]:
-    """The options among the words, each once at most and before all other words, those that have a value with the word
-    behind them; and the words that are left. Another option before those is none of the command's."""
-    found: dict[str, str] = {}
-    left = list(words)
-    while left and left[0].startswith("--"):
-        option = take_word(left, valued)
-        if option not in valued + bare:
-            raise UsageError(f"{option} is none of its options")
-        if option in found or option in valued and not left:
-            raise UsageError(f"{option} {'stands twice' if option in found else 'lacks the word behind it'}")
-        found[option] = left.pop(0) if option in valued else ""
-    late = [it for it in left if it.partition("=")[0] in valued + bare]
-    if late:
-        raise UsageError(f"{late[0]} stands behind {left[0]}, and not before it")
+def take_options(name: str, words: list[str]) -> tuple[dict[str, str], list[str]]:
+    """The options of a command among its words, each once at most and before all other words, with their values; and the words
+    that are left."""
+    options = COMMANDS[name].options
+    if not any(it.startswith("-") for it in words):
+        return {}, words
+    # It takes longer to import than all else, and most calls have no option.
+    import argparse
+
+    class Once(argparse.Action):
+        """Notes an option's value."""
+
+        def __call__(self, parser: object, found: argparse.Namespace, value: object, option: Optional[str] = None) -> None:
+            if option in vars(found) or value is None:
+                raise UsageError(f"{option} {'lacks the word behind it' if value is None else 'stands twice'}")
+            setattr(found, str(option), value or "")
+
+    parser = argparse.ArgumentParser(add_help=False, allow_abbrev=False, exit_on_error=False)
+    for it, value in options.items():
+        parser.add_argument(it, action=Once, nargs="?" if value else 0, default=argparse.SUPPRESS)
+    parser.add_argument("left", nargs=argparse.REMAINDER)
+    try:
+        given, others = parser.parse_known_args(words)
+    except argparse.ArgumentError as error:
+        raise UsageError(f"{error.argument_name} takes no value behind =") from None
+    found = vars(given)
+    left = [*others, *found.pop("left")]
+    for it in left:
+        if it.startswith("--") and it in others or it == left[0] == "--":
+            raise UsageError(f"{it} is none of its options")
+        if it.partition("=")[0] in options:
+            raise UsageError(f"{it} stands behind {left[0]}, and not before it")
     return found, left
 
 
@@ -181,26 +200,19 @@ def refuse_more(words: list[str], most: int = 0) -> None:
         raise UsageError(f"{words[most]} is a word too many")
 
 
-def name_in(usage: str) -> str:
-    """The command's name."""
-    return usage.split()[2]
-
-
-def call_meant(usage: str, words: list[str]) -> list[str]:
+def call_meant(name: str, words: list[str]) -> list[str]:
     """A line with the call that was meant, where the last word is a file, and all before it are those of a command that wants
     one on standard input."""
-    first = usage.partition("\n")[0]
-    call, reads, _ = re.sub(r" \[[^]]*\]", "", first).removeprefix("usage: coverage ").partition(" < ")
+    call, reads, _ = COMMANDS[name].calls[0].partition(" < ")
     if not reads or not words or not os.path.isfile(words[-1]):
         return []
     try:
-        valued, bare = (tuple(re.findall(rf"\[(--[a-z-]+){it}", first)) for it in (" [A-Z]", "]"))
-        _, left = take_options(words[:-1], valued, bare)
+        _, left = take_options(name, words[:-1])
     except UsageError:
         return []
-    if len(left) != len(call.split()) - 1:
+    if len(left) != len(call.replace("OPTIONS", "").split()):
         return []
-    return [f"coverage: did you mean {CALLED} {' '.join([name_in(usage), *words[:-1]])} < {words[-1]} ?"]
+    return [f"coverage: did you mean {CALLED} {' '.join([name, *words[:-1]])} < {words[-1]} ?"]
 
 
 def complain(text: str) -> None:

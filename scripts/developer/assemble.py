@@ -6,9 +6,7 @@ from common.command import Fault, UsageError, read_file, write_file
 from developer.assembler.outputs import STYLES, deck, listing
 from developer.assembler.statements import Assembly
 
-USAGE = """\
-usage: python3 scripts assemble SOURCE OBJECT LISTING ascii|ebcdic [narrow|wide]
-
+HELP = """\
 Assembles SOURCE, and writes its object deck and its listing, in ASCII lines or in EBCDIC records of 121 bytes, or of
 133 bytes where it is wide. A small assembler that makes the examples of this repository: no macros, no conditional
 assembly, one line a statement. A line that begins with + stands for one that a macro has made, and the line before the

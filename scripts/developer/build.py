@@ -21,9 +21,7 @@ from developer.crate_sources import sum_of_sources
 from developer.proving import LINKED, ProofFailed, Proving
 from developer.rooms import room
 
-USAGE = """\
-usage: python3 scripts build [sources | keep SUM | is-built | seen]
-
+HELP = """\
 Builds the program where that is due. `sources` writes the checksum of the sources, `keep` takes the program that `rt ci`
 has made of the sources of this checksum, the status of `is-built` is 0 where the program is built of the sources as they
 stand, else 1, and `seen` builds it where that is due and notes how the files stood that standard input lists.

@@ -13,9 +13,7 @@ from developer.edit_files import GATE, TESTS, Edit, Unfit, applied, edits_of
 from developer.rooms import bring, list_crates, room
 from developer.toolchain import Call
 
-USAGE = """\
-usage: python3 scripts edits [--look | --all] [--here] [--unedited] [CRATE ..]
-
+HELP = """\
 Tries the edits of these crates, or of all: those of crates/CRATE/wrong-bodies.txt that the gate tries, and with --all
 the others too. Each is a wrong body, which the prover must refuse: of the function that it changes, or of those that
 its lines `function: PATH` name, a goal must stay open. What came of each is said: of a refusal a goal that is open, and

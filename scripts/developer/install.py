@@ -11,9 +11,7 @@ from dataclasses import dataclass
 from common.command import TOP, Fault, UsageError, read_file, reason, write_beside, write_output, writing
 from developer.built import PROGRAM, STAMP, is_built
 
-USAGE = """\
-usage: coverage install [--uninstall] FOLDER
-
+HELP = """\
 Puts the proved program, the scripts, the manual page and the documents under FOLDER, as bin/coverage, lib/coverage,
 share/man and share/doc/coverage, and writes the path of each file. What stands there needs neither these sources nor
 the toolchain, and FOLDER can be moved and copied. With --uninstall it takes away what an earlier call has put there.

@@ -9,9 +9,7 @@ from common.command import TOP, Fault, UsageError, complain, read_input, write_o
 from developer.built import FAILED, end_by_signals
 from developer.crate_sources import TOP_CRATE
 
-USAGE = """\
-usage: coverage try COMMAND ..
-
+HELP = """\
 Answers a command of the program, as run, from the sources as they stand and within a minute or so: the toolchain
 compiles the program with checks and without its proof, and runs it once. Output and exit status are the program's. A
 line on standard error says that this is not the proved program. Of what is compiled here nothing is kept.

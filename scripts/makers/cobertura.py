@@ -11,9 +11,7 @@ from readers.hits import branch_hits, file_of, hits, labels_of, listings_of
 from readers.leave_out import OPTION, leave_out, read_rules, tell_idle
 from readers.report import Line, Module, Session, read_report
 
-USAGE = """\
-usage: coverage cobertura [--leave-out FILE] < REPORT > XML
-
+HELP = """\
 Makes a report (of run, early, exits, replay or show) the XML of Cobertura, as its coverage-04.dtd has it. Each session
 is a package, and each of its modules a class, whose file is SESSION/MODULE.lst: the listing that lcov writes. So that a
 server shows the listings too:
@@ -115,7 +113,7 @@ def xml(sessions: list[Session]) -> str:
 
 
 def main(words: list[str]) -> None:
-    options, left = take_options(words, (OPTION,))
+    options, left = take_options("cobertura", words)
     refuse_more(left)
     rules = read_rules(options.get(OPTION))
     report = read_report("standard input", read_input())

@@ -10,9 +10,7 @@ from readers.leave_out import OPTION, read_rules, tell_idle
 from readers.listing import Heading, heading_of
 from readers.report import Module, read_report, text_of
 
-USAGE = """\
-usage: coverage diff [--leave-out FILE] OLD NEW > DIFFERENCE
-
+HELP = """\
 Says what the report in the file NEW has lost and gained against that in OLD, both of run, early, exits, replay or show,
 or what of several runs combine and show have made; - is standard input. The listings may differ: a place is found again
 by its source statement, as diff finds it, wherever it stands now.
@@ -59,7 +57,7 @@ def text(found: list[Difference]) -> str:
 
 
 def main(words: list[str]) -> None:
-    options, files = take_options(words, (OPTION,))
+    options, files = take_options("diff", words)
     refuse_more(files, 2)
     if len(files) < 2 or not all(files):
         raise UsageError

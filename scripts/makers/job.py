@@ -11,10 +11,7 @@ from readers.data_forms import CARD as FORM
 from readers.data_forms import bytes_of, data_cards, input_cards
 from readers.job_rules import FIELDS, Place, Reader
 
-USAGE = """\
-usage: coverage job CARDS.. > JOB
-       coverage job --check [--services] [JOB]
-
+HELP = """\
 Writes COVERJOB 1, the cards of the files in their order, and ENDJOB. A file has cards of modules, as `coverage module`
 writes them, or of phases, sessions and tasks (docs/JOB.md); those of the modules stand first. Behind the last module
 may stand SERVICE cards, as `coverage module` writes them behind its own with --services: a job that has them is for
@@ -294,7 +291,7 @@ def check_form(place: Place, line: bytes) -> None:
 
 
 def main(words: list[str]) -> None:
-    options, words = take_options(words, (), ("--check", "--services"))
+    options, words = take_options("job", words)
     is_check = "--check" in options
     for it in words:
         if it.startswith("--"):

@@ -11,9 +11,7 @@ from readers.hits import IN_FILES, branch_hits, file_of, hits, labels_of, listin
 from readers.leave_out import OPTION, leave_out, read_rules, tell_idle
 from readers.report import Line, Module, Session, read_report
 
-USAGE = """\
-usage: coverage lcov [--leave-out FILE] FOLDER < REPORT
-
+HELP = """\
 Writes the listings of a report (of run, early, exits, replay or show) into FOLDER, that of each session's module as
 SESSION/MODULE.lst, and coverage.info beside them, a tracefile that genhtml and others take. It names the listings from
 FOLDER on, so that genhtml runs there:
@@ -131,7 +129,7 @@ def replace(folder: str, texts: dict[str, bytes]) -> None:
 
 
 def main(words: list[str]) -> None:
-    options, folders = take_options(words, (OPTION,))
+    options, folders = take_options("lcov", words)
     # A word like -h is meant for an option, which there is none of.
     refuse_more([it for it in folders if it.startswith("-")] or folders[1:])
     if not folders or not folders[0]:

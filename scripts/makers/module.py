@@ -11,9 +11,7 @@ from readers.cards import Broken, base_of, check_module, check_service, module_c
 from readers.listing import is_listing, read_listing
 from readers.object_deck import check_form, exports_of, is_deck, ranges_of, read_deck, text_of
 
-USAGE = """\
-usage: coverage module [--strict] NAME BASE OBJECT [LISTING] [SYMBOL=ADDRESS ..] [--services] > CARDS
-
+HELP = """\
 Writes the cards MODULE, TEXT and LISTING of a module.
 
   NAME     its name in the job: 1 to 8 characters of A to Z, @, #, $ and, behind the first, digits

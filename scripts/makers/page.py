@@ -14,9 +14,7 @@ from readers.leave_out import OPTION, leave_out, read_rules, tell_idle
 from readers.report import Report, modules_of, read_report
 from readers.totals import totals_of
 
-USAGE = """\
-usage: coverage page [--against OLD] [--leave-out FILE] < REPORT > PAGE
-
+HELP = """\
 Makes a report (of run, early, exits, replay or show) one HTML page, which stands alone: the tasks, those first that did
 not return; an index of the sessions' modules with their places and facts, which its headings sort; each listing with its
 marks, which folds, and links to what wasn't executed and to branches that went one way only, with the labels there; and
@@ -108,7 +106,7 @@ def page(report: Report, against: Optional[Against]) -> str:
 
 
 def main(words: list[str]) -> None:
-    options, left = take_options(words, (AGAINST, OPTION))
+    options, left = take_options("page", words)
     refuse_more(left)
     rules, old = read_rules(options.get(OPTION)), options.get(AGAINST)
     report = read_report("standard input", read_input())

@@ -12,9 +12,7 @@ from readers.leave_out import OPTION, leave_out, read_rules, tell_idle
 from readers.report import Module, Report, Session, modules_of, read_report
 from readers.totals import Totals, percent, totals_of, unlisted_words
 
-USAGE = """\
-usage: coverage summary [--fail-under FACTS%] [--json] [--leave-out FILE] < REPORT > SUMMARY
-
+HELP = """\
 Sums a report up (of run, early, exits, replay or show, with what may stand behind it; or counts): a table of the
 sessions' modules with their places, facts and ranges that were not executed, and with the sums of all.
 
@@ -116,7 +114,7 @@ def tell_below(rows: list[Row], totals: Totals, asked: str, share: Fraction) -> 
 
 
 def main(words: list[str]) -> Optional[int]:
-    options, left = take_options(words, (FAIL_UNDER, OPTION), (JSON,))
+    options, left = take_options("summary", words)
     refuse_more(left)
     asked = options.get(FAIL_UNDER)
     share = None if asked is None else share_asked(asked)

@@ -22,9 +22,7 @@ from common.command import BAD_INPUT, INTERRUPTED, NO_MEMORY, READ_FAULT, TOP, F
 from common.command import read_file, reason, take_word, tell_terminal, write_output
 from readers.marks import bad_marks, other_table, read_one
 
-USAGE = """\
-usage: coverage union [--processes N] [-0] [--files-from LIST] [FILES..] > MARKS
-
+HELP = """\
 Unites marks files to one, as combine does with those that stand one behind the other, and byte by byte to the same one. But
 there may be any number of them, of any size together: the program unites some at a time, on all processors at once.
 

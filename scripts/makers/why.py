@@ -9,21 +9,21 @@ import signal
 from dataclasses import dataclass, field
 from typing import Callable, NoReturn, Optional
 
+from common.command import CALLED
+from common.commands import COMMANDS, OF_PROGRAM, calls_of
 from readers import listing
 from readers.cards import LIMITS, Broken
 from readers.job_rules import NO_SERVICES, Place, Reader
 from readers.marks import OTHER_TEXTS, bad_marks, other_table, read_one
 from readers.operations import OPERATIONS
 
-USAGE = """\
-usage: python3 scripts why CALLED STATUS FROM LINE HELP WORD..
-
+HELP = """\
 Says what a refusal of the program probably is, on standard output, a line each.
 
 CALLED is how the command is called, as ./coverage, STATUS the program's exit status, and LINE its refusal, empty where
 it can't be known. Standard input is the program's; FROM is where it stood, and empty where it is no regular file: then
-nothing is read. HELP is what `coverage --help` says, and the WORDs are those that the program was given. What isn't
-known, or isn't found within a second of processor time, is left out. This script is not proved.
+nothing is read. The WORDs are those that the program was given. What isn't known, or isn't found within a second of processor
+time, is left out. This script is not proved.
 """
 INPUT_LIMIT, SHOWN, SECONDS = 16_777_216, 3, 1
 # How many lines of code are compared while their origin is looked for: four times the places that a job may have.
@@ -348,9 +348,17 @@ def no_session(_line: str, data: Optional[bytes], words: list[str]) -> list[str]
     return [f"the job's sessions are {', '.join(names)}"] + ([f"did you mean {near[0]}?"] if near else [])
 
 
-def other_words(usages: dict[str, str], words: list[str]) -> list[str]:
+def usages_here() -> dict[str, str]:
+    """What stands behind each command that is called so."""
+    rooms = ("makers.",) if CALLED == "coverage" else ("makers.", "developer.")
+    own = [it for it, row in COMMANDS.items() if row.start == "coverage" and row.module.startswith(rooms)]
+    others = {it: calls_of(it)[0].removeprefix(f"coverage {it}") for it in own}
+    return {**{it: f" {words}" for it, words in OF_PROGRAM.items()}, **others}
+
+
+def other_words(words: list[str]) -> list[str]:
     """The call that was meant, by the files among the words, by a word that is nearly a command, or by a name in small letters."""
-    front = words[:1] if words[:1] == ["services"] and words[1:2] else []
+    usages, front = usages_here(), words[:1] if words[:1] == ["services"] and words[1:2] else []
     words = words[len(front) :]
     first = words[0] if words else ""
     if front and first not in SERVED:
@@ -393,12 +401,6 @@ def shown(line: bytes) -> str:
     return repr(text if len(text) <= 60 else f"{text[:60]}..")
 
 
-def usages_of(text: str) -> dict[str, str]:
-    """What the help has behind each command where it names it first."""
-    lines = list(re.finditer(r"^(?:usage:|      ) coverage ([a-z]+)(.*)$", text, re.M))
-    return {it[1]: it[2] for it in reversed(lines)}
-
-
 def input_from(start: str) -> Optional[bytes]:
     """The bytes of standard input from there on, which stay there; none where no place is given."""
     if not start:
@@ -414,12 +416,12 @@ def input_from(start: str) -> Optional[bytes]:
 
 def reasons(words: list[str]) -> list[str]:
     """The lines to be said."""
-    called, status, start, line, help_text = words[:5]
+    called, status, start, line = words[:4]
     if status == "1":
-        said = other_words(usages_of(help_text), words[5:])
+        said = other_words(words[4:])
     else:
         reason = REASONS.get(int(status))
-        said = reason(line, input_from(start), words[5:]) if reason else []
+        said = reason(line, input_from(start), words[4:]) if reason else []
     return [it.replace("./coverage", called) for it in said]
 
 
