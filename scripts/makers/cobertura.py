@@ -4,7 +4,8 @@ from __future__ import annotations
 import os
 import re
 import time
-from xml.sax.saxutils import quoteattr
+from typing import Mapping
+from xml.etree.ElementTree import Element, SubElement, indent, tostring
 
 from common.command import read_input, refuse_more, take_options, write_output
 from readers.hits import branch_hits, file_of, hits, labels_of, listings_of
@@ -43,53 +44,52 @@ def rate(part: int, whole: int) -> str:
     return f"{(10000 * part // whole if whole else 10000) / 10000:.4f}".rstrip("0").rstrip(".")
 
 
-def tag(element: str, /, is_empty: bool = False, **attributes: object) -> str:
-    """A tag with its attributes, whose names have hyphens for underscores."""
-    words = [element, *(f"{it.replace('_', '-')}={quoteattr(str(value))}" for it, value in attributes.items())]
-    return f"<{' '.join(words)}{'/' if is_empty else ''}>"
+def add(parent: Element, element: str, **attributes: object) -> Element:
+    """An element below another, with its attributes."""
+    return SubElement(parent, element, texts(attributes))
 
 
-def rated(element: str, numbers: Numbers, /, **attributes: object) -> str:
-    """A tag that has rates behind its own attributes."""
+def texts(attributes: Mapping[str, object]) -> dict[str, str]:
+    """Attributes as they are written: their names have hyphens for underscores."""
+    return {it.replace("_", "-"): str(value) for it, value in attributes.items()}
+
+
+def rates(numbers: Numbers) -> dict[str, object]:
+    """The attributes that each element has which counts lines."""
     executed, lines, taken, ways = numbers
-    return tag(element, **attributes, line_rate=rate(executed, lines), branch_rate=rate(taken, ways), complexity=0)
+    return {"line_rate": rate(executed, lines), "branch_rate": rate(taken, ways), "complexity": 0}
 
 
-def line_element(number: int, line: Line) -> str:
-    """A line; that of a conditional branch with its two ways as one condition."""
-    if not line.is_conditional:
-        return tag("line", True, number=number, hits=hits(line), branch="false")
-    taken = sum(it > 0 for it in branch_hits(line))
-    share = f"{50 * taken}%"
-    begin = tag("line", number=number, hits=hits(line), branch="true", condition_coverage=f"{share} ({taken}/2)")
-    condition = tag("condition", True, number=0, type="jump", coverage=share)
-    return f"{begin}<conditions>{condition}</conditions></line>"
+def add_lines(parent: Element, lines: list[tuple[int, Line]]) -> None:
+    """Lines, with their numbers from 1; that of a conditional branch with its two ways as one condition."""
+    found = add(parent, "lines")
+    for number, line in lines:
+        it = add(found, "line", number=number, hits=hits(line), branch=str(line.is_conditional).lower())
+        if line.is_conditional:
+            taken = sum(it > 0 for it in branch_hits(line))
+            it.set("condition-coverage", f"{50 * taken}% ({taken}/2)")
+            add(add(it, "conditions"), "condition", number=0, type="jump", coverage=f"{50 * taken}%")
 
 
-def lines_element(lines: list[tuple[int, Line]]) -> list[str]:
-    """Lines, with their numbers from 1."""
-    return ["<lines>", *(line_element(at, it) for at, it in lines), "</lines>"]
-
-
-def class_element(session: Session, module: Module) -> list[str]:
+def add_class(parent: Element, session: Session, module: Module) -> None:
     """A module, with its labels as methods."""
     lines = [(at, it) for at, it in enumerate(module.lines, 1) if it.is_counted()]
-    found = [rated("class", numbers_of([it for _, it in lines]), name=module.name, filename=file_of(session, module))]
-    labels = sorted(labels_of(module).items())
-    found.append("<methods>")
+    numbers = numbers_of([it for _, it in lines])
+    found = add(parent, "class", name=module.name, filename=file_of(session, module), **rates(numbers))
+    labels, methods = sorted(labels_of(module).items()), add(found, "methods")
     for (first, label), (stop, _) in zip(labels, [*labels[1:], (len(module.lines), "")]):
         own = [(at, it) for at, it in lines if first < at <= stop]
-        begin = rated("method", numbers_of([it for _, it in own]), name=label, signature="")
-        found += [begin, *lines_element(own), "</method>"]
-    return [*found, "</methods>", *lines_element(lines), "</class>"]
+        add_lines(add(methods, "method", name=label, signature="", **rates(numbers_of([it for _, it in own]))), own)
+    add_lines(found, lines)
 
 
-def package_element(session: Session) -> list[str]:
+def add_package(parent: Element, session: Session) -> None:
     """A session, with its modules that have a listing."""
     modules = [it for it in session.modules if it.lines]
     numbers = numbers_of([line for it in modules for line in it.lines if line.is_counted()])
-    classes = [line for it in modules for line in class_element(session, it)]
-    return [rated("package", numbers, name=session.name), "<classes>", *classes, "</classes>", "</package>"]
+    classes = add(add(parent, "package", name=session.name, **rates(numbers)), "classes")
+    for it in modules:
+        add_class(classes, session, it)
 
 
 def milliseconds() -> int:
@@ -102,14 +102,15 @@ def xml(sessions: list[Session]) -> str:
     """The whole text."""
     numbers = numbers_of([line for it in sessions for module in it.modules for line in module.lines if line.is_counted()])
     executed, lines, taken, ways = numbers
-    begin = rated(
-        "coverage", numbers, lines_covered=executed, lines_valid=lines, branches_covered=taken, branches_valid=ways,
-        version="coverage", timestamp=milliseconds(),
-    )
-    packages = [line for it in sessions for line in package_element(it)]
-    found = ['<?xml version="1.0" encoding="UTF-8"?>', f'<!DOCTYPE coverage SYSTEM "{DTD}">', begin]
-    found += ["<sources>", "<source>.</source>", "</sources>", "<packages>", *packages, "</packages>", "</coverage>"]
-    return "".join(f"{it}\n" for it in found)
+    counts = {"lines_covered": executed, "lines_valid": lines, "branches_covered": taken, "branches_valid": ways}
+    whole = Element("coverage", texts({**counts, "version": "coverage", "timestamp": milliseconds(), **rates(numbers)}))
+    add(add(whole, "sources"), "source").text = "."
+    packages = add(whole, "packages")
+    for it in sessions:
+        add_package(packages, it)
+    indent(whole, space="")
+    head = f'<?xml version="1.0" encoding="UTF-8"?>\n<!DOCTYPE coverage SYSTEM "{DTD}">\n'
+    return head + tostring(whole, encoding="unicode") + "\n"
 
 
 def main(words: list[str]) -> None:
