@@ -1,10 +1,8 @@
 """Sums a report up: a short table, or JSON; and a status of its own where too few facts are shown."""
 from __future__ import annotations
 
-import json
 import re
-from fractions import Fraction
-from typing import Optional
+from typing import TYPE_CHECKING, Optional
 
 from common.command import Fault, UsageError, complain, read_input, refuse_more, take_options, write_output
 from common.markup import count_of
@@ -27,10 +25,15 @@ and nothing is written. This script is not proved.
 FAIL_UNDER, JSON, FORM = "--fail-under", "--json", "coverage summary 1"
 TOO_FEW, NAMED = 81, 5
 Row = tuple[Session, Module]
+# What few calls need is imported where they do: some milliseconds for all others.
+if TYPE_CHECKING:
+    from fractions import Fraction
 
 
 def share_asked(word: str) -> Fraction:
     """The share of facts that is asked for, of 100."""
+    from fractions import Fraction
+
     if not re.fullmatch(r"[0-9]{1,3}(\.[0-9]{1,9})?%?", word) or Fraction(word.rstrip("%")) > 100:
         raise UsageError(f"{FAIL_UNDER} {word} is no share: 0 to 100, as 90, 90% or 90.5")
     return Fraction(word.rstrip("%"))
@@ -95,6 +98,8 @@ def module_in_json(report: Report, module: Module) -> dict[str, object]:
 
 def in_json(report: Report, asked: Optional[Fraction], is_below: bool) -> str:
     """The summary as JSON."""
+    import json
+
     sessions = [
         {"name": it.name, "phase": it.phase, "modules": [module_in_json(report, module) for module in it.modules]}
         for it in report.sessions
