@@ -7,8 +7,8 @@ from bisect import bisect_right
 from dataclasses import dataclass
 from typing import Iterator, Optional
 
-from readers.listing import Heading, heading_of, object_code, statement_number
-from readers.listing_rows import DIRECTIVES, GROUPS, Row, rows_of
+from readers.listing import Heading, heading_of, statement_number
+from readers.listing_rows import DIRECTIVES, Code, Row, instructions, rows_of
 from readers.operations import OPERATIONS
 
 PAGE = re.compile(rb"(?:^|.* )page *([0-9]{1,5}) *", re.I)
@@ -41,19 +41,6 @@ class Jump:
     high: int
 
 
-@dataclass(frozen=True)
-class Code:
-    """An instruction line, counted from 1, with its location and its object code."""
-
-    line: int
-    location: int
-    code: bytes
-
-    def is_in(self, text: bytes) -> bool:
-        """Whether the text has the code there."""
-        return text[self.location : self.location + len(self.code)] == self.code
-
-
 def warnings_of(path: str, lines: list[bytes], text: bytes, ranges: Ranges) -> list[str]:
     """What the listing seems to lack, whose module has this text, in these ranges; each with its file and line."""
     heading = heading_of(lines)
@@ -65,23 +52,13 @@ def warnings_of(path: str, lines: list[bytes], text: bytes, ranges: Ranges) -> l
     if not any(it.of_statement() == "END" for it in rows):
         found.append(": no line has the statement END: the listing may be cut")
     if not again:
-        code = codes_of(lines, rows, heading)
+        code = instructions(lines, heading)
         others = [it for it in code if not it.is_in(text)]
         found += other_bytes(text, code, others)
         # Of a listing that isn't the object's nothing is to be told of bytes without a line.
         if 2 * len(others) <= len(code):
             found += bare_ranges(rows, text, ranges)
     return [f"{path}{it}" for it in found]
-
-
-def codes_of(lines: list[bytes], rows: list[Row], heading: Heading) -> list[Code]:
-    """The instruction lines whose columns have whole bytes; of others the program tells the fault."""
-    found = []
-    for it in rows:
-        own = object_code(lines[it.number - 1], heading) if it.is_instruction else None
-        if own and GROUPS.fullmatch(own[1].decode("latin-1")):
-            found.append(Code(it.number, own[0], bytes.fromhex(own[1].decode())))
-    return found
 
 
 def other_bytes(text: bytes, code: list[Code], others: list[Code]) -> Iterator[str]:

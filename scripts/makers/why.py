@@ -11,11 +11,11 @@ from typing import Callable, NoReturn, Optional
 
 from common.command import CALLED
 from common.commands import COMMANDS, OF_PROGRAM, calls_of
-from readers import listing
 from readers.cards import LIMITS, Broken
 from readers.job_rules import NO_SERVICES, Place, Reader
+from readers.listing import heading_of
+from readers.listing_rows import Code, instructions, operation_of
 from readers.marks import OTHER_TEXTS, bad_marks, other_table, read_one
-from readers.operations import OPERATIONS
 
 HELP = """\
 Says what a refusal of the program probably is, on standard output, a line each.
@@ -30,8 +30,6 @@ INPUT_LIMIT, SHOWN, SECONDS = 16_777_216, 3, 1
 MOST_COMPARED = 262_144
 FACTS = {"R": "was executed", "W": "branched", "S": "fell through"}
 NAME = re.compile(r"[A-Z@#$][A-Z@#$0-9]{0,7}")
-# An operation behind a statement's name, or without one; a comment has none.
-OPERATION = re.compile(rb"[^ *][^ ]* +([^ ]+)| +([^ ]+)")
 OPTIONS = ("--must-return",)
 ITEMS = ("FETCH", "MARK", "LIFT", "DO", "PLANT", "CLOSE", "GO")
 # The commands that the word `services` may stand before.
@@ -59,19 +57,6 @@ class Job:
     has_end: bool = False
 
 
-@dataclass(frozen=True)
-class Code:
-    """An instruction line of a listing, counted from 1, with its location and its object code."""
-
-    line: int
-    location: int
-    code: bytes
-
-    def end(self) -> int:
-        """The location behind it."""
-        return self.location + len(self.code)
-
-
 def read_job(data: bytes) -> Job:
     """Reads the cards, and passes over what is none."""
     job, lines, at = Job(), data.split(b"\n"), 0
@@ -95,21 +80,10 @@ def read_job(data: bytes) -> Job:
     return job
 
 
-def operation(line: bytes, heading: listing.Heading) -> str:
-    """The operation of a line's source statement; empty where it has none."""
-    found = OPERATION.match(line, heading.shift + heading.columns.source)
-    return (found[1] or found[2]).decode("latin-1").upper() if found else ""
-
-
-def instructions(lines: list[bytes]) -> list[Code]:
-    """The instruction lines of a listing (docs/LISTING.md)."""
-    heading = listing.heading_of(lines)
-    found = []
-    for at, line in enumerate(lines):
-        code = listing.object_code(line, heading) if heading and at > heading.at else None
-        if heading and code and operation(line, heading) in OPERATIONS:
-            found.append(Code(at + 1, code[0], bytes.fromhex(code[1].decode("ascii", "replace"))))
-    return found
+def code_of(lines: list[bytes]) -> list[Code]:
+    """The instruction lines of a listing."""
+    heading = heading_of(lines)
+    return instructions(lines, heading) if heading else []
 
 
 def module_of(data: Optional[bytes], name: str) -> Optional[Module]:
@@ -123,7 +97,7 @@ def mismatch(line: str, data: Optional[bytes], _words: list[str]) -> list[str]:
     module = module_of(data, line.split(" ")[1]) if line else None
     if module is None or module.listing is None:
         return []
-    code = instructions(module.listing)
+    code = code_of(module.listing)
     others = [it for it in code if bytes_at(module, it) != it.code]
     if not others:
         return []
@@ -189,13 +163,13 @@ def bad_listing(line: str, data: Optional[bytes], _words: list[str]) -> list[str
 
 def overlap(lines: list[bytes], number: int) -> list[str]:
     """Which line the instruction of a line meets, and whether a section begins between them."""
-    code = {it.line: it for it in instructions(lines[:number])}
+    code = {it.line: it for it in code_of(lines[:number])}
     own = code[number]
     met = [it for it in code.values() if it is not own and it.location < own.end() and own.location < it.end()]
     if not met:
         return []
-    heading = listing.heading_of(lines)
-    between = [operation(it, heading) for it in lines[met[0].line : number]] if heading else []
+    heading = heading_of(lines)
+    between = [operation_of(it, heading) for it in lines[met[0].line : number]] if heading else []
     said = [f"its instruction stands where that of line {met[0].line} does, at {met[0].location:06X}"]
     if "END" in between:
         said.append("an END stands between them: the listing stands there twice, or that of a second assembly behind the first")
@@ -329,9 +303,9 @@ def refuted(line: str, data: Optional[bytes], words: list[str]) -> list[str]:
     job, left = read_job(data), int(found[1])
     for it in (module for name in job.sessions.get(words[-1], []) for module in job.modules if module.name == name):
         # The module's own row stands before those of its places (docs/MARKS.md).
-        places = sorted(instructions(it.listing or []), key=lambda code: code.location)
+        places = sorted(code_of(it.listing or []), key=lambda code: code.location)
         if 0 < left <= len(places) and it.listing:
-            at, heading = places[left - 1], listing.heading_of(it.listing)
+            at, heading = places[left - 1], heading_of(it.listing)
             text = it.listing[at.line - 1][heading.shift + heading.columns.source :] if heading else b""
             where = f"location {at.location:06X} of {it.name}, line {at.line} of its listing"
             return [f"row {found[1]} is {where}, {shown(text.strip())}; the fact is whether it {FACTS[found[2]]}"]

@@ -22,6 +22,8 @@ OF_DATA = ("DC", "DS", "CNOP", "CXD", "DXD", "CCW", "CCW0", "CCW1")
 GROUPS = re.compile(r"([0-9A-Fa-f]{4}(?: [0-9A-Fa-f]{4}){0,2}) *")
 CUT_GROUPS = re.compile(r"[0-9A-Fa-f]{4} [0-9A-Fa-f]{0,4}(?: [0-9A-Fa-f]{0,4})?")
 DATA = re.compile(r"(?:[0-9A-Fa-f]{2}){1,8}(?= |$)")
+# An operation behind a statement's name, or without one; a comment has none.
+OPERATION = re.compile(rb"[^ *][^ ]* +([^ ]+)| +([^ ]+)")
 # Where a statement has the character that continues it on the next line.
 CONTINUATION = 71
 # What parts words for a reader: blanks, tabs, and blanks that don't break lines.
@@ -31,6 +33,23 @@ LOOSE = re.compile(
     r"[ +\-]*([0-9A-Fa-f]{4,9}) +([0-9A-Fa-f]{4}(?: [0-9A-Fa-f]{4}){0,2})"
     r"((?: +[0-9A-Fa-f]{5,8}){0,2}) +([0-9]{1,6})[+=-]?( .*)"
 )
+
+
+@dataclass(frozen=True)
+class Code:
+    """An instruction line, counted from 1, with its location and its object code."""
+
+    line: int
+    location: int
+    code: bytes
+
+    def end(self) -> int:
+        """The location behind it."""
+        return self.location + len(self.code)
+
+    def is_in(self, text: bytes) -> bool:
+        """Whether the text has the code there."""
+        return text[self.location : self.end()] == self.code
 
 
 @dataclass
@@ -80,11 +99,20 @@ def whole_code(text: str) -> int:
     return len(digits) // 2 if digits and len(digits) == length_of(digits) else 0
 
 
-def read_operation(source: str) -> str:
-    """The operation as the program reads it, in capitals."""
-    runs = [] if source.startswith("*") else [it for it in source.split(" ") if it]
-    at = 0 if source.startswith(" ") else 1
-    return runs[at].upper() if len(runs) > at else ""
+def operation_of(line: bytes, heading: Heading) -> str:
+    """The operation of a line's statement as the program reads it, in capitals; empty where it has none."""
+    found = OPERATION.match(line, heading.shift + heading.columns.source)
+    return (found[1] or found[2]).decode("latin-1").upper() if found else ""
+
+
+def instructions(lines: list[bytes], heading: Heading) -> list[Code]:
+    """The instruction lines whose columns have whole bytes; of others the program tells the fault."""
+    found = []
+    for number, line in enumerate(lines[heading.at + 1 :], heading.at + 2):
+        own = object_code(line, heading)
+        if own and operation_of(line, heading) in OPERATIONS and GROUPS.fullmatch(own[1].decode("latin-1")):
+            found.append(Code(number, own[0], bytes.fromhex(own[1].decode())))
+    return found
 
 
 def rows_of(lines: list[bytes], heading: Heading) -> list[Row]:
@@ -101,7 +129,7 @@ def row_of(number: int, line: bytes, heading: Heading) -> Row:
     row = Row(number, source=padded[columns.source :], statement=statement_number(padded, columns))
     row.is_generated = padded[columns.source - 1] == "+"
     found, location = object_code(line, heading), padded[columns.location]
-    if found is not None and read_operation(row.source) in OPERATIONS:
+    if found is not None and operation_of(line, heading) in OPERATIONS:
         row.is_instruction, row.location, row.size = True, found[0], whole_code(code) or len(code.replace(" ", "")) // 2
     elif set_loose(row, whole, heading):
         pass
@@ -110,7 +138,7 @@ def row_of(number: int, line: bytes, heading: Heading) -> Row:
         set_other(row, whole[heading.shift :], padded[columns.object_code.start :], code, heading)
     elif re.fullmatch("[0-9A-Fa-f]+", location) and padded[columns.location.stop] == " ":
         row.location, row.size = int(location, 16), storage_size(row, int(location, 16))
-    elif whole_code(code) and row.statement is not None and read_operation(row.source) in OPERATIONS:
+    elif whole_code(code) and row.statement is not None and operation_of(line, heading) in OPERATIONS:
         digits = columns.location.stop
         where = f"columns {1 + heading.shift} to {digits + heading.shift}"
         row.amiss = f"its {where} are no location of {digits} hexadecimal digits with a blank behind"
