@@ -156,7 +156,7 @@ def take_options(name: str, words: list[str]) -> tuple[dict[str, str], list[str]
     options = COMMANDS[name].options
     if not any(it.startswith("-") for it in words):
         return {}, words
-    # It takes longer to import than all else, and most calls have no option.
+    # It takes longer to import than Python to start, and most calls have no option.
     import argparse
 
     class Once(argparse.Action):

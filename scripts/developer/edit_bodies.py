@@ -11,7 +11,7 @@ import shutil
 from itertools import takewhile
 from typing import Collection, Iterator
 
-from common.command import read_file, write_file
+from common.command import write_file
 from developer.edit_files import ITEM, Unfit, column_of, function_at, sources_of
 
 # A proof by hand of a function, as the toolchain wants it, that says nothing.
