@@ -69,13 +69,14 @@ def read(path: str) -> bytes:
 def holds(out: str, numbers: Iterable[int], failing: Iterable[int] = (), missing: Iterable[int] = ()) -> None:
     """Fails unless a folder has the union of the jobs that ended, under the name that says whether some lack, and the summary."""
     numbers, ended = list(numbers), sorted(set(numbers) - set(failing) - set(missing))
-    equal(read(f"{out}/summary").decode(), summary(numbers, failing, missing))
-    unions = [it for it in ("union.marks", "lacking.marks") if os.path.exists(f"{out}/{it}")]
+    own = f"{out}/all"
+    equal(read(f"{own}/summary").decode(), summary(numbers, failing, missing))
+    unions = [it for it in ("union.marks", "lacking.marks") if os.path.exists(f"{own}/{it}")]
     equal(unions, [] if not ended else ["union.marks" if ended == numbers else "lacking.marks"])
-    assert unions == ["union.marks"] or not os.path.exists(f"{out}/union.html"), "the page of an earlier union stands"
+    assert unions == ["union.marks"] or not os.path.exists(f"{own}/union.html"), "the page of an earlier union stands"
     if unions:
-        equal(read(f"{out}/{unions[0]}") == marks(ended), True)
-    equal([it for it in os.listdir(out) if ".part" in it or it.startswith(".gather")], [])
+        equal(read(f"{own}/{unions[0]}") == marks(ended), True)
+    equal([it for it in [*os.listdir(out), *os.listdir(own)] if it.startswith(".")], [])
 
 
 def noting(at: str) -> dict[str, str]:
@@ -107,14 +108,14 @@ def by_make() -> None:
         put_jobs(f"{at}/jobs", range(12))
         equal(well(make(at)).output, b"")
         holds(f"{at}/out", range(12))
-        assert b"12 of 200" in read(f"{at}/out/union.html"), "the page has not twelve places executed"
+        assert b"12 of 200" in read(f"{at}/out/all/union.html"), "the page has not twelve places executed"
         equal(calls(at), {"marks": 12, "page": 1, "show": 1, "union": 1})
         well(make(at))
         equal(calls(at), {})
         later(f"{at}/jobs", 5, 30)
         well(make(at))
         equal(calls(at), {"marks": 1, "page": 1, "show": 1, "union": 1})
-        equal(read(f"{at}/out/union.marks") == marks([*range(5), *range(6, 12), 30]), True)
+        equal(read(f"{at}/out/all/union.marks") == marks([*range(5), *range(6, 12), 30]), True)
         later(f"{at}/jobs", 5, 5)
         put_jobs(f"{at}/jobs", [40])
         well(make(at))
@@ -155,10 +156,10 @@ def failing_by_make() -> None:
     with folder() as at:
         put_jobs(f"{at}/jobs", numbers, FAILING)
         ran = make(at)
-        equal((ran.status, os.path.exists(f"{at}/out/union.marks"), os.path.exists(f"{at}/out/union.html")), (2, False, False))
+        equal((ran.status, os.path.exists(f"{at}/out/all/union.marks"), os.path.exists(f"{at}/out/all/union.html")), (2, False, False))
         ran = make(at, "-k")
         assert ran.status == 2 and "NO SESSION S" in ran.error and "BAD JOB LINE 212" in ran.error, ran
-        equal(os.path.exists(f"{at}/out/union.marks"), False)
+        equal(os.path.exists(f"{at}/out/all/union.marks"), False)
         gather(at, 3)
         holds(f"{at}/out", numbers, [17, 44])
         calls(at)
@@ -179,13 +180,18 @@ def gather(at: str, status: int) -> Ran:
     return ran
 
 
+def list_jobs(at: str, names: Iterable[str]) -> None:
+    """Writes the list of jobs that gather reads."""
+    os.makedirs(f"{at}/out/all")
+    with open(f"{at}/out/all/jobs", "w", encoding="utf-8") as file:
+        file.writelines(f"{at}/jobs/{it}\n" for it in names)
+
+
 def gathers() -> None:
     """examples/many/gather: what has marks is united, what has none is told with its status, and no earlier union stays"""
     with folder() as at:
         put_jobs(f"{at}/jobs", range(4))
-        os.mkdir(f"{at}/out")
-        with open(f"{at}/out/jobs", "w", encoding="utf-8") as file:
-            file.write("".join(f"{at}/jobs/{name(it)}.job\n" for it in range(4)))
+        list_jobs(at, (f"{name(it)}.job" for it in range(4)))
         gather(at, 3)
         holds(f"{at}/out", range(4), missing=range(4))
         for number in (0, 2, 3):
@@ -203,13 +209,18 @@ def gathers() -> None:
             cut.write(marks([2])[:-1])
         said = gather(at, 10).error
         assert said.startswith(f"coverage: {at}/out/J002.marks: BAD MARKS OFFSET "), said
-        equal(read(f"{at}/out/summary"), b"JOBS 4 MARKS 4 LACKING 0\nNO UNION\n")
-        equal([it for it in os.listdir(f"{at}/out") if it in ("union.marks", "lacking.marks")], [])
+        equal(read(f"{at}/out/all/summary"), b"JOBS 4 MARKS 4 LACKING 0\nNO UNION\n")
+        equal([it for it in os.listdir(f"{at}/out/all") if it in ("union.marks", "lacking.marks")], [])
 
 
 def one(at: str, number: int) -> Ran:
     """Calls one on a job."""
-    words = [f"{at}/jobs/{name(number)}.job", "S", f"{at}/out/{name(number)}.marks"]
+    return one_named(at, name(number))
+
+
+def one_named(at: str, called: str) -> Ran:
+    """The same by the job's name."""
+    words = [f"{at}/jobs/{called}.job", "S", f"{at}/out/{called}.marks"]
     return run(["bash", f"{MANY}/one", *words], cwd=at, env=noting(at))
 
 
@@ -262,15 +273,112 @@ def killed() -> None:
             while not os.path.exists(f"{at}/begun"):
                 time.sleep(0.05)
             os.killpg(started.pid, 9)
-        equal([it for it in os.listdir(f"{at}/out") if it.endswith((".marks", ".failed"))], [])
+        equal([it for it in os.listdir(f"{at}/out") if not it.startswith(".")], [])
         well(one(at, 7))
         equal(read(f"{at}/out/J007.marks") == marks([7]), True)
 
 
+# What a shell, make, or another that reads it as text would run, or take apart.
+ODD = ["$(touch${IFS}X)", "`touch X`", "a; touch X", "a & touch X", "a|touch X", "a'b", 'a"b', "two  blanks", " front", "a\tb", "a\nb", "-rf", "a\\b",
+       "a%b", "#a", "a*", "[a]", "~", "a:b", "a=b", "(a)", "$$", "a,b", "{a,b}", "<a", ">a", "!a", "^a", "\u00e4"]
+# What the results of the recipe's own, and the files of its own, are called, or were once.
+OWN = ["all", "jobs", "summary", "union", "lacking", "due", "J000.marks", "J000.marks.part.a.1", "union.marks", "J000.part.x"]
+NO_NAME = "make takes no name with a blank or any of $ % # : ; | = * ? [ ] \\ ~ ( )."
+
+
+def put_named(at: str, names: Iterable[str]) -> None:
+    """Writes the jobs of the numbers from 0 on, of which each has one of the names."""
+    os.makedirs(f"{at}/jobs", exist_ok=True)
+    for number, it in enumerate(names):
+        with open(f"{at}/jobs/{it}.job", "wb") as file:
+            file.write(job(number))
+
+
+def has_named(at: str, names: list[str]) -> None:
+    """Fails unless each such job has left its marks, and nothing else is there but the union of all."""
+    equal(sorted(os.listdir(f"{at}/out")), sorted(["all", *(f"{it}.marks" for it in names)]))
+    for number, it in enumerate(names):
+        equal((it, read(f"{at}/out/{it}.marks") == marks([number])), (it, True))
+    equal(read(f"{at}/out/all/union.marks") == marks(range(len(names))), True)
+
+
+def odd_names() -> None:
+    """examples/many: one and gather take a job's name as it is, whatever a shell would make of it"""
+    names = [it for it in ODD if "\n" not in it]
+    with folder() as at:
+        put_named(at, names)
+        list_jobs(at, (f"{it}.job" for it in names))
+        for it in names:
+            well(one_named(at, it))
+        gather(at, 0)
+        has_named(at, names)
+        equal(sorted(os.listdir(at)), ["calls", "command", "jobs", "out"])
+        # A folder, and files in the current one, that begin with a dash.
+        os.rename(f"{at}/out", f"{at}/-out")
+        well(run(["bash", f"{MANY}/gather", "-out"], cwd=at, env=noting(at)))
+        well(run(["bash", f"{MANY}/one", "jobs/-rf.job", "S", "-rf.marks"], cwd=at, env=noting(at)))
+        equal(read(f"{at}/-rf.marks") == read(f"{at}/-out/-rf.marks"), True)
+
+
+def odd_names_by_make() -> None:
+    """examples/many/Makefile: a name that make, or a shell, would take for something else works or is refused, and none runs"""
+    for it in ODD:
+        with folder() as at:
+            put_named(at, ["before", it])
+            ran = make(at)
+            works = it in ("a'b", 'a"b', "-rf", "a,b", "{a,b}", "<a", ">a", "!a", "^a", "\u00e4")
+            if works:
+                equal((it, ran.status, ran.error), (it, 0, ""))
+                has_named(at, ["before", it])
+            else:
+                shown = " ".join(f"jobs/{it}.job".split())
+                assert ran.status == 2 and f"{at}/{shown}: {NO_NAME}" in ran.error, (it, ran.status, ran.error)
+                equal(sorted(os.listdir(at)), ["command", "jobs"])
+
+
+def folders_by_make() -> None:
+    """examples/many/Makefile: a folder whose name it doesn't take is refused, and a command with a blank in its path is called"""
+    for it in ("JOBS", "OUT"):
+        for value in ("x y", "x:y", "x "):
+            with folder() as at:
+                put_jobs(f"{at}/jobs", range(2))
+                ran = make(at, f"{it}={value}")
+                assert ran.status == 2 and f"{it} is {value}: {NO_NAME}" in ran.error, (it, value, ran.error)
+                equal(sorted(os.listdir(at)), ["command", "jobs"])
+    with folder() as at:
+        put_jobs(f"{at}/jobs", range(2))
+        os.symlink(MANY, f"{at}/a b")
+        words = ["make", "-s", "JOBS=jobs", "SESSION=S", "OUT=out", "-f"]
+        ran = run([*words, "a b/Makefile"], cwd=at)
+        assert ran.status == 2 and f"a b/Makefile: {NO_NAME}" in ran.error, ran
+        os.symlink(COVERAGE, f"{at}/the command")
+        well(run([*words, f"{MANY}/Makefile"], cwd=at, env={**os.environ, "COVERAGE": f"{at}/the command"}))
+        holds_union(at, 2)
+
+
+def holds_union(at: str, count: int) -> None:
+    equal(read(f"{at}/out/all/union.marks") == marks(range(count)), True)
+
+
+def own_names_by_make() -> None:
+    """examples/many: jobs that are called as the recipe's own results have their marks, and are united"""
+    with folder() as at:
+        put_named(at, ["J000", *OWN])
+        well(make(at))
+        has_named(at, ["J000", *OWN])
+        well(make(at))
+        gather(at, 0)
+        has_named(at, ["J000", *OWN])
+        os.remove(f"{at}/out/J000.marks")
+        gather(at, 3)
+        equal(read(f"{at}/out/all/lacking.marks") == marks(range(1, 1 + len(OWN))), True)
+        equal(sorted(os.listdir(f"{at}/out")), sorted(["all", *(f"{it}.marks" for it in OWN)]))
+
+
 def run_all(tally: Tally) -> None:
     """Runs those of make where that is installed, and the others."""
-    run_checks(tally, [one_again, with_services, killed, gathers])
+    run_checks(tally, [one_again, with_services, killed, gathers, odd_names])
     if shutil.which("make"):
-        run_checks(tally, [by_make, failing_by_make, words_that_lack])
+        run_checks(tally, [by_make, failing_by_make, words_that_lack, odd_names_by_make, folders_by_make, own_names_by_make])
     else:
         tally.left_out.append("examples/many/Makefile, since make isn't installed")

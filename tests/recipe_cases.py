@@ -45,10 +45,13 @@ wc -l < "$at/submitted"
 }
 # Stands for GNU parallel where that isn't installed: one job after the other, on this machine.
 PARALLEL = """#!/bin/bash
+[ "$1" = -0 ] && shift
 while [[ $1 == --* ]]; do [ "$1" != --joblog ] || log=$2; shift 2; done
 printf 'Seq\\tHost\\tStarttime\\tJobRuntime\\tSend\\tReceive\\tExitval\\tSignal\\tCommand\\n' > "$log"
-while IFS= read -r it; do
-  call=${1//'{.}'/"${it%.*}"} call=${call//'{}'/"$it"}
+while IFS= read -rd '' it; do
+  printf -v own %q "$it"
+  printf -v part %q "${it%.*}"
+  call=${1//'{.}'/"$part"} call=${call//'{}'/"$own"}
   bash -c "$call" < /dev/null
   printf '1\\t:\\t0\\t0\\t0\\t0\\t%s\\t0\\t%s\\n' "$?" "$call" >> "$log"
 done
@@ -140,10 +143,10 @@ def by_make() -> None:
     call, reached = of(MANY, "On one machine"), of(MANY, "Which job reached a line")
     with with_jobs() as it:
         well(it.types(call))
-        has_marks(it, "out", "out/union.marks")
-        shown = well(coverage("show", "ORDERS", data=it.has("jobs/orders.job") + it.has("out/union.marks"))).output
-        equal(it.has("out/union.html"), well(coverage("page", data=shown)).output)
-        for marks, wanted in (("[>&]", "short: >"), ("[V&]", "orders: V"), ("[:>V&]", "orders: V, short: >")):
+        has_marks(it, "out", "out/all/union.marks")
+        shown = well(coverage("show", "ORDERS", data=it.has("jobs/orders.job") + it.has("out/all/union.marks"))).output
+        equal(it.has("out/all/union.html"), well(coverage("page", data=shown)).output)
+        for marks, wanted in (("[>&]", "short:>"), ("[V&]", "orders:V"), ("[:>V&]", "orders:V, short:>")):
             assert "[>&]" in reached and f"`{marks}`" in section(MANY, "Which job reached a line"), marks
             found = well(it.types(reached.replace("[>&]", marks))).output.decode().splitlines()
             equal(", ".join(line.partition("  000036 4740 C0E0 ")[0] for line in found), wanted)
@@ -152,11 +155,11 @@ def by_make() -> None:
         [gather] = re.findall(r"`(bash [^`]*)`", section(MANY, "On one machine"))
         it.types(f"{call.strip()} -k")
         equal(it.types(gather).status, 3)
-        equal(it.has("out/summary").decode(), """JOBS 3 MARKS 2 LACKING 1
+        equal(it.has("out/all/summary").decode(), """JOBS 3 MARKS 2 LACKING 1
 LACKING other STATUS 13 NO SESSION ORDERS
 UNION lacking.marks
 """)
-        has_marks(it, "out", "out/lacking.marks")
+        has_marks(it, "out", "out/all/lacking.marks")
         assert it.has("out/other.marks.failed").startswith(b"STATUS 13 NO SESSION ORDERS\n"), it.has("out/other.marks.failed")
     [sample] = blocks(section(MANY, "What a job that failed leaves"), typed=False)
     equal(sample, many_cases.summary(range(200), [17, 44], [120]).replace("SESSION S\n", "SESSION ORDERS\n"))
@@ -169,9 +172,9 @@ def measured() -> None:
             it.write(f"jobs/copy{number}.job", it.has("jobs/orders.job"))
         ran = it.types(of(MANY, "Figures"))
         equal((ran.status, ran.output, len(re.findall("^real", ran.error, re.M))), (0, b"", 2))
-        equal(len(it.has("list").splitlines()), 8)
-        equal(it.has("all.marks"), it.has("out/union.marks"))
-        equal(sum(name.endswith(".marks") for name in os.listdir(f"{it.at}/out")), 9)
+        equal(it.has("list").count(b"\0"), 8)
+        equal(it.has("all.marks"), it.has("out/all/union.marks"))
+        equal(sum(name.endswith(".marks") for name in os.listdir(f"{it.at}/out")), 8)
 
 
 def by_slurm() -> None:
@@ -179,11 +182,29 @@ def by_slurm() -> None:
     with with_jobs() as it:
         call = of(MANY, "By Slurm")
         equal(well(it.types(call)).output, b"JOBS 2 ARRAY 1 UNION 2\n")
-        has_marks(it, "out", "out/union.marks")
+        has_marks(it, "out", "out/all/union.marks")
         equal(well(it.types(call)).output, b"JOBS 0 ARRAY none UNION 3\n")
         submitted = it.has("bin/submitted").decode().splitlines()
         equal(["--partition=night --time=60 " in line for line in submitted], [True] * 3)
         equal([re.findall("--(?:array|dependency)=[^ ]*", line) for line in submitted], [["--array=0-1"], ["--dependency=afterany:1"], []])
+
+
+def odd_names() -> None:
+    """docs/MANY.md: by Slurm and GNU parallel a job's name is taken as it is; Slurm's recipe refuses one with a line's end"""
+    for page, under in (("By Slurm", "out"), ("By GNU parallel over ssh", "jobs")):
+        with with_jobs() as it:
+            names = [name for name in many_cases.ODD if "\n" not in name]
+            for name in names:
+                it.write(f"jobs/{name}.job", it.has("jobs/orders.job"))
+            it.write("hosts", b":\n")
+            before = sorted([*os.listdir(it.at), *({"out"} if under == "out" else {"all.marks", "ran.log"})])
+            well(it.types(of(MANY, page)))
+            equal([(name, it.has(f"{under}/{name}.marks")) for name in names], [(name, it.has(f"{under}/orders.marks")) for name in names])
+            assert sorted(os.listdir(it.at)) == before and not os.path.exists(f"{it.at}/jobs/X"), (page, os.listdir(it.at))
+    with with_jobs() as it:
+        it.write("jobs/a\nb.job", it.has("jobs/orders.job"))
+        ran = it.types(of(MANY, "By Slurm"))
+        equal((ran.status, ran.output, os.listdir(f"{it.at}/out/all"), "a\\nb.job': a name with a line's end" in ran.error), (1, b"", [], True))
 
 
 def by_parallel() -> None:
@@ -330,7 +351,7 @@ def samples() -> None:
 
 def run_all(tally: Tally) -> None:
     """Runs those of make where that is installed, and the others."""
-    run_checks(tally, [all_pages, within_text, samples, manual, each_night, by_slurm, by_parallel])
+    run_checks(tally, [all_pages, within_text, samples, manual, each_night, by_slurm, by_parallel, odd_names])
     if shutil.which("make"):
         run_checks(tally, [by_make, measured])
     else:
