@@ -1,6 +1,6 @@
 """The rules of a job, card by card (docs/JOB.md), each with the sentence that refuses what breaks it; with services or without them.
 
-A card that is refused here is the line that the program names, and the other way round: see tests/job_cases.py. What the
+A card that is refused here is the line that the program names, and the other way round: see tests/cases/job_cases.py. What the
 lines of a listing say is not looked at.
 """
 from __future__ import annotations
