@@ -143,7 +143,7 @@ def listed_crates() -> list[str]:
 
 def crates_of_readme() -> None:
     """README.md: it names the crates of crates.txt, in their order"""
-    named = " ".join(text_of("README.md").split()).partition("Its crates, as")[2].partition("): ")[2]
+    named = " ".join(text_of("README.md").split()).partition("Its crates (")[2].partition("): ")[2]
     equal(named, ", ".join(listed_crates()) + ".")
 
 
