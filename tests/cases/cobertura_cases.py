@@ -180,7 +180,7 @@ def xmllint() -> None:
             equal(run(words, text.replace(b"<lines>", b'<lines x="">', 1)).status != 0, True)
 
 
-def tools(tally: Tally) -> None:
+def run_all(tally: Tally) -> None:
     """Runs xmllint over what is written, where it is."""
     if shutil.which("xmllint"):
         run_checks(tally, [xmllint])

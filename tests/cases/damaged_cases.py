@@ -231,9 +231,12 @@ def run_all(tally: Tally) -> None:
     tried = []
     with ThreadPoolExecutor(os.cpu_count()) as pool:
         for command in commands():
+            name = " ".join(command.words)
+            if not tally.wants(name):
+                continue
             inputs = list(damaged(command.input))
             faults = [it for it in pool.map(lambda it: fault_of(command, *it), inputs) if it]
-            name = " ".join(command.words)
-            tally.note(f"damaged input of {name}", f"{len(faults)} of {len(inputs)}, {faults[0]}" if faults else None)
+            tally.note(name, f"{len(faults)} of {len(inputs)}, {faults[0]}" if faults else None, "a damaged input")
             tried.append(f"{name} {len(inputs)}")
-    print(f"tests/command_line: damaged inputs: {', '.join(tried)}", flush=True)
+    if tried:
+        print(f"tests/command_line: damaged inputs: {', '.join(tried)}", flush=True)

@@ -336,7 +336,7 @@ def as_diff_finds() -> None:
             equal(len(difference.pairs_of(one, other)), kept)
 
 
-def tools(tally: Tally) -> None:
+def run_all(tally: Tally) -> None:
     """Runs the program diff over listings, where it is."""
     if shutil.which("diff"):
         run_checks(tally, [as_diff_finds])

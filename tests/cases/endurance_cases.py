@@ -11,7 +11,7 @@ from concurrent.futures import ProcessPoolExecutor, ThreadPoolExecutor
 from cases import damaged_cases, ends_cases, hostile_cases, marks_cases, program_cases, row_cases, services_rows
 from drawing import endurance_inputs
 from fixtures import refusals
-from fixtures.harness import PROGRAM, TOP, Case, Tally, equal, folder, run_checks
+from fixtures.harness import PROGRAM, TOP, Case, equal, folder
 from models import answers
 from trials.endurance_trials import Found, Trials
 
@@ -38,7 +38,7 @@ def model_meets_rows() -> None:
     equal((len(rows) > 600, [it for it in faults if it[1]]), (True, []))
 
 
-def cases(trials: Trials, numbers: range) -> Found:
+def drawn(trials: Trials, numbers: range) -> Found:
     """What comes of cases, without those beside Hercules, which tests/outside has."""
     trials.ways.pop("hercules", None)
     found = Found()
@@ -51,7 +51,7 @@ def cases(trials: Trials, numbers: range) -> Found:
 
 def part(place: str, first: int) -> Found:
     """A part of the cases, in a process of its own."""
-    return cases(Trials(PROGRAM, SEED, place), range(first, CASES, os.cpu_count() or 1))
+    return drawn(Trials(PROGRAM, SEED, place), range(first, CASES, os.cpu_count() or 1))
 
 
 def by_one_seed() -> None:
@@ -93,7 +93,7 @@ def finds() -> None:
         os.chmod(path, stat.S_IRWXU)
         trials = Trials(path, SEED, place)
         trials.ways = {"plain": 1}
-        found = cases(trials, range(OTHERWISE))
+        found = drawn(trials, range(OTHERWISE))
         equal(found.counts.total() - found.counts["left out"], len(found.faults))
         words = ["python3", "-B", f"{TOP}/tests/endurance", "--program", path, "--seed", str(SEED), "--case", "1"]
         ran = subprocess.run(words, capture_output=True, text=True, check=False, env={**os.environ, "TMPDIR": place})
@@ -102,8 +102,3 @@ def finds() -> None:
 
 
 CHECKS = [model_meets_rows, by_one_seed, each_refused, finds]
-
-
-def run_all(tally: Tally) -> None:
-    """Runs them."""
-    run_checks(tally, CHECKS)

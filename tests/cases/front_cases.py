@@ -288,10 +288,10 @@ def marks_refused() -> list[Row]:
 
 def of_row(row: Row) -> Callable[[], None]:
     """The test of a row, which bears its name."""
-    test = partial(check, row)
-    test.__doc__ = f"coverage: {row.name}"
-    found: Callable[[], None] = test
-    return found
+    def test() -> None:
+        check(row)
+    test.__name__, test.__doc__ = row.name, f"coverage: {row.name}"
+    return test
 
 
 def into_pipe() -> None:

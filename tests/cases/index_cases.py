@@ -253,7 +253,7 @@ def prints(path: str) -> None:
     assert sheets[0] > 4, sheets
 
 
-def tools(tally: Tally) -> None:
+def run_all(tally: Tally) -> None:
     """Runs a browser over pages, where there is one."""
     path = browser.found()
     if not path:

@@ -189,7 +189,7 @@ def genhtml_of_example() -> None:
         assert "(71 of 76 lines)" in text and "(11 of 14 branches)" in text, text
 
 
-def tools(tally: Tally) -> None:
+def run_all(tally: Tally) -> None:
     """Runs genhtml and lcov over tracefiles, where they are."""
     if shutil.which("genhtml") and shutil.which("lcov"):
         run_checks(tally, [genhtml, united, genhtml_of_example])

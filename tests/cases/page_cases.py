@@ -421,7 +421,7 @@ def in_browser(path: str) -> None:
     assert pictures[0] != pictures[1], "light and dark are the same"
 
 
-def tools(tally: Tally) -> None:
+def run_all(tally: Tally) -> None:
     """Runs a browser over pages, where there is one."""
     path = browser.found()
     if path:

@@ -37,13 +37,15 @@ def commands() -> list[str]:
 
 
 def run_all(tally: Tally) -> None:
-    """Runs README's commands one after the other in a folder that looks like a clone."""
+    """Runs README's commands one after the other, up to the last that is wanted, in a folder that looks like a clone."""
+    found = commands()
+    if tally.wants("commands"):
+        tally.note("commands", None if found else "there are none", "README has commands")
+    last = max((at for at, it in enumerate(found, 1) if tally.wants(it)), default=0)
     with folder() as at:
         for name in ("coverage", "examples", "docs"):
             os.symlink(f"{TOP}/{name}", f"{at}/{name}")
-        found = commands()
-        tally.note("README has commands", None if found else "there are none")
-        for command in found:
+        for command in found[:last]:
             if re.search(r"\b(genhtml|lcov) -", command) and not shutil.which("genhtml"):
                 tally.left_out.append(f"README's {command}")
                 continue
@@ -52,7 +54,7 @@ def run_all(tally: Tally) -> None:
                 fault = f"status {ran.status}: {ran.error[:300]}{ran.output[:200]!r}" if ran.status else None
             except subprocess.TimeoutExpired:
                 fault = "it took too long"
-            tally.note(f"README: {command}", fault)
+            tally.note(command, fault, "README")
 
 
 def section(path: str, title: str) -> str:

@@ -79,6 +79,7 @@ def named(check: Callable[..., None], words: list[str], *others: object) -> Call
     """A check of a command, with a name of its own."""
     def checked() -> None:
         check(words, *others)
+    checked.__name__ = words[0]
     checked.__doc__ = f"an output that is lost, of {words[0]}, at sizes around the buffer's"
     return checked
 

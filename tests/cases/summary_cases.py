@@ -1,6 +1,7 @@
 """Summaries, and what is left out of them (docs/SUMMARY.md)."""
 from __future__ import annotations
 
+import functools
 import json
 import os
 import shutil
@@ -219,13 +220,10 @@ def jq(path: str) -> None:
     equal(ran.output, b"7,13,4\n")
 
 
-def tools(tally: Tally) -> None:
+def run_all(tally: Tally) -> None:
     """Runs jq over a summary, where it is."""
     if path := shutil.which("jq"):
-        def check() -> None:
-            jq(path or "")
-        check.__doc__ = jq.__doc__
-        run_checks(tally, [check])
+        run_checks(tally, [functools.partial(jq, path)])
     else:
         tally.left_out.append("jq over a summary, since it isn't there")
 

@@ -5,7 +5,6 @@ import os
 import signal
 import subprocess
 import time
-from typing import Optional
 
 from fixtures.checkout import Checkout, checkout, ended
 from fixtures.harness import PROGRAM, TOP, Ran, equal, folder, interruptible, refused, run
@@ -190,34 +189,17 @@ def is_interrupted() -> None:
             assert is_gone(held), f"signal {number} left the toolchain at work"
 
 
-class Real:
-    """Two calls with the real toolchain, which work beside the other tests from `begin` on."""
-
-    def __init__(self) -> None:
-        self.room = folder()
-        self.first: Optional[subprocess.Popen[bytes]] = None
-        self.long: Optional[subprocess.Popen[bytes]] = None
-
-    def begin(self) -> None:
-        """Starts both."""
-        it = Checkout(self.room.name, "")
+def with_toolchain() -> None:
+    """try: with the real toolchain the first example has its report, and too large an output is refused"""
+    with folder() as at, open(f"{TOP}/examples/first.job", "rb") as job:
+        it, pipe = Checkout(at, ""), subprocess.PIPE
         os.remove(f"{it.at}/bin/rt")
         it.write("crates/coverage_program/src/main.rt", LONG)
-        self.long = it.start("try", "trial", "7", "1")
-        pipe = subprocess.PIPE
-        with open(f"{TOP}/examples/first.job", "rb") as job:
-            self.first = subprocess.Popen([f"{TOP}/coverage", "try", "run"], stdin=job, stdout=pipe, stderr=pipe)
-
-    def compare(self) -> None:
-        """try: with the real toolchain the first example has its report, and too large an output is refused"""
-        if not self.first or not self.long:
-            self.begin()
-        assert self.first and self.long
-        had = answered(ended(self.first, LONGEST), "run")
+        long = it.start("try", "trial", "7", "1")
+        first = subprocess.Popen([f"{TOP}/coverage", "try", "run"], stdin=job, stdout=pipe, stderr=pipe)
+        had = answered(ended(first, LONGEST), "run")
         equal((had.status, had.output), (0, FIRST_REPORT))
-        refused(ended(self.long, LONGEST), 71, "coverage: no answer: the program wrote more than 1048576 bytes")
-        self.room.cleanup()
+        refused(ended(long, LONGEST), 71, "coverage: no answer: the program wrote more than 1048576 bytes")
 
 
-REAL = Real()
-CHECKS = [each_command, no_command, without_answer, its_input, its_streams, is_interrupted, REAL.compare]
+CHECKS = [each_command, no_command, without_answer, its_input, its_streams, is_interrupted, with_toolchain]
