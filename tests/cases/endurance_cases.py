@@ -94,7 +94,7 @@ def finds() -> None:
         trials = Trials(path, SEED, place)
         trials.ways = {"plain": 1}
         found = drawn(trials, range(OTHERWISE))
-        equal(found.counts.total() - found.counts["left out"], len(found.faults))
+        equal(sum(found.counts.values()) - found.counts["left out"], len(found.faults))
         words = ["python3", "-B", f"{TOP}/tests/endurance", "--program", path, "--seed", str(SEED), "--case", "1"]
         ran = subprocess.run(words, capture_output=True, text=True, check=False, env={**os.environ, "TMPDIR": place})
         kept = [it for it in os.listdir(place) if it.startswith("coverage-endurance-")]

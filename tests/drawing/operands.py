@@ -235,7 +235,7 @@ def multiple(it: Maker, code: int) -> bytes:
 
 def under_mask(it: Maker, code: int) -> bytes:
     mask = it.draw.randrange(16)
-    at = it.address(max(mask.bit_count(), 1))
+    at = it.address(max(f"{mask:b}".count("1"), 1))
     made = it.rx(code, "", at, mask)
     if it.draw.random() < 0.5:
         it.fill(at, it.registers[made[1] >> 4].to_bytes(4, "big"))

@@ -164,7 +164,7 @@ def evidence_of(modules: list[Module], firsts: Firsts) -> bytes:
 
 def verified(name: bytes, tasks: int, file: File, data: bytes, firsts: Firsts) -> bytes:
     """What `verify` says of a file with the session's table, where its places have these first visits, and of evidence."""
-    facts = sum(it.bit_count() for it in file.sets if it is not None)
+    facts = sum(f"{it:b}".count("1") for it in file.sets if it is not None)
 
     def need(holds: bool, offset: int) -> None:
         if not holds:
@@ -194,7 +194,7 @@ def session_part(name: bytes, phase: bytes, modules: list[Module], facts: Facts)
     for it in modules:
         table = it.table()
         sets = [facts.get(place.address, 0) for place in table]
-        counts = (len(table), sum(bits > 0 for bits in sets), sum(bits.bit_count() for bits in sets))
+        counts = (len(table), sum(bits > 0 for bits in sets), sum(f"{bits:b}".count("1") for bits in sets))
         possible = sum(1 + place.kind() for place in table)
         lines.append(b"MODULE %s PLACES %d EXECUTED %d FACTS %d OF %d" % (it.name, *counts, possible))
         for line, place in zip(it.listing or [], it.places):

@@ -80,7 +80,7 @@ class Hours:
             self.fault(self.next, Fault("all", f"{after} in the end, and {before} in the beginning", b""))
         told = ", ".join(f"{count} {name}" for name, count in after.items())
         print(f"in the end {told}, as in the beginning: {after == before}", flush=True)
-        print(f"tests/endurance: {self.counts.total()} cases, {self.faults} faults", flush=True)
+        print(f"tests/endurance: {sum(self.counts.values())} cases, {self.faults} faults", flush=True)
         return 1 if self.faults or not self.counts else 0
 
     def run_all(self, seconds: float, place: str) -> None:

@@ -286,7 +286,7 @@ def is_tested_whole(it: Pair) -> bool:
         fields = (code[2:4], code[4:6]) if code[0] == 0xD5 else (code[2:4],)
         uses = [(it.base(field_), code[1] + 1) for field_ in fields]
     elif code[0] == 0xBD:
-        uses = [(it.base(code[2:4]), (code[1] & 15).bit_count())]
+        uses = [(it.base(code[2:4]), f"{code[1] & 15:b}".count("1"))]
     elif code[0] == 0x0F:
         uses = [(registers[n] % (1 << 24), registers[n + 1] % (1 << 24)) for n in (code[1] >> 4, code[1] & 15)]
     else:
