@@ -10,8 +10,8 @@ import subprocess
 import sys
 from typing import Optional
 
-from fixtures.checkout import TOOLCHAIN, Checkout, checkout
-from fixtures.harness import PROGRAM, TOP, Ran, coverage, equal, refused, run, well
+from fixtures.checkout import TOOLCHAIN, checkout
+from fixtures.harness import PROGRAM, TOP, coverage, equal, refused, run, well
 from fixtures.jobs import FIRST, FIRST_REPORT, USAGE
 
 NOT_BUILT = "isn't built of the sources as they stand: ./coverage run builds it\n"

@@ -9,7 +9,7 @@ import shutil
 from cases.install_cases import bytes_below
 from cases.report_cases import DRAINED, MARKED, RETURNED, ends, labelled
 from fixtures.harness import COVERAGE, Tally, coverage, equal, example_report, folder, refused, run, run_checks, well
-from fixtures.jobs import COUNTED, FIRST_REPORT, OPENED_REPLAY, OPENED_REPORT, Program, Result
+from fixtures.jobs import COUNTED, FIRST_REPORT, OPENED_REPLAY, OPENED_REPORT, Program
 
 # What genhtml and lcov say of what they don't like.
 COMPLAINT = re.compile("warning|error|cannot|mismatch", re.I)

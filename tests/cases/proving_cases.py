@@ -4,7 +4,7 @@ from __future__ import annotations
 import os
 import signal
 
-from cases.build_cases import Copy, all_ended, copy, ended, wait_for
+from cases.build_cases import all_ended, copy, ended, wait_for
 from fixtures.harness import equal, interruptible
 
 # Two crates over one, and the program over all.

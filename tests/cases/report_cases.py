@@ -2,9 +2,8 @@
 from __future__ import annotations
 
 import os
-import re
 
-from fixtures.harness import TOP, coverage, equal, folder, refused, well
+from fixtures.harness import coverage, equal, folder, refused, well
 from fixtures.jobs import COUNTED, FIRST, FIRST_REPORT, FIRST_RESULT, HEADING, WIDE_HEADING, Program, Result
 
 RETURNED = [Result("RETURNED", 2)]
