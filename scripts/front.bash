@@ -5,8 +5,8 @@
 # How the command is called, where it is told.
 : "${me:=./coverage}"
 
-# Of --must-return, where a task ended otherwise than RETURNED.
-not_returned=80
+# Of --must-return, where a task ended otherwise than RETURNED, and of --seconds, where the command had not ended.
+not_returned=80 not_ended=83
 
 # How the program's refusals begin that tell more than their status does.
 refusals='BAD (JOB|SCHEDULE|MARKS|EVIDENCE|LISTING)|MISMATCH|TOO LARGE|OWN SVC|OTHER TABLE|NO SESSION|CONTROLLED'
@@ -25,17 +25,43 @@ fits() {
   esac
 }
 
-# Takes --must-return, which is the script's own, out of the words behind a command; sets `words` and `must_return`.
+# Takes the script's own options out of the words behind a command; sets `words`, `must_return` and `seconds`.
 take_words() {
-  local word
-  words=() must_return=''
-  for word in "$@"; do
-    if [ "$word" = --must-return ]; then must_return=yes; else words+=("$word"); fi
+  words=() must_return='' seconds=''
+  while [ $# != 0 ]; do
+    case $1 in
+    --must-return) must_return=yes ;;
+    --seconds=*) take_seconds "${1#*=}" ;;
+    --seconds)
+      shift
+      take_seconds "${1-}"
+      ;;
+    *) words+=("$1") ;;
+    esac
+    shift
   done
+  case ${seconds:+${words[0]-}}-$seconds in
+  -[1-9]* | module-* | job-* | union-* | page-* | summary-* | diff-* | lcov-* | cobertura-* | try-* | install-*)
+    say '--seconds stands behind a command of the program alone'
+    exit 1
+    ;;
+  esac
   if [ -n "$must_return" ] && [[ ! ${words[*]} =~ ^(run|exits|early|services run)$ ]]; then
     say '--must-return stands behind run, exits, early or services run alone, which tell how the tasks of a job ended'
     exit 1
   fi
+}
+
+take_seconds() {
+  if [ -n "$seconds" ]; then
+    say '--seconds stands twice'
+  elif [[ ! $1 =~ ^[1-9][0-9]{0,8}$ ]]; then
+    say "--seconds takes a number from 1 to 999999999, in digits, and not '$1'"
+  else
+    seconds=$1
+    return
+  fi
+  exit 1
 }
 
 say() {
@@ -67,10 +93,13 @@ position() {
   exec {info}<&-
 }
 
-# Opens a file without a name for the output, which is written as a whole once the program has ended.
+# Opens a file without a name for the output, which is written as a whole once the program has ended: the one that this shell
+# takes for a text that is too long for a pipe.
 hold() {
-  local file
-  file=$(mktemp 2>/dev/null) && exec {put}>"$file" {get}<"$file" {look}<"$file" && rm -f "$file"
+  local long
+  [ -d "${TMPDIR:-/tmp}" ] && [ -w "${TMPDIR:-/tmp}" ] || return
+  printf -v long '%66000s' ''
+  { exec {get}<<<"$long" && [ -f "/dev/fd/$get" ] && exec {put}>"/dev/fd/$get" {look}<"/dev/fd/$get"; } 2>/dev/null
 }
 
 # What bounds a command: its tasks and their budgets. The job is standard input, from where it stood on.
@@ -135,42 +164,55 @@ pipe() {
   exec {both}>&-
 }
 
-# Runs the program as a child that gets each signal that this shell gets, and sets `status` as a shell tells it.
+# Runs what a function does, which ends by exec, as a child, for at most so many seconds if the first word has any; sets `status`
+# as a shell tells it, and `is_late` if they were over. The child gets each signal that this shell gets, or that which
+# `instead` names; `was` is the last.
 run_child() {
-  local child='' ended name source sink started was='' watcher=''
+  local child='' ended name source sink started watcher=''
+  was='' is_late=''
   for name in HUP INT QUIT TERM USR1 USR2; do
     # shellcheck disable=SC2064
-    trap "was=$name; [ -z \"\$child\" ] || kill -$name \"\$child\" 2>/dev/null" "$name"
+    trap "was=$name; [ -z \"\$child\" ] || kill -${instead:-$name} \"\$child\" 2>/dev/null" "$name"
   done
-  # The program has the pipe open for writing, which so ends with it.
+  # The child has the pipe open for writing, which so ends with it.
   pipe
   ended=$source
   # A job in the background ignores interrupts until it takes them back, and loses other signals: the line says when.
   (
     trap - HUP INT QUIT TERM USR1 USR2
     echo >&"$sink"
-    exec "$program" "${words[@]}" >&"$put"
+    "$2"
   ) <&0 &
   started=$!
   exec {sink}>&-
   read -r <&"$ended"
   child=$started
-  [ -z "$was" ] || kill "-$was" "$child" 2>/dev/null
-  if [[ -t 2 && ! -t 0 && ( -n $held || ! -t 1 ) ]]; then
+  [ -z "$was" ] || kill "-${instead:-$was}" "$child" 2>/dev/null
+  if [ -n "$watched" ]; then
     pipe
     watch "$source" "${words[@]}" <&0 {sink}>&- >/dev/null &
     watcher=$!
   fi
   # A signal doesn't end this read. It would end `wait`, and where the program ends at once its status would be lost.
-  read -r <&"$ended"
+  read -r ${1:+-t "$1"} <&"$ended"
+  if (($? > 128)); then
+    is_late=yes
+    kill -KILL "$child" 2>/dev/null
+  fi
   trap '' HUP INT QUIT TERM USR1 USR2
   wait "$child" 2>/dev/null
   status=$?
+  exec {ended}<&-
   if [ -n "$watcher" ]; then
     exec {sink}>&-
     wait "$watcher" 2>/dev/null
   fi
-  trap - HUP INT QUIT TERM USR1 USR2
+  trap - HUP INT TERM USR1 USR2
+  trap 'end_by 3' QUIT
+}
+
+run_program() {
+  exec "$program" "${words[@]}" >&"$put"
 }
 
 # Sets `line` to the program's refusal, where standard output can be read again; else to nothing.
@@ -232,16 +274,25 @@ explain() {
   hint
 }
 
-# Says further what it probably is, by the words, the line and the input, which only a file tells a second time.
+# Says further what it probably is, by the words, the line and the input, which only a file tells a second time. What takes longer
+# than a second of a processor, or three by the clock, is left unsaid.
 hint() {
-  local input=0
+  local input=0 instead=KILL is_late status=$status was watched=''
   case $status:$from$line in
   1:* | [2-49]:?* | 1[0-356]:?*) ;;
   *) return 0 ;;
   esac
   if [ -z "$from" ]; then exec {input}</dev/null; fi
-  command -v python3 >/dev/null &&
-    python3 -I -S -B "$top/scripts" why "$me" "$status" "$from" "$line" "${words[@]}" <&"$input" >&2
+  command -v python3 >/dev/null || return 0
+  run_child 3 say_why <&"$input"
+  [ -z "$was" ] || end_by "$(kill -l "$was")"
+}
+
+say_why() {
+  # This shell ends it, so that an interrupt makes no traceback; what ends this shell by KILL leaves it no longer than a second.
+  trap '' HUP INT QUIT TERM
+  ulimit -c 0 -t 1
+  exec python3 -I -S -B "$top/scripts" why "$me" "$status" "$from" "$line" "${words[@]}" >&2
 }
 
 # Says which tasks of the report have not returned, and answers whether there are any.
@@ -254,12 +305,9 @@ tells_others() {
   say "not returned: ${others//$'\n'/, }: docs/TROUBLE.md says what each ending is"
 }
 
-# Ends as the program has ended, by the same signal too. A shell of this kind can't end by each: it ignores QUIT.
+# Ends as the program has ended, by the same signal too.
 end_as_child() {
-  if ((status > 128 && status < 193)); then
-    ulimit -c 0
-    exec sh -c 'kill "-$1" "$$"; exit "$2"' sh "$((status - 128))" "$status"
-  fi
+  if ((status > 128 && status < 193)); then end_by "$((status - 128))"; fi
   exit "$status"
 }
 
@@ -270,10 +318,10 @@ is_open() {
 
 # Runs the program on the words of a command, and ends with its status.
 call_program() {
-  local at from get held='' line='' look program=$1 put=1 status
+  local at from get held='' instead='' is_late line='' look program=$1 put=1 status was watched=''
   # The program, which can't do so itself, then gets an error where a file may not grow, and tells of it.
   trap '' XFSZ
-  if [ -z "$must_return" ] && ! is_open 2; then
+  if [ -z "$must_return$seconds" ] && ! is_open 2; then
     exec "$program" "${words[@]}"
   fi
   # What can't be read, or not written, stands for what is closed, so that no pipe of this shell gets its number.
@@ -284,15 +332,20 @@ call_program() {
   fi
   position 0
   from=$at
-  if [[ -n $must_return || -t 1 && -t 2 && ! -t 0 ]]; then
+  if [[ -n $must_return$seconds || -t 1 && -t 2 && ! -t 0 ]]; then
     if hold; then
       held=yes
-    elif [ -n "$must_return" ]; then
-      say "no file for the report can be made in ${TMPDIR:-/tmp}, where --must-return keeps it meanwhile"
+    elif [ -n "$must_return$seconds" ]; then
+      say "no file for the output can be made in ${TMPDIR:-/tmp}, where --must-return and --seconds keep it meanwhile"
       exit 6
     fi
   fi
-  run_child
+  if [[ -t 2 && ! -t 0 && ( -n $held || ! -t 1 ) ]]; then watched=yes; fi
+  run_child "$seconds" run_program
+  if [ -n "$is_late" ]; then
+    say "${words[*]} had not ended after $seconds s, and was ended by --seconds: nothing is written"
+    exit "$not_ended"
+  fi
   if [ -n "$held" ] && ((status < 128)) && ! cat <&"$get" 2>/dev/null; then status=6; fi
   if ((status)); then
     explain

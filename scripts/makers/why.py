@@ -30,7 +30,7 @@ INPUT_LIMIT, SHOWN, SECONDS = 16_777_216, 3, 1
 MOST_COMPARED = 262_144
 FACTS = {"R": "was executed", "W": "branched", "S": "fell through"}
 NAME = re.compile(r"[A-Z@#$][A-Z@#$0-9]{0,7}")
-OPTIONS = ("--must-return",)
+OPTIONS = ("--must-return", "--seconds")
 ITEMS = ("FETCH", "MARK", "LIFT", "DO", "PLANT", "CLOSE", "GO")
 # The commands that the word `services` may stand before.
 SERVED = ("run", "marks", "show", "table", "count", "ends")

@@ -114,6 +114,7 @@ def words_meant() -> list[Row]:
         meant(["services", "shwo", "S"], f"{served}: did you mean services show?"),
         meant(["services", "union", "--files-from", "cust.job"], served, files=job),
         meant(["services", "run", "--must-retrun"], "the word --must-retrun is none of its options: did you mean --must-return?"),
+        meant(["marks", "S", "--second"], "the word --second is none of its options: did you mean --seconds?"),
         meant(["ends", "-x", "cust.job"], "the word -x is none of its options", files=job),
         meant(["services", "run", "cust.job"], "did you mean ./coverage services run < cust.job ?", files=job),
         meant(["services", "show", "S", "cust.job", "a.marks"], "did you mean cat cust.job a.marks | ./coverage services show S ?", files=both),
@@ -381,6 +382,132 @@ def must_return_streams() -> None:
     equal((ran.status, ran.output, "can be made in /none" in ran.error), (6, b"", True))
 
 
+NOT_ENDED, NO_FILES = 83, 73
+
+
+def seconds() -> None:
+    """coverage: --seconds ends a command of the program after so many seconds, with a status of its own and nothing written"""
+    with folder() as at:
+        it = Front(at)
+        call = partial(subprocess.run, capture_output=True, text=True, env=it.env, timeout=SECONDS, check=False)
+        late = "coverage: {} had not ended after 1 s, and was ended by --seconds: nothing is written\n"
+        for words in (["run", "--seconds", "1"], ["run", "--seconds=1", "--must-return"], ["--seconds", "1", "marks", "S"],
+                      ["services", "--seconds=1", "count"], ["combine", "--seconds", "1"]):
+            began = time.monotonic()
+            # It has written a part by then.
+            ran = call([f"{at}/coverage", *words], input="part 60\n")
+            own = " ".join(word for word in words if word not in ("1", "--must-return") and not word.startswith("--seconds"))
+            equal((words, ran.returncode, ran.stdout, ran.stderr), (words, NOT_ENDED, "", late.format(own)))
+            assert 1 <= time.monotonic() - began < 30, "it took another time"
+            equal(left_by(it), [])
+        for words, status, output in ((["run", "--seconds", "60"], 0, "COVERAGE REPORT\n"), (["run", "--seconds=60"], 13, "COVERAGE REPORT\n")):
+            ran = call([f"{at}/coverage", *words], input=f"0 {status}\n")
+            equal((ran.returncode, ran.stdout), (status, output))
+
+
+def left_by(it: Front) -> list[str]:
+    """The processes that still run the program of a copy, or stand for its Python."""
+    found = []
+    for number in filter(str.isdigit, os.listdir("/proc")):
+        with contextlib.suppress(OSError), open(f"/proc/{number}/environ", "rb") as file:
+            if f"STARTED={it.env['STARTED']}".encode() in file.read().split(b"\0"):
+                found.append(number)
+    return found
+
+
+def seconds_words() -> None:
+    """coverage: --seconds takes a whole number of them, once, behind a command of the program; a full disk has its own status"""
+    for words in (["0"], ["-1"], ["01"], ["1.5"], ["1s"], [""], ["1000000000"], []):
+        said = f"coverage: --seconds takes a number from 1 to 999999999, in digits, and not '{''.join(words)}'\n"
+        for call in (["run", "--seconds", *words], ["run", f"--seconds={''.join(words)}"], ["marks", "S", "--seconds", *words]):
+            ran = coverage(*call, data=FIRST.job())
+            equal((call, ran.status, ran.output, ran.error), (call, 1, b"", said))
+    alone, twice = "--seconds stands behind a command of the program alone", "--seconds stands twice"
+    for call, said in ((["--seconds", "1"], alone), (["--seconds", "1", "page"], alone), (["--seconds=1", "union"], alone),
+                       (["run", "--seconds", "1", "--seconds=2"], twice)):
+        ran = coverage(*call)
+        equal((call, ran.status, ran.output, ran.error), (call, 1, b"", f"coverage: {said}\n"))
+    ran = coverage("run", "--seconds", "99", data=FIRST.job())
+    equal((ran.status, ran.output, ran.error), (0, FIRST_REPORT, ""))
+    ran = coverage("run", "--seconds", "99", data=FIRST.job(), redirect=">/dev/full")
+    equal((ran.status, "standard output could not be written whole" in ran.error), (6, True))
+    ran = run([COVERAGE, "run", "--seconds", "99"], FIRST.job(), before="export TMPDIR=/none")
+    equal((ran.status, ran.output, "can be made in /none" in ran.error), (6, b"", True))
+
+
+def few_files() -> None:
+    """coverage: a limit of open files is told in one line with a status of its own, and leaves no file; from 20 on all works"""
+    with folder() as at:
+        for limit in (4, 5, 6, 7, 9, 10, 11, 13, 14, 15, 16, 17, 19, 20, 21, 64, 300):
+            for words in (["run"], ["run", "--must-return"], ["run", "--seconds", "99"]):
+                ran = run([COVERAGE, *words], FIRST.job(), before=f"export TMPDIR={at}; ulimit -n {limit}")
+                wanted = (0, FIRST_REPORT, "") if limit >= 20 else \
+                    (NO_FILES, b"", "coverage: it needs 20 files that are open at once, and ulimit -n allows fewer\n")
+                equal((limit, words, ran.status, ran.output, ran.error), (limit, words, *wanted))
+                equal(os.listdir(at), [])
+        ran = run([COVERAGE, "run", "--must-return"], b"", before="ulimit -n 20")
+        equal((ran.status, ran.error.splitlines()), (2, [f"coverage: BAD JOB LINE 1: {NO_JOB}"]))
+
+
+# Stands for a command that the front starts: sends a signal to what has started it, once, and does its work.
+SIGNALLED = """#!/bin/sh
+if [ -e "$STARTED.signal" ]; then
+  number=$(cat "$STARTED.signal")
+  rm -f "$STARTED.signal"
+  kill -"$number" $PPID
+fi
+exec {} "$@"
+"""
+
+
+def signals_before_the_program() -> None:
+    """coverage: a signal before the program has begun ends the call by it, QUIT too, and no file is left"""
+    with folder() as at, interruptible():
+        it = Front(at)
+        held = it.env["TMPDIR"] = f"{at}/held"
+        os.mkdir(held)
+        # What it starts before the program: now, and a version before this.
+        for name in ("readlink", "cmp", "mktemp", "rm"):
+            it.write(f"bin/{name}", SIGNALLED.format(f"/usr/bin/{name}"))
+            os.chmod(f"{at}/bin/{name}", 0o755)
+            # An interrupt comes from the terminal to all of them, so that what it has started ends too.
+            for number in (signal.SIGQUIT, signal.SIGTERM, signal.SIGHUP):
+                it.write("started.signal", str(int(number)))
+                words = [f"{at}/coverage", "run", "--must-return"]
+                ran = subprocess.run(words, input=b"0\n", capture_output=True, env=it.env, timeout=SECONDS, check=False)
+                if os.path.exists(f"{at}/started.signal"):
+                    equal((name in ("mktemp", "rm"), ran.returncode, ran.stdout), (True, 0, b"COVERAGE REPORT\n"))
+                else:
+                    equal((name, ran.returncode, ran.stdout, ran.stderr), (name, -number, b"", b""))
+                equal((name, os.listdir(held), left_by(it)), (name, [], []))
+            os.remove(f"{at}/bin/{name}")
+
+
+def bounded_reasons() -> None:
+    """coverage: what explains a refusal is ended after some seconds, and by what ends the call; nothing is left running"""
+    with folder() as at, interruptible():
+        it = Front(at)
+        it.write("input", "0 3\n")
+        said = b"COVERAGE REPORT"
+        for forever in ("exec sleep 60", "while :; do :; done"):
+            it.write("bin/python3", f"#!/bin/sh\ntrap '' INT\ntouch {at}/asked\n{forever}\n")
+            os.chmod(f"{at}/bin/python3", 0o755)
+            for number in (None, signal.SIGTERM, signal.SIGINT, signal.SIGHUP, signal.SIGQUIT):
+                if os.path.exists(f"{at}/asked"):
+                    os.remove(f"{at}/asked")
+                began = time.monotonic()
+                with open(f"{at}/input", "rb") as source, open(f"{at}/output", "wb") as sink:
+                    started = subprocess.Popen([f"{at}/coverage", "run"], stdin=source, stdout=sink, stderr=subprocess.PIPE, env=it.env)
+                    if number is not None:
+                        wait_for(lambda: os.path.exists(f"{at}/asked"))
+                        started.send_signal(number)
+                    _, error = started.communicate(timeout=SECONDS)
+                equal((forever, number, started.returncode), (forever, number, 3 if number is None else -number))
+                assert os.path.exists(f"{at}/asked") and error.count(b"\n") == 1 and said not in error, error
+                assert time.monotonic() - began < 20, "it has gone on"
+                equal(left_by(it), [])
+
+
 def script_words() -> None:
     """coverage: a report that is named where the scripts want it on standard input"""
     with folder() as at:
@@ -402,15 +529,16 @@ def script_words() -> None:
 def help_of_commands() -> None:
     """coverage: --help behind a command of the program writes what the help says of it; a disk that is full is told once"""
     whole = coverage("--help").output.decode()
+    (of_all,) = re.findall(r"^  --seconds .*\n", whole, re.M)
     calls = dict(re.findall(r"^(?:usage:|      ) coverage ([a-z]+)(.*)$", whole.partition("       coverage module")[0], re.M))
     for name, call in calls.items():
         (own,) = re.findall(rf"^  {name} .*\n(?:    .*\n)*", whole, re.M)
         for words in ([name], ["services", name]):
             shown = coverage(*words, "--help").output.decode()
             if name not in ("run", "exits", "early", "services") and words == [name]:
-                equal(shown, f"usage: coverage {name}{call}\n\n{own}")
+                equal(shown, f"usage: coverage {name}{call}\n\n{own}{of_all}")
             elif words == [name]:
-                assert shown.startswith(f"usage: coverage {name}{call}\n\n{own}  --must-return "), shown
+                assert shown.startswith(f"usage: coverage {name}{call}\n\n{own}  --must-return ") and of_all in shown, shown
             else:
                 equal(shown, coverage("services", "--help").output.decode())
     equal(len(calls), 14)
@@ -436,6 +564,12 @@ if words[:1] == [b'kill']:
     if int(words[1]) != signal.SIGKILL:
         signal.signal(int(words[1]), signal.SIG_DFL)
     os.kill(os.getpid(), int(words[1]))
+if words[:1] == [b'part']:
+    os.write(1, b'COVERAGE')
+    words.pop(0)
+if words[1:] == [b'3']:
+    os.write(1, b'MISMATCH M LINE 2\\n')
+    sys.exit(3)
 time.sleep(float(words[0]))
 os.write(1, b'COVERAGE REPORT\\n')
 sys.exit(int(words[1]) if len(words) > 1 else 0)
@@ -646,7 +780,8 @@ def unbuilt_words() -> None:
 
 ROWS = [*words_meant(), *cards_refused(), *listings_refused(), *marks_refused()]
 CHECKS = [
-    *map(of_row, ROWS), into_pipe, appended, streams, explains_in_time, must_return, must_return_streams, script_words, help_of_commands, statuses_and_signals,
+    *map(of_row, ROWS), into_pipe, appended, streams, explains_in_time, must_return, must_return_streams, script_words, seconds,
+    seconds_words, few_files, signals_before_the_program, bounded_reasons, help_of_commands, statuses_and_signals,
     ignored_signal, no_python, progress, no_progress, keys_and_background, typed,
     refused_on_terminal, unbuilt_words,
 ]

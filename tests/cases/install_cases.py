@@ -257,7 +257,7 @@ def page_has_statuses() -> None:
         rows = re.findall(r"^\| ([0-9]+) \| (?:`([A-Z ]+)[^`]*`|)", file.read().partition("## Exit status\n")[2], re.M)
     items = [it.partition("\n") for it in re.split(r"^\.It Li ", section_of("EXIT STATUS"), flags=re.M)[1:]]
     told = {status: text.replace("\n", " ") for status, _, text in items}
-    equal(list(told), [*dict(rows), "80", "81", "70", "71", "72", "130"])
+    equal(list(told), [*dict(rows), "80", "81", "83", "70", "71", "72", "73", "130"])
     for status, line in rows:
         # Its first words in capitals.
         begin = " ".join(it for it in line.split() if len(it) > 1)
