@@ -8,7 +8,7 @@ from typing import Any, Iterable, Iterator, Optional
 
 from common.command import Fault, complain, read_file
 from readers.labels import Spot, spots_of
-from readers.report import Line, Module, Report, counts_of, modules_of, places_of, shown
+from readers.report import Line, Module, Report, counts_of, modules_of, places_of, ranges_of, shown
 
 OPTION = "--leave-out"
 # Behind a module's name, or * for all, a range of locations, or a label, with * behind it for all that begin so; then, if
@@ -106,18 +106,3 @@ def recount(module: Module) -> None:
     """Makes a module's counts and ranges those of the places that are not left out."""
     module.places, module.executed, module.facts, module.possible = counts_of(module.lines)
     module.ranges = list(ranges_of(places_of(module))) if module.ranges else []
-
-
-def ranges_of(places: list[Line]) -> Iterable[tuple[int, int]]:
-    """The longest runs of places, by location, that were not executed: the first location and the last byte of each. A place
-    that is left out ends a run."""
-    first = end = None
-    for it in places:
-        location = it.location or 0
-        if it.mark == "^" and it.is_counted():
-            first, end = location if first is None else first, location + it.length - 1
-        elif first is not None and end is not None:
-            yield first, end
-            first = None
-    if first is not None and end is not None:
-        yield first, end

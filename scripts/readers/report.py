@@ -4,7 +4,7 @@ from __future__ import annotations
 import itertools
 import re
 from dataclasses import dataclass, field
-from typing import NoReturn, Optional
+from typing import Iterable, NoReturn, Optional
 
 from common.command import CALLED, Fault
 from readers.listing import heading_of, object_code
@@ -47,6 +47,8 @@ OTHERS = (
     (re.compile(b"S370COV[12]"), f"a marks file: {CALLED} show makes a report of it behind its job"),
     (re.compile(REFUSALS.encode()), "a refusal, which has come in place of a report"),
 )
+# How many bytes of an output and of storage stand on a line.
+OUTPUT_LINE, STORAGE_ROW = 32, 16
 # How many facts a mark stands for, and in words.
 FACTS = {"^": 0, ":": 1, ">": 1, "V": 1, "&": 2}
 MARKS = {
@@ -217,13 +219,21 @@ class Reader:
         while title == REPLAY and self.look().startswith(b"EVENT "):
             report.events.append(self.event(len(report.events) + 1))
         while title != SHOW and self.look().startswith(b"TASK "):
+            self.refuse_again(b"TASK", [it.name for it in report.tasks])
             report.tasks.append(self.task(title))
         while self.look() != b"END":
+            self.refuse_again(b"SESSION", [it.name for it in report.sessions])
             report.sessions.append(self.session(title))
         if title == SHOW and len(report.sessions) != 1:
             self.refuse("not one session, which COVERAGE SHOW has")
         self.at += 1
         return report
+
+    def refuse_again(self, word: bytes, names: list[str]) -> None:
+        """Refuses a line that begins the part of a task, a session, or a session's module whose part was read before."""
+        words = self.look().split(b" ")
+        if words[0] == word and words[1:] and words[1].decode("latin-1") in names:
+            self.refuse(f"{words[1].decode()} a second time: {shown(self.look())}")
 
     def add_counts(self, report: Report) -> None:
         """Gives the places of a report the counts behind it, which are of the same job where all else in them is."""
@@ -286,12 +296,16 @@ class Reader:
         count = int(self.next(OUTPUT, "line of an output")[1])
         output = b""
         while len(output) < count:
-            output += bytes.fromhex(self.next(BYTES, "line of an output's bytes")[0].decode())
-        if len(output) > count:
-            self.refuse(f"an output of {count} bytes, of which there are {len(output)}", self.at - 1)
-        rows = []
+            line = bytes.fromhex(self.next(BYTES, "line of an output's bytes")[0].decode())
+            if len(line) != min(count - len(output), OUTPUT_LINE):
+                self.refuse(f"{len(line)} bytes of an output, of which {count - len(output)} more are to stand {OUTPUT_LINE} to a line", self.at - 1)
+            output += line
+        rows: list[tuple[int, bytes]] = []
         while (row := self.next_if(ROW)) is not None:
-            rows.append((int(row[1], 16), bytes.fromhex(row[2].decode())))
+            at = int(row[1], 16)
+            if at % STORAGE_ROW or rows and (at <= rows[-1][0] or len(rows[-1][1]) < STORAGE_ROW):
+                self.refuse(f"no row of storage that stands there: {shown(row[0])}", self.at - 1)
+            rows.append((at, bytes.fromhex(row[2].decode())))
         return Task(head[1].decode(), head[2].decode(), int(head[3]), int(head[4]), sum(registers, []), output, rows)
 
     def session(self, title: bytes) -> Session:
@@ -299,6 +313,7 @@ class Reader:
         head = self.next(SESSION, "line")
         session = Session(head[1].decode(), head[2].decode())
         while self.look().startswith(b"MODULE "):
+            self.refuse_again(b"MODULE", [it.name for it in session.modules])
             session.modules.append(module())
         if title == REPORT and (found := self.next_if(DRAINED)) is not None:
             session.is_drained = found[1] is not None
@@ -311,7 +326,10 @@ class Reader:
         lines = []
         while (found := self.next_if(COUNT)) is not None:
             counts = tuple(int(it) for it in found.groups()[1:] if it is not None)
-            lines.append(Line(mark_of(counts), found[1], int(found[1], 16), len(counts) == 2, counts))
+            location = int(found[1], 16)
+            if location % 2 or lines and location <= (lines[-1].location or 0):
+                self.refuse(f"no place that comes next: {shown(found[0])}", self.at - 1)
+            lines.append(Line(mark_of(counts), found[1], location, len(counts) == 2, counts))
         module = Module(head[1].decode(), *counts_of(lines), lines)
         if module.places != int(head[2]):
             self.refuse("the count of places is not that of the lines below", at)
@@ -329,9 +347,24 @@ class Reader:
         self.find_places(module, first)
         if counts_of(module.lines) != (module.places, module.executed, module.facts, module.possible):
             self.refuse("the counts of places and facts are not those of the marks below", at)
-        while (found := self.next_if(RANGE)) is not None:
-            module.ranges.append((int(found[1], 16), int(found[2], 16)))
+        module.ranges = list(ranges_of(self.apart(module, first)))
+        for range_ in module.ranges:
+            line = b"NOT EXECUTED %06X-%06X" % range_
+            if self.look() != line:
+                self.refuse(f"no {line.decode()}, which the marks above ask for: {shown(self.look())}")
+            self.at += 1
+        if self.next_if(RANGE) is not None:
+            self.refuse(f"a range that the marks above don't have: {shown(self.lines[self.at - 1])}", self.at - 1)
         return module
+
+    def apart(self, module: Module, first: int) -> list[Line]:
+        """The lines of a module's places by location, of which none begins before the one before it ends."""
+        places = places_of(module)
+        for one, other in zip(places, places[1:]):
+            if (one.location or 0) + one.length > (other.location or 0):
+                at = max(at for at, it in enumerate(module.lines) if it is one or it is other)
+                self.refuse("a place where another one stands", first + at)
+        return places
 
     def find_places(self, module: Module, first: int) -> None:
         """Gives each marked line its location and its kind, by the columns of the listing."""
@@ -345,6 +378,8 @@ class Reader:
                 self.refuse("a mark on a line that is no instruction's", first + at)
             begin = bytes.fromhex(code[0].decode())
             line.location, line.is_conditional, line.length = found[0], kind_is_conditional(begin), length_of(begin)
+            if found[0] % 2:
+                self.refuse("a place at an odd location", first + at)
             if line.mark != "^" and line.is_conditional != (line.mark in ">V&"):
                 self.refuse(f"the mark {line.mark} is none of this instruction", first + at)
 
@@ -357,6 +392,21 @@ def modules_of(report: Report) -> list[Module]:
 def places_of(module: Module) -> list[Line]:
     """The lines of a module's places, by location."""
     return sorted((it for it in module.lines if it.mark != " "), key=lambda it: it.location or 0)
+
+
+def ranges_of(places: list[Line]) -> Iterable[tuple[int, int]]:
+    """The longest runs of places, by location, that were not executed: the first location and the last byte of each. A place
+    that is left out ends a run."""
+    first = end = None
+    for it in places:
+        location = it.location or 0
+        if it.mark == "^" and it.is_counted():
+            first, end = location if first is None else first, location + it.length - 1
+        elif first is not None and end is not None:
+            yield first, end
+            first = None
+    if first is not None and end is not None:
+        yield first, end
 
 
 def outline(report: Report) -> list[tuple[str, object]]:

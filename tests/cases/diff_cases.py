@@ -67,7 +67,9 @@ def written(lines: list[tuple[str, str, str]], is_wide: bool = False, before: st
         marks += mark
         if mark != " ":
             code.append((at, digits, "BE" if mark in ">V&" else "LR"))
-            ranges += [f"{at:06X}-{at + len(digits) // 2 - 1:06X}"] if mark == "^" else []
+            if mark == "^":
+                begin = ranges.pop()[:6] if marks[:-1].rstrip().endswith("^") else f"{at:06X}"
+                ranges.append(f"{begin}-{at + len(digits) // 2 - 1:06X}")
         at += len(digits) // 2
     # 47 with a mask of 1 to 14 and BCT are conditional, and so have two facts.
     possible = sum(1 + (it.startswith("46") or it.startswith("478")) for it in (digits for _, digits, _ in code))
@@ -315,7 +317,7 @@ def source_of(line: Line) -> bytes:
 
 def labels_stand() -> None:
     """diff: the label at a change is that of the new report"""
-    now = labelled().replace(b": 000008", b"^ 000008").replace(b"EXECUTED 7 FACTS 7", b"EXECUTED 6 FACTS 6")
+    now = labelled().replace(b": 000008", b"^ 000008").replace(b"EXECUTED 7 FACTS 7", b"EXECUTED 6 FACTS 6").replace(b"000006-000007", b"000006-000009")
     text = told(labelled(), now)
     equal(text.splitlines()[1].split()[:6], ["lost", "000008", "no", "longer", "executed", "NEAR,"])
 

@@ -74,7 +74,7 @@ def lcov_files() -> None:
         ("^^", (0, 0, "-", "-", 0, 0, 0, 0)),
     ]
     for program, (marks, counts) in itertools.product((COUNTED, COUNTED.wide()), ways):
-        report = program.report([], marks, 3)
+        report = program.report([], marks, 3, *["000000-000005"][: marks == "^^"])
         with folder() as at:
             equal(well(coverage("lcov", "out", data=report, cwd=at)).output, b"")
             equal(sorted(os.listdir(f"{at}/out")), ["S", "coverage.info"])

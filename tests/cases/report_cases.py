@@ -231,8 +231,34 @@ BAD_REPORTS = [
 ]
 
 
+# What no program writes, though each line has its form: the line at which it is refused, and why.
+PLACES = Program.of("0 1A11 AR, 2 1A11 AR, 4 47F0F000 B, 8 07FE BR")
+SPLICED = PLACES.report([Result("RETURNED", 2, output=bytes(40), rows=[f"0000{it}0 {'00' * 16}" for it in "012"])], "^:^^", 4, "000000-000001", "000004-000009")
+for was, by, number, why in (
+    (b"NOT EXECUTED 000000-000001\n", b"", 18, "no NOT EXECUTED 000000-000001, which the marks above ask for: 'NOT EXECUTED 000004-000009'"),
+    (b"NOT EXECUTED 000004-000009\n", b"", 19, "no NOT EXECUTED 000004-000009, which the marks above ask for: 'END'"),
+    (b"000000-000001", b"000000-000003", 18, "no NOT EXECUTED 000000-000001, which"),
+    (b"NOT EXECUTED 000004-000009\n", b"NOT EXECUTED 000004-000009\n" * 2, 20, "a range that the marks above don't have"),
+    (b"^ 000000 1A11", b"^ 000001 1A11", 14, "a place at an odd location"),
+    (b": 000002", b": 000000", 15, "a place where another one stands"),
+    (b"^ 000008", b"^ 000006", 17, "a place where another one stands"),
+    (b"TASK A", SPLICED[SPLICED.index(b"TASK A") : SPLICED.index(b"SESSION")] + b"TASK A", 11, "A a second time"),
+    (b"END\n", SPLICED[SPLICED.index(b"SESSION") :], 20, "S a second time"),
+    (b"END\n", SPLICED[SPLICED.index(b"MODULE") :], 20, "M a second time"),
+    (b"00" * 32 + b"\n" + b"00" * 8, b"00" * 8 + b"\n" + b"00" * 32, 6, "8 bytes of an output, of which 40 more are to stand 32 to a line"),
+    (b"STOR 000010", b"STOR 000030", 10, "no row of storage that stands there"),
+    (b"STOR 000010", b"STOR 000018", 9, "no row of storage that stands there"),
+    (b"STOR 000010 00", b"STOR 000010 ", 10, "no row of storage that stands there"),
+):
+    assert was in SPLICED, was
+    BAD_REPORTS.append((SPLICED.replace(was, by, 1), f"line {number}", why))
+for was, by in ((b"COUNT 000004", b"COUNT 000005"), (b"COUNT 000004", b"COUNT 000000")):
+    BAD_REPORTS.append((COUNTS.replace(was, by), "line 9", "no place that comes next"))
+
+
 def bad_reports() -> None:
     """page and lcov: what is no report is refused by its line, and nothing is written"""
+    well(coverage("page", data=SPLICED))
     with folder() as at:
         for data, *texts in BAD_REPORTS:
             refused(coverage("page", data=data), 2, "standard input", *texts)
