@@ -84,9 +84,8 @@ class Copy:
         return self.lines("calls")
 
     def start(self, *words: str) -> subprocess.Popen[str]:
-        pipe = subprocess.PIPE
-        how = {"stdin": pipe, "stdout": pipe, "stderr": pipe, "text": True, "start_new_session": True}
-        return subprocess.Popen([f"{self.at}/coverage", *words], env=self.env, **how)
+        pipe, call = subprocess.PIPE, [f"{self.at}/coverage", *words]
+        return subprocess.Popen(call, stdin=pipe, stdout=pipe, stderr=pipe, text=True, start_new_session=True, env=self.env)
 
     def hold(self) -> subprocess.Popen[str]:
         """A build that waits with its first call."""
@@ -282,8 +281,8 @@ def no_standard_error() -> None:
     """build: without a standard error it is silent, and says nothing on standard output"""
     with copy() as it:
         os.symlink(sys.executable, f"{it.at}/bin/python3")
-        how = {"stdin": subprocess.DEVNULL, "stdout": subprocess.PIPE, "text": True, "check": False, "timeout": SECONDS}
-        ran = subprocess.run(["bash", "-c", 'exec "$0" run 2>&-', f"{it.at}/coverage"], env=it.env, **how)
+        silent, pipe, call = subprocess.DEVNULL, subprocess.PIPE, ["bash", "-c", 'exec "$0" run 2>&-', f"{it.at}/coverage"]
+        ran = subprocess.run(call, stdin=silent, stdout=pipe, text=True, check=False, timeout=SECONDS, env=it.env)
         equal((ran.returncode, ran.stdout), (77, "one: run\n"))
 
 
@@ -317,7 +316,10 @@ def is_kept() -> None:
     """build: what the gate has proved is kept for the command, for the same sources alone"""
     with copy() as it:
         words = ["python3", "-I", "-B", f"{it.at}/scripts", "build"]
-        call = lambda *more: subprocess.run([*words, *more], capture_output=True, text=True, env=it.env, check=False)
+
+        def call(*more: str) -> subprocess.CompletedProcess[str]:
+            return subprocess.run([*words, *more], capture_output=True, text=True, env=it.env, check=False)
+
         of_sources = call("sources").stdout.strip()
         equal(call("keep", of_sources).returncode, 70)
         os.makedirs(f"{it.at}/crates/coverage_program/out")
@@ -340,7 +342,10 @@ def change_alike(it: Copy) -> None:
 
 
 def remove(*names: str) -> Callable[[Copy], None]:
-    return lambda it: [os.remove(f"{it.at}/{name}") for name in names] and None
+    def change(it: Copy) -> None:
+        for name in names:
+            os.remove(f"{it.at}/{name}")
+    return change
 
 
 # What is done to a copy that is built, and whether the crates are then built anew.

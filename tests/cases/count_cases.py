@@ -30,7 +30,7 @@ def sums() -> None:
         results.append(Result("RETURNED", 2 * second + ran + 1, 0, {1: (first - second) % 2**32}, name=f"T{number}"))
         for total, more in zip(totals, (went, (ran,), back, (1,))):
             total[:] = [one + other for one, other in zip(total, more)]
-    job, text = LOOP.job(cards), LOOP.counted(results, *map(tuple, totals))
+    job, text = LOOP.job(cards), LOOP.counted(results, *(tuple(it) for it in totals))
     for _ in range(RUNS):
         equal(well(run([PROGRAM, "count"], job)).output, text)
 

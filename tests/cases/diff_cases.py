@@ -167,8 +167,8 @@ def refusals() -> None:
         for name, data in (("a", FIRST_REPORT), ("b", b"BAD JOB LINE 1\n"), ("c", COUNTS), ("d", other), ("e", NO_LISTING)):
             with open(f"{at}/{name}", "wb") as file:
                 file.write(data)
-        for words in ([], ["a"], ["", "a"], ["--leave-out", "a"]):
-            refused(coverage("diff", *words, cwd=at), 1, "usage: coverage diff")
+        for none in ((), ("a",), ("", "a"), ("--leave-out", "a")):
+            refused(coverage("diff", *none, cwd=at), 1, "usage: coverage diff")
         for words, said in (
             (["a", "b", "c"], "c is a word too many"), (["--x", "a", "a"], "--x is none of its options"),
             (["a", "a", "--leave-out", "a"], "--leave-out stands behind a, and not before it"),
@@ -207,10 +207,10 @@ def pages_that_move() -> None:
             now[at:at] = [(draw.choice(["* one remark", "* another", "NAME     EQU   *"]), "", " ")] * draw.randrange(1, 9)
         equal(told(paged(lines, 5), paged(now, 5)), nothing)
         equal(told(paged(now, 3), paged(lines, 7)), nothing)
-    with folder() as at:
-        with open(f"{at}/old", "wb") as file:
+    with folder() as room:
+        with open(f"{room}/old", "wb") as file:
             file.write(paged(lines, 5))
-        page = well(coverage("page", "--against", "old", data=paged(now, 5), cwd=at)).output.decode()
+        page = well(coverage("page", "--against", "old", data=paged(now, 5), cwd=room)).output.decode()
         assert f"Against old: {nothing.strip()}" in page, page[-2000:]
     # A block that has moved behind one place: so its remarks would be found rather than that.
     remarks = [(f"* remark {it}", "", " ") for it in range(9)]

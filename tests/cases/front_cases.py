@@ -544,11 +544,11 @@ def help_of_commands() -> None:
     equal(len(calls), 14)
     equal(coverage("marks", "S", "--help").output, coverage("marks", "--help").output)
     equal(coverage("runs", "--help").status, 1)
-    for words in ([], ["--help"], ["--version"], ["run", "--help"]):
+    for given in ((), ("--help",), ("--version",), ("run", "--help")):
         for redirect in (">/dev/full", ">&-"):
-            ran = coverage(*words, redirect=redirect)
+            ran = coverage(*given, redirect=redirect)
             said = "coverage: standard output could not be written whole: its disk is full, or it is closed\n"
-            equal((words, ran.status, ran.error), (words, 6, said))
+            equal((given, ran.status, ran.error), (given, 6, said))
 
 
 # A program that waits for as long as its input says, and writes what is left of it; it tells the signals that it gets.
@@ -642,14 +642,13 @@ def no_python() -> None:
     """coverage: a call whose sources haven't changed starts no Python, whatever it writes to"""
     with folder() as at:
         it = Front(at)
-        run = partial(subprocess.run, capture_output=True, env=it.env, timeout=SECONDS, check=False)
         it.write("bin/python3", "#!/bin/sh\necho 'a python was started' >&2\nexit 99\n")
         os.chmod(f"{at}/bin/python3", 0o755)
         for words in (["run"], ["run", "--must-return"], ["combine"], ["marks", "S"]):
-            ran = run([f"{at}/coverage", *words], input=b"0\n")
-            equal((words, ran.returncode, ran.stdout, ran.stderr), (words, 0, b"COVERAGE REPORT\n", b""))
-        ran = run([f"{at}/coverage", "run"], input=b"0 13\n")
-        equal((ran.returncode, b"status 13: no session" in ran.stderr), (13, True))
+            ran = run([f"{at}/coverage", *words], b"0\n", env=it.env)
+            equal((words, ran.status, ran.output, ran.error), (words, 0, b"COVERAGE REPORT\n", ""))
+        ran = run([f"{at}/coverage", "run"], b"0 13\n", env=it.env)
+        equal((ran.status, "status 13: no session" in ran.error), (13, True))
 
 
 def on_terminal(it: Front, words: list[str], data: bytes, with_output: bool = False) -> tuple[int, bytes, bytes]:
@@ -657,7 +656,7 @@ def on_terminal(it: Front, words: list[str], data: bytes, with_output: bool = Fa
     it.write("input", data.decode())
     master, slave = pty.openpty()
     with open(f"{it.at}/input", "rb") as source, open(f"{it.at}/output", "wb") as sink:
-        output = slave if with_output else sink
+        output = slave if with_output else sink.fileno()
         started = subprocess.Popen([f"{it.at}/coverage", *words], stdin=source, stdout=output, stderr=slave, env=it.env)
     os.close(slave)
     seen = b""

@@ -68,10 +68,11 @@ def sorted_columns() -> None:
         css = file.read()
     # Each column that there can be has its rule.
     found: set[str] = set()
-    for data, words, files in (
+    calls: list[tuple[bytes, tuple[str, ...], dict[str, bytes]]] = [
         (ENDED[:-4] + report.partition(b"\n")[2] + ends("M 5"), (), {}), (report, ("--against", "old"), {"old": report}),
         (report, ("--leave-out", "rules"), {"rules": b"M 000000-000000"}),
-    ):
+    ]
+    for data, words, files in calls:
         found |= set(ranks(page_of(data, *words, **files))[0])
     equal(found - set(wanted), {"lost", "less", "more", "fresh", "out"})
     for name in found - {"report"}:
@@ -212,7 +213,7 @@ def loads(it: browser.Browser, at: str) -> None:
     for words in ((), ("--against", "old")):
         with open(f"{at}/page.html", "wb") as file:
             file.write(well(coverage("page", *words, data=large(1), cwd=at)).output)
-        times = []
+        times: list[float] = []
         while len(times) < 5 and min(times, default=SECOND) >= SECOND:
             it.open(f"{at}/page.html")
             times.append(it.value(LOADED))

@@ -117,8 +117,8 @@ def of_scripts(command: str, env: dict[str, str], at: str) -> None:
         equal(job, file.read())
     page = well(run([command, "page"], well(run([command, "run"], job, env=env)).output, env=env)).output
     assert page.startswith(b"<!DOCTYPE html>"), page[:80]
-    said = run([command, "page", f"{examples}/orders.job"], env=env).error
-    assert said.endswith(f"\ncoverage: did you mean coverage page < {examples}/orders.job ?\n"), said[-200:]
+    error = run([command, "page", f"{examples}/orders.job"], env=env).error
+    assert error.endswith(f"\ncoverage: did you mean coverage page < {examples}/orders.job ?\n"), error[-200:]
     equal([name for name in files_below(at) if "__pycache__" in name], [])
 
 
@@ -152,8 +152,8 @@ def names_its_commit() -> None:
 def is_refused() -> None:
     """install: it puts nothing where the program isn't built, a file of others is in its way, or the words are wrong"""
     with checkout() as it:
-        for words in ([], ["a", "b"], [""], ["--uninstall"], ["--force", "a"], ["-x"]):
-            refused(it.call("install", *words), 1, "usage: coverage install [--uninstall] FOLDER\n")
+        for other in ((), ("a", "b"), ("",), ("--uninstall",), ("--force", "a"), ("-x",)):
+            refused(it.call("install", *other), 1, "usage: coverage install [--uninstall] FOLDER\n")
         refused(it.call("install", "a"), 2, f"/out/coverage_program: {NOT_BUILT}")
         it.make_built()
         it.write("crates/coverage_program/src/main.rt", "two")

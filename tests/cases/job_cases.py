@@ -71,7 +71,7 @@ def services() -> None:
             with open(f"{at}/{name}", "w", encoding="ascii") as file:
                 file.write(text)
         equal(well(coverage("job", "module", "tasks", cwd=at)).output, whole)
-        for words, redirect in ((["job"], ""), ([], "<job"), (["-"], "<job")):
+        for words, redirect in ((("job",), ""), ((), "<job"), (("-",), "<job")):
             equal(well(coverage("job", "--check", "--services", *words, redirect=redirect, cwd=at)).output, b"")
             equal(well(coverage("job", "--services", "--check", *words, redirect=redirect, cwd=at)).output, b"")
         ran = coverage("job", "--check", "job", cwd=at)
@@ -450,7 +450,7 @@ def whole_jobs() -> None:
     """job --check: a whole job of a file or of standard input; what stands behind ENDJOB, an early end, the examples"""
     for name in sorted(os.listdir(EXAMPLES)):
         if name.endswith(".job"):
-            for words, redirect in (([f"{EXAMPLES}/{name}"], ""), ([], f"<{EXAMPLES}/{name}")):
+            for words, redirect in (((f"{EXAMPLES}/{name}",), ""), ((), f"<{EXAMPLES}/{name}")):
                 equal(well(coverage("job", "--check", "--services", *words, redirect=redirect)).output, b"")
                 ran = coverage("job", "--check", *words, redirect=redirect)
                 equal((ran.status, ran.output), (2 if name == "ledger.job" else 0, b""))

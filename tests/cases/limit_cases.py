@@ -180,7 +180,7 @@ class Sparse(Module):
 @lru_cache(None)
 def widest(by: str | None) -> bytes:
     """16 modules of the most bytes, whose 65,536 places lie in all their pages, under a session, and each under one of C too."""
-    modules = [Sparse(f"M{it}", 0x100000 + SIZE * it, ["41100000"] * (SIZE // 4)) for it in range(MODULES)]
+    modules: list[Module] = [Sparse(f"M{it}", 0x100000 + SIZE * it, ["41100000"] * (SIZE // 4)) for it in range(MODULES)]
     sessions = [Session("S0", modules, by)]
     sessions += [Session(f"S{it}", [modules[it]], by) for it in range(1, 16)] if by else []
     return job_of(modules, sessions, [Task("C", 0, 100, private="0A040A05" * 16 + "07FE" if by else "07FE")])

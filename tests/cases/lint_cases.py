@@ -1,4 +1,4 @@
-"""Scripts and tests as pyflakes and shellcheck (Debian's packages) read them, for the lowest Python that README names."""
+"""Scripts and tests as pyflakes and shellcheck (Debian's packages) read them, and tests as mypy does, for README's lowest Python."""
 from __future__ import annotations
 
 import ast
@@ -6,7 +6,12 @@ import os
 import re
 import shutil
 
-from fixtures.harness import TOP, Tally, run, run_checks
+from fixtures.harness import TOP, Tally, folder, run, run_checks
+
+TYPES = (
+    "mypy", "--disallow-untyped-defs", "--warn-unused-ignores", "--follow-imports=silent", "--scripts-are-modules",
+    "--namespace-packages", "--explicit-package-bases", "--no-error-summary",
+)
 
 
 def text_of(path: str) -> str:
@@ -33,7 +38,7 @@ def lowest() -> str:
 
 
 def says_nothing(*words: str) -> None:
-    ran = run([*words])
+    ran = run([*words], env={**os.environ, "MYPYPATH": f"{TOP}/scripts:{TOP}/tests"})
     assert not ran.status and not ran.output and not ran.error, f"status {ran.status}\n{ran.output.decode()}{ran.error}"
 
 
@@ -44,6 +49,13 @@ def syntax() -> None:
     assert len(found) > 80, found
     for it in found:
         ast.parse(text_of(f"{TOP}/{it}"), it, feature_version=(version[0], version[1]))
+
+
+def types() -> None:
+    """mypy: types of tests, and what the library of the lowest version has"""
+    found = [it for it in files("python3", ".py") if it.startswith("tests/")]
+    with folder() as at:
+        says_nothing(*TYPES, "--python-version", lowest(), "--cache-dir", at, *found)
 
 
 def names() -> None:
@@ -61,7 +73,7 @@ CHECKS = [syntax]
 
 def run_all(tally: Tally) -> None:
     """Runs what is installed."""
-    for name, check in (("pyflakes3", names), ("shellcheck", shell)):
+    for name, check in (("mypy", types), ("pyflakes3", names), ("shellcheck", shell)):
         if shutil.which(name):
             run_checks(tally, [check])
         else:

@@ -78,7 +78,7 @@ CHANGED = [
     (True, 9, 10, "4", TEXT),
 ]
 # Two headings and a line: its location, or how it is refused, or none where it is text.
-WIDE = [
+WIDE: list[tuple[str, str, str, int | str | None]] = [
     (WIDE_HEADING, HEADING, "00000006 d200 0000 0008                         2          mvc   0(1),8", 0x06),
     (WIDE_HEADING, HEADING, "FFFFFFFE d200 0000 0008                         2          mvc   0(1),8", "OUTSIDE"),
     (WIDE_HEADING, HEADING, "FFFFFFFF d200 0000 0008                         2          mvc   0(1),8", "ODD"),
@@ -96,7 +96,7 @@ WIDE = [
 FORMS = {"narrow": LINE, "narrow, shifted": f" {LINE}", "wide": WIDE_LINE, "wide, shifted": f" {WIDE_LINE}"}
 SHIFTED, WIDE_SHIFTED = f" {HEADING}", f" {WIDE_HEADING}"
 # Lines, and in which form those behind them are read; none where none of them is a heading.
-HEADINGS = [
+HEADINGS: list[tuple[list[str], str | None]] = [
     ([HEADING], "narrow"), ([SHIFTED], "narrow, shifted"), ([WIDE_HEADING], "wide"),
     (["-  loc    object code      address1 address2  stmt   source statement  X"], "wide, shifted"),
     ([" Loc    Object Code      Address1 Address2  Stmt   Source Statement"], None),
@@ -171,8 +171,8 @@ def bad(lines: list[str], line: int, why: str) -> None:
 
 def pages() -> None:
     """listing: a page with print control characters, in either case"""
-    for fold in (str, str.lower, str.upper):
-        says([fold(it) for it in PAGE], PAGE_SAYS, PAGE_CODE)
+    for page in (PAGE, [it.lower() for it in PAGE], [it.upper() for it in PAGE]):
+        says(page, PAGE_SAYS, PAGE_CODE)
 
 
 def lines_alone() -> None:

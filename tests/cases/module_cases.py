@@ -276,8 +276,8 @@ def bad_modules() -> None:
     refused(module_of(bytes(8), listing=ebcdic("no heading at all")), 2, "listing", "heading")
     # Bytes that a program has, which looks for decks itself, are no deck.
     text_of(module_of(b"\x18\x54\x58\x54\x00\x00" + DECK[:4] + bytes(100)))
-    for words in ([], ["M"], ["M", "100000"]):
-        refused(coverage("module", *words), 1, "usage: coverage module")
+    for few in ((), ("M",), ("M", "100000")):
+        refused(coverage("module", *few), 1, "usage: coverage module")
     for words, said in (
         (["M", "100000", "a", "b", "c"], "c is no SYMBOL=ADDRESS, whose address is six hexadecimal digits"),
         (["M", "100000", "a", "b", "--strict"], "--strict stands before NAME, once"), (["--x", "M", "100000", "a"], "--x is none of its options"),

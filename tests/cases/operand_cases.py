@@ -37,7 +37,7 @@ DECIMAL = {"CVB": 0x4F, "SRP": 0xF0, "ZAP": 0xF8, "CP": 0xF9, "AP": 0xFA, "SP": 
 class Edges(operands.Maker):
     """Many operands begin a few bytes before the last address, behind which address 0 follows, or before the module's end."""
 
-    ends = (ADDRESSES, BEHIND)
+    ends: tuple[int, ...] = (ADDRESSES, BEHIND)
 
     def address(self, size: int, near: int | None = None) -> int:
         if self.draw.random() < 0.25:
@@ -238,7 +238,7 @@ def compare(program: str, seed: int, count: int) -> tuple[dict[str, collections.
     Counts are those of each of STANDS. Where instructions were begun is the model's to tell.
     """
     told: dict[str, collections.Counter[str]] = {it: collections.Counter() for it in STANDS}
-    faults = []
+    faults: list[str] = []
     left = groups(seed, count)
     with ThreadPoolExecutor(os.cpu_count()) as pool:
         # A few at a time, since their storage is large.

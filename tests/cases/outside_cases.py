@@ -13,7 +13,7 @@ from trials import outside_instructions, outside_programs
 CASES, PROGRAMS, SEED = 12, 6, 1
 # Programs whose last step reads a touch byte: their instructions, of which - stands on no line, the byte's location, and where what that
 # step has begun stands.
-TOUCHING = (
+TOUCHING: tuple[tuple[str, int, list[int]], ...] = (
     ("0 91FFC004 TM, 4 07FE BR", 4, [0]),
     ("0 4400C006 EX, 4 07FE BR, 6 D501B000C003 CLC", 4, [0, 6]),
     ("0 47F0C004 BC, 4 5810 -, 6 07FE BR", 6, []),

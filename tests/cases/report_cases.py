@@ -158,9 +158,9 @@ BAD_ENDS = [
 ]
 # A session's module without a listing.
 NO_LISTING = FIRST_REPORT[: FIRST_REPORT.index(b"MODULE ")] + b"MODULE M PLACES 0 EXECUTED 0 FACTS 0 OF 0\nEND\n"
-BAD_REPORTS = [
+BAD_REPORTS: list[tuple[bytes, str, str] | tuple[bytes, str, str, str]] = [
     (ENDS, "line 1", "behind the report of its job"),
-    *[(ENDED + it, f"line {ENDED.count(LF) + at}", *texts) for it, at, *texts in BAD_ENDS],
+    *[(ENDED + it, f"line {ENDED.count(LF) + at}", text) for it, at, text in BAD_ENDS],
     (COUNTED.shown("V:", 3) + ENDS, "line 8", "behind END: 'COVERAGE ENDS'"),
     (replayed() + ONE_END, "line 13", "behind END: 'COVERAGE ENDS'"),
     (NO_LISTING + ONE_END, "line 11", "a line of module M, which has no listing in the report"),

@@ -43,7 +43,7 @@ UNION = "53333730434F5632 5320202020202020 00000002 0001 4D20202020202020 001000
 UNION_AGAIN = "53333730434F5632 5320202020202020 00000004 0001 4D20202020202020 00100000 00000006 00000002 00000000 04 01 4610 06 00000004 02 00 07FE 00"
 
 # Words that are no command, though some are nearly one.
-NO_COMMANDS = [
+NO_COMMANDS: list[list[str]] = [
     [], ["tables"], ["Table"], ["table", "run"], ["count", "S"], ["Count"], ["early", "S"],
     ["trial"], ["trial", "7"], ["trial", "7", "8", "9"], ["trials", "7", "8"], ["trial", "7", "0"], ["trial", "7", "65"],
     ["trial", "7", "07"], ["trial", "7", "+1"], ["trial", "7", ""], ["trial", "00", "8"], ["trial", "07", "8"], ["trial", "-1", "8"],
@@ -189,7 +189,7 @@ def rows_of(name: str) -> Iterator[Case]:
 def cases() -> list[Case]:
     """All rows; and words that are no command with an input, with none, and where a read would fail."""
     rows = [*(case for word in WORDS for case in cases_of(word)), *(case for name in FILES for case in rows_of(name))]
-    trials = [Case(f"trial of number {number}", ["trial", number, tasks], b"no job\n", text.encode()) for number, tasks, text in TRIALS]
+    trials = [Case(f"trial of number {number}", ["trial", str(number), str(tasks)], b"no job\n", text.encode()) for number, tasks, text in TRIALS]
     usage = [Case("no command", words, b"", USAGE, 1) for words in NO_COMMANDS]
     unread = [replace(it, name=" ".join(["no command:", *it.words]), redirect="</") for it in usage]
     return [*rows, *trials, *trials, *usage, *(replace(it, input=b"GO A\n") for it in usage), *(replace(it, input=COUNTED.job()) for it in usage), *unread]
@@ -198,7 +198,7 @@ def cases() -> list[Case]:
 def came_of_pieces(words: list[str], pieces: list[bytes]) -> tuple[int, bytes]:
     """The status and the output where each read gives one of these pieces: a socket of packets gives one a read."""
     own, other = socket.socketpair(socket.AF_UNIX, socket.SOCK_SEQPACKET)
-    with subprocess.Popen([PROGRAM, *words], stdin=other, stdout=subprocess.PIPE, stderr=subprocess.STDOUT) as ran:
+    with subprocess.Popen([PROGRAM, *words], stdin=other.fileno(), stdout=subprocess.PIPE, stderr=subprocess.STDOUT) as ran:
         other.close()
         with own:
             for piece in pieces:

@@ -30,8 +30,8 @@ def words_and_streams() -> None:
             (["--leave-outs=a"], "--leave-outs=a is none of its options"), (["x", "--leave-out=a"], "--leave-out=a stands behind x, and not before it"),
         ):
             misused(coverage(command, *words), command, said)
-    for words in ([], [""]):
-        refused(coverage("lcov", *words), 1, "usage: coverage lcov")
+    for none in ((), ("",)):
+        refused(coverage("lcov", *none), 1, "usage: coverage lcov")
     for words, said in (
         (["a", "b"], "b is a word too many"), (["-h"], "-h is a word too many"), (["--output"], "--output is none of its options"),
         (["a", "--leave-out", f"{EXAMPLES}/orders.left"], "--leave-out stands behind a, and not before it"),

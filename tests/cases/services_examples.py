@@ -93,12 +93,14 @@ def got_and_given(way: Way) -> None:
     cards = services()
     for seed in range(20):
         draw, storage = random.Random(seed), Storage()
-        code, sizes, addresses, held = "", b"", b"", []
+        code, sizes, addresses = "", b"", b""
+        held: list[tuple[int, int, int]] = []
         for number in range(60):
             # The last third gives all back.
             if number >= 40 and not held:
                 break
             size = draw.choice((1, 7, 8, 9, 40, 100, 256, draw.randrange(1, 500)))
+            begin = None
             wants = number < 40 and (not held or draw.random() < 0.6) and any(length >= size + 7 for _, length in storage.blocks)
             if wants:
                 begin = storage.get(size)
@@ -111,7 +113,7 @@ def got_and_given(way: Way) -> None:
                 code += f"5800A{4 * number:03X}5810B{4 * slot:03X}0A0A"
             # What stands before the bytes' number isn't read.
             sizes += (size | draw.choice((0, 0, 0x7F000000, 0x81000000))).to_bytes(4, "big")
-            addresses += (begin if wants else 0).to_bytes(4, "big")
+            addresses += (begin if wants and begin else 0).to_bytes(4, "big")
         job = job_of(f"{code}07FE", {SIZES: sizes.hex()}, cards)
         report = way(job)
         last = storage_of(report, first_of(job))

@@ -101,7 +101,7 @@ def returning() -> list[Case]:
         whole,
         Case("services count of a routine", ["services", "count"], first.job(), counted),
         *(Case(f"{it} of a job with services", it.split(), first.job(), b"BAD JOB LINE 10\n", 2) for it in PLAIN),
-        *(Row(CODE, it).runs(bad, ":^^^") for it in ([], ["SERVICE 9 100004"], ["SERVICE 11 100004"])),
+        *(Row(CODE, it.splitlines()).runs(bad, ":^^^") for it in ("", "SERVICE 9 100004", "SERVICE 11 100004")),
         *(Row(CODE.replace("0A0A", f"0A{it:02X}"), [f"SERVICE {it} 100004"]).runs("RETURNED COUNT 4, 1=7 15=100004", "::::")
           for it in (0, 6, 254)),
         Row(mask, ["SERVICE 10 100008"], "REG 2 18000000 / REG 3 24000000").runs(
@@ -147,7 +147,7 @@ def several() -> list[Case]:
 
     end = result("RETURNED COUNT 10, 15=100100")
     bases = [name + base.to_bytes(4, "big") for name, base in ((b"M       ", 0x100000), (b"R       ", 0x100100))]
-    file, united = (routine.marks_file(1, 6, 1, 1, runs=it).replace(*bases) for it in (1, 2))
+    file, united = (routine.marks_file(1, 6, 1, 1, runs=it).replace(bases[0], bases[1]) for it in (1, 2))
     tables = (b"COVERAGE TABLE\nMODULE M PLACES 3\nPLACE 000000 2 S 0A0A\nPLACE 000002 2 S 0A0A\nPLACE 000004 2 S 07FE\n"
               b"MODULE R PLACES 4\nPLACE 000000 2 S 1211\nPLACE 000002 4 C 4780\nPLACE 000006 2 S 1B11\nPLACE 000008 2 S 07FE\nEND\n")
     opening = Program.of("0 0A04 SVC, 2 41100007 LA, 6 0A05 SVC, 8 07FE BR")

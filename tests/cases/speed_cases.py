@@ -1,8 +1,6 @@
 """The programs of tests/speed without its clocks: what is measured is what it should be."""
 from __future__ import annotations
 
-import contextlib
-
 from fixtures import hercules
 from fixtures.harness import PROGRAM, equal, run, well
 from trials import speed_jobs
@@ -16,7 +14,7 @@ def report(job: bytes) -> bytes:
 
 def rounds() -> None:
     """speed: each program goes its rounds, observed or not, and to the same registers as on Hercules, where that is installed"""
-    with hercules.Hercules() if hercules.is_there() else contextlib.nullcontext() as herc:
+    with hercules.if_there() as herc:
         for it in speed_jobs.subjects():
             alone = report(it.job(ROUNDS, observed=False)).removesuffix(b"END\n")
             _, task, *rows = alone.decode().split("\n")

@@ -82,9 +82,9 @@ LONGER      NONE       none                    none                0
 
 def in_json() -> None:
     """summary: JSON has what docs/SUMMARY.md says, and nothing else"""
-    sums = {"places": {"executed": 1, "of": 2}, "facts": {"shown": 1, "of": 3}, "left_out": {"places": 0, "executed": 0}}
-    module = {"name": "M", **sums, "not_executed": [{"first": "000004", "last": "000005"}]}
-    session = {"name": "S", "phase": "P", "modules": [module]}
+    sums: dict[str, object] = {"places": {"executed": 1, "of": 2}, "facts": {"shown": 1, "of": 3}, "left_out": {"places": 0, "executed": 0}}
+    module: dict[str, object] = {"name": "M", **sums, "not_executed": [{"first": "000004", "last": "000005"}]}
+    session: dict[str, object] = {"name": "S", "phase": "P", "modules": [module]}
     wanted: dict[str, object] = {"form": "coverage summary 1", "of": "COVERAGE REPORT", "sessions": [session], **sums}
     report = COUNTED.report(RETURNED, ">^", 3, "000004-000005")
     equal(summed(data=report), wanted)
@@ -94,7 +94,7 @@ def in_json() -> None:
     module["on_no_line"] = 7
     equal(summed(data=report + ends("M 7", tasks=[(RETURNED[0], "AT FFFFFE")])), wanted)
     del module["not_executed"], module["on_no_line"]
-    equal(summed(data=COUNTED.counted(RETURNED, (9, 0), (0,))), {**wanted, "of": "COVERAGE COUNT"})
+    equal(summed(data=COUNTED.counted(RETURNED, (9, 0), (0,))), dict(wanted, of="COVERAGE COUNT"))
     with open(f"{TOP}/docs/SUMMARY.md", encoding="utf-8") as file:
         section = file.read().partition("## As JSON\n")[2].partition("\n## ")[0]
     names = [line.split("`")[1] for line in section.splitlines() if line.startswith("| `")]

@@ -92,7 +92,7 @@ def many() -> None:
 def lists() -> None:
     """union: files of lists, whose names end with a line or with a zero byte, in the order of the words"""
     with folder() as at:
-        names = ["a.marks", "b c.marks", "d\ne.marks", "-f.marks", b"\xff.marks"]
+        names: list[str | bytes] = ["a.marks", "b c.marks", "d\ne.marks", "-f.marks", b"\xff.marks"]
         paths = [os.fsencode(at) + b"/" + (it if isinstance(it, bytes) else it.encode()) for it in names]
         for path, data in zip(paths, (FELL, WENT, WENT, FELL, COUNTED.marks_file(0, 0, name="LAST"))):
             with open(path, "wb") as file:

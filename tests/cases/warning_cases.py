@@ -41,8 +41,8 @@ def lines_of(text: str) -> list[Line]:
     found = []
     for row in text.strip("\n").split("\n"):
         number, location, code, source = row.split(" ", 3)
-        fields = ["" if it == "-" else it.replace("_", " ") for it in (location, code)]
-        found.append(Line(int(number.rstrip("+")), *fields, source, "+" if "+" in number else " "))
+        location, code = ("" if it == "-" else it.replace("_", " ") for it in (location, code))
+        found.append(Line(int(number.rstrip("+")), location, code, source, "+" if "+" in number else " "))
     return found
 
 
@@ -291,14 +291,14 @@ def columns_off() -> None:
         for before in ("", " "):
             for number, change, told in table:
                 warns(changed(number, change, is_wide, before), told.format(NONE))
-    for change, told in (
+    for change, what in (
         (lambda it: " " + it, "its location begins at column 2, and not 1"),
         (lambda it: it[1:], "its location has 5 digits, and not 6"),
         (lambda it: it.replace("A 4740", "A  4740"), "its object code begins at column 9, and not 8"),
         (lambda it: "00000G" + it[6:], None),
     ):
-        if told:
-            warns(changed(7, change), f"line 13: {NONE}{told}")
+        if what:
+            warns(changed(7, change), f"line 13: {NONE}{what}")
         else:
             bad = f"line 13: {NONE}its columns 1 to 6 are no location of 6 hexadecimal digits with a blank behind"
             warns(changed(7, change), bad, f"00000A-00000D: 4 bytes {BARE}")

@@ -228,7 +228,7 @@ def input_of(draw: random.Random, word: str) -> Input:
     if draw.random() < 0.45:
         data = damaged(draw, data)
     if draw.random() < 0.01:
-        words = draw.choice((words + ["S"], words[:1] * 2, [it.lower() for it in words], [word[:-1]], [*words, ""], []))
+        words = draw.choice((words + ["S"], words[:1] * 2, [it.lower() for it in words], [word[:-1]], [*words, ""], words[:0]))
     return Input(words, data, answers.answer(words, data))
 
 

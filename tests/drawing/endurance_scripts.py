@@ -151,7 +151,8 @@ def united(files: dict[str, bytes]) -> tuple[int, str, bytes]:
 def union_call(draw: random.Random) -> Call:
     """`union` of files."""
     whole = endurance_inputs.files(draw)
-    files, at = {}, 0
+    files: dict[str, bytes] = {}
+    at = 0
     while at < len(whole):
         end = marks_model.file_of(whole, at).end
         files[f"f{len(files):02}.marks"], at = whole[at:end], end
@@ -241,8 +242,8 @@ def fits(script: str, text: bytes) -> Callable[[Ran, str], str | None]:
             return None if is_same else f"{had} and {left} left out, and not {[places, executed, facts, possible]}"
         if script == "cobertura":
             lines = [it for it in tree.fromstring(ran.output).iter("class")]
-            had = sum(len(it.findall("./lines/line")) for it in lines)
-            return None if had == places else f"{had} lines, and not {places}"
+            count = sum(len(it.findall("./lines/line")) for it in lines)
+            return None if count == places else f"{count} lines, and not {places}"
         if script == "lcov":
             path = next(f"{place}/coverage.info" for place, _, names in os.walk(at) if "coverage.info" in names)
             with open(path, encoding="ascii") as file:

@@ -201,7 +201,7 @@ def firsts_of(job: model.Job, phase: bytes) -> marks_model.Firsts:
     return union([it.shown for it in Runner(job).all() if it.phase == phase]).firsts
 
 
-def prove(name: bytes, data: bytes, _: bool) -> Answer:
+def prove(name: bytes, data: bytes, _has_services: bool) -> Answer:
     job = listed(data, True, named(name, True))
     _, phase, modules = session_of(job, name)
     return Answer(0, marks_model.evidence_of(modules, firsts_of(job, phase)))
@@ -217,7 +217,7 @@ def show(name: bytes, data: bytes, has_services: bool) -> Answer:
     return Answer(0, b"COVERAGE SHOW\n" + marks_model.session_part(name, phase, modules, facts_of(modules, file)) + b"END\n")
 
 
-def verify(name: bytes, data: bytes, _: bool) -> Answer:
+def verify(name: bytes, data: bytes, _has_services: bool) -> Answer:
     job = listed(data, False, named(name, True))
     _, phase, modules = session_of(job, name)
     file = marks_model.file_of(data[job.end :], 0)

@@ -181,7 +181,7 @@ def verified(name: bytes, tasks: int, file: File, data: bytes, firsts: Firsts) -
         base = int.from_bytes(row[8:12], "big") if bits is None else base
         shown = {} if bits is None else firsts.get(base + int.from_bytes(row[:4], "big"), {})
         for letter, bit in FACTS if bits is not None else ():
-            has = bool(bits & bit)
+            has = bool((bits or 0) & bit)
             if has != (bit in shown) or (has and data[at : at + 7] != entry(shown[bit])):
                 raise Refused(16, f"REFUTED ROW {number} FACT {letter}")
             at += 7 * has

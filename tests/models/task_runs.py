@@ -10,7 +10,7 @@ from dataclasses import dataclass, field, replace
 
 from fixtures.jobs import Result
 from models import machine_operations, marks_model, model, services_model
-from models.machine_task import RETURN, Task, World
+from models.machine_task import RETURN, Course, Task, World
 
 # How many instructions the tasks of a job may do together, that one can wait for.
 STEPS = 150_000
@@ -129,7 +129,9 @@ class Runner:
                 run.closed[open_[0]], open_ = done + 1, None
 
         services = self.job.services
-        course = machine_operations.leaving if services is None else services_model.Served(services)
+        course: Course = machine_operations.leaving
+        if services is not None:
+            course = services_model.Served(services)
         ending, run.count, run.at = machine_operations.run(task, budget, behind, course)
         run.result = Result(
             ending, run.count, task.condition, dict(enumerate(task.registers)), task.output, rows_of(first, task.storage), name.decode(), entry,

@@ -83,7 +83,8 @@ def summary(number: int, tasks: int) -> bytes:
     code = code_of(number)
     shown: dict[int, set[str]] = {}
     done = sum(run_task(code, task, shown) for task in range(1, tasks + 1))
-    marks = [len(shown.get(it, ())) and sorted(shown[it]) for it in code]
-    counts = [marks.count(it) for it in (0, ["ran"], ["went"], ["stayed"], ["stayed", "went"])]
+    marks = [sorted(shown.get(it, ())) for it in code]
+    none: list[str] = []
+    counts = [marks.count(it) for it in (none, ["ran"], ["went"], ["stayed"], ["stayed", "went"])]
     words = " ".join(f"{name} {count}" for name, count in zip(("NOT", "EXECUTED", "BRANCHED", "FELL", "BOTH"), counts))
     return f"COVERAGE TRIAL {number} TASKS {tasks}\nPLACES {len(code)} INSTRUCTIONS {done}\nMARKS {words}\n".encode()

@@ -44,7 +44,8 @@ def held(room: str) -> dict[str, int]:
 
 def kept_by(program: str, place: str) -> list[tuple[int, ...]]:
     """What runs of one input of each command ask for and leave."""
-    watch, found = refusals.Trial(program, place), []
+    watch = refusals.Trial(program, place)
+    found: list[tuple[int, ...]] = []
     for it in damaged_cases.commands():
         seen = watch.run(it.words, it.input)
         found.append((seen.growths, seen.elsewhere, seen.kept, seen.reads, seen.writes, seen.descriptors, seen.running, seen.threads))

@@ -102,7 +102,9 @@ class Trials:
                 seen = self.watch.run(it.words, it.data, number, kind == "growths")
             else:
                 size = draw.choice((1, 2, 100, 4095)) if "short" in kind else 0
-                seen = self.watch.run(it.words, it.data, **{kind.split()[-1]: f"{number} {size}"})
+                which = f"{number} {size}"
+                read, write = (which if kind.endswith(it) else "" for it in ("read", "write"))
+                seen = self.watch.run(it.words, it.data, read=read, write=write)
             refusals.settled(seen)
         except refusals.Fault as fault:
             return str(fault)
