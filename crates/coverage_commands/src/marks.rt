@@ -20,35 +20,22 @@ use task_services::JobRunner;
 pub fn answer_marks<T: Threads + Wait + Sync, S: Source, K: Sink, A: Areas, G: Gate + Sync>(
     host: &Host<T, G>,
     name: Name,
-    grammar: Grammar,
-    source: &mut S,
-    sink: &mut K,
+    by: Grammar,
+    from: &mut S,
+    to: &mut K,
     areas: &mut A,
 ) -> Status
     requires { A.made areas.old < 2 ^ 61 }
-    ensures { Answered S.Source A.Areas K.Sink (Marks name grammar) source.old source.new areas.old areas.new sink.old sink.new result }
+    ensures { Answered S.Source A.Areas K.Sink (Marks name by) from.old from.new areas.old areas.new to.old to.new result }
 {
-    match make_ready(
-        host.alloc,
-        source,
-        to_end(grammar),
-        &asks_session(name, false),
-    ) {
+    match make_ready(host.alloc, from, to_end(by), &asks_session(name, false)) {
         Ok(ready) => {
             let job = &ready.input.job;
             let runner = JobRunner {
                 services: job.services(),
             };
-            write_marks(
-                host,
-                &runner,
-                job,
-                &ready.tables,
-                ready.session,
-                sink,
-                areas,
-            )
+            write_marks(host, &runner, job, &ready.tables, ready.session, to, areas)
         },
-        Err(refusal) => refuse(sink, &refusal),
+        Err(refusal) => refuse(to, &refusal),
     }
 }

@@ -19,21 +19,21 @@ use task_services::JobRunner;
 pub fn answer_run<T: Threads + Wait + Sync, S: Source, K: Sink, A: Areas, G: Gate + Sync>(
     host: &Host<T, G>,
     grammar: Grammar,
-    source: &mut S,
-    sink: &mut K,
+    from: &mut S,
+    to: &mut K,
     areas: &mut A,
 ) -> Status
     requires { A.made areas.old < 2 ^ 61 }
-    ensures { Answered S.Source A.Areas K.Sink (Run grammar) source.old source.new areas.old areas.new sink.old sink.new result }
+    ensures { Answered S.Source A.Areas K.Sink (Run grammar) from.old from.new areas.old areas.new to.old to.new result }
 {
-    match make_ready(host.alloc, source, to_end(grammar), &Asked::AnyJob) {
+    match make_ready(host.alloc, from, to_end(grammar), &Asked::AnyJob) {
         Ok(ready) => {
             let job = &ready.input.job;
             let runner = JobRunner {
                 services: job.services(),
             };
-            write_report(host, &runner, job, &ready.tables, sink, areas)
+            write_report(host, &runner, job, &ready.tables, to, areas)
         },
-        Err(refusal) => refuse(sink, &refusal),
+        Err(refusal) => refuse(to, &refusal),
     }
 }
