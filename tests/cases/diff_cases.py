@@ -59,7 +59,8 @@ M in session S: 9 of 12 facts, 75 %, before; 7 of 15 facts, 46 %, now; 3 places 
 
 def written(lines: list[tuple[str, str, str]], is_wide: bool = False, before: str = "", numbered: bool = False) -> bytes:
     """The report over a listing of these statements, with their object codes and marks."""
-    texts, marks, code, at, ranges = [before + (WIDE_HEADING if is_wide else HEADING)], " ", [], 0, []
+    texts, marks, code, at = [before + (WIDE_HEADING if is_wide else HEADING)], " ", [], 0
+    ranges: list[str] = []
     for number, (source, digits, mark) in enumerate(lines, 1):
         groups = " ".join(digits[it : it + 4] for it in range(0, len(digits), 4))
         front = f"{at:08X} {groups:<35}" if is_wide else f"{at:06X} {groups:<27}"

@@ -417,7 +417,8 @@ def left_by(it: Front) -> list[str]:
 
 def seconds_words() -> None:
     """coverage: --seconds takes a whole number of them, once, behind a command of the program; a full disk has its own status"""
-    for words in (["0"], ["-1"], ["01"], ["1.5"], ["1s"], [""], ["1000000000"], []):
+    few: tuple[list[str], ...] = (["0"], ["-1"], ["01"], ["1.5"], ["1s"], [""], ["1000000000"], [])
+    for words in few:
         said = f"coverage: --seconds takes a number from 1 to 999999999, in digits, and not '{''.join(words)}'\n"
         for call in (["run", "--seconds", *words], ["run", f"--seconds={''.join(words)}"], ["marks", "S", "--seconds", *words]):
             ran = coverage(*call, data=FIRST.job())

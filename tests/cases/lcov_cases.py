@@ -104,11 +104,12 @@ def lcov_fails() -> None:
     first, long = COUNTED.report([], "V:", 3), COUNTED.listing()
     second = Program(COUNTED.code, [*long, *["x" * 100] * 40]).report([], "V:" + " " * 40, 3).replace(b"SESSION S", b"SESSION T")
     with folder() as at:
-        for earlier in ({}, {"S/M.lst": "\n".join([*long, ""]).encode()}):
-            if earlier:
+        earlier: dict[str, bytes] = {}
+        for is_again in (False, True):
+            if is_again:
                 well(coverage("lcov", "out", data=first, cwd=at))
                 with open(f"{at}/out/coverage.info", "rb") as file:
-                    earlier["coverage.info"] = file.read()
+                    earlier = {"S/M.lst": "\n".join([*long, ""]).encode(), "coverage.info": file.read()}
             # In blocks of 1,024 bytes: more than the tracefile has, and less than the listing.
             refused(run([COVERAGE, "lcov", "out"], second, at, before="ulimit -f 2"), 6, "out/T/M.lst: File too large")
             equal((bytes_below(f"{at}/out"), sorted(os.listdir(at))), (earlier, ["out"] if earlier else []))

@@ -70,8 +70,8 @@ def isolated() -> None:
         for name in ("json", "re", "common", "readers", "sitecustomize"):
             with open(f"{at}/{name}.py", "w", encoding="ascii") as file:
                 file.write("raise SystemExit(99)\n")
-        for more in ({}, {"PYTHONPATH": at}, {"PYTHONSAFEPATH": "1"}, {"PYTHONHOME": at}, {"PYTHONPATH": at, "PYTHONSAFEPATH": "1"}):
-            env = {**os.environ, **more}
+        for given in ((), ("PYTHONPATH",), ("PYTHONSAFEPATH",), ("PYTHONHOME",), ("PYTHONPATH", "PYTHONSAFEPATH")):
+            env = {**os.environ, **{it: at for it in given}}
             ran = well(run([COVERAGE, "summary", "--json"], FIRST_REPORT, at, env=env))
             assert ran.output.startswith(b'{\n  "form": "coverage summary 1",'), ran.output
             why = run([COVERAGE, "run", "json.py"], cwd=at, env=env)

@@ -29,7 +29,7 @@ SECONDS, EXPLAINING, WALL = 10.0, 2.0, 30.0
 MOMENT = 2.0
 # The statuses of all scripts and those of single ones; and of the program and what calls it.
 STATUSES, OWN = {0, 1, 2, 5, 6, 7}, {"union": {10, 11}, "summary": {81}}
-OF_PROGRAM, NOT_RETURNED, INTERRUPTED = {*range(17), 80}, 80, 130
+OF_PROGRAM, FEW_FILES, NOT_RETURNED, INTERRUPTED = {*range(17), 80}, 73, 80, 130
 # Statuses behind which standard output may have something: the whole, or a first part.
 WRITTEN = {0, 6, 81}
 # The bytes of address space that no call passes, so that one that reads without end doesn't take the machine's.
@@ -102,6 +102,7 @@ class Call:
     def statuses(self) -> set[int]:
         """Those that it may end with."""
         found = OF_PROGRAM if self.is_program else STATUSES | OWN.get(self.words[0], set())
+        found = found | ({FEW_FILES} if resource.RLIMIT_NOFILE in self.met.limits else set())
         at = self.met.signal
         return found | ({-at, 128 + at} | ({INTERRUPTED} if at == signal.SIGINT else set()) if at else set())
 
@@ -119,9 +120,9 @@ class Room:
         shutil.copy(COVERAGE, f"{room}/bin")
         os.symlink(f"{TOP}/scripts", f"{room}/lib/coverage/scripts")
         os.symlink(call.program, f"{room}/lib/coverage/coverage_program")
-        for name, it in call.files.items():
+        for name, what in call.files.items():
             with contextlib.suppress(OSError):
-                stand(f"{self.at}/{name}", it)
+                stand(f"{self.at}/{name}", what)
         if call.first:
             plain = replace(call.first, met=Met(source="file"))
             self.end(plain, self.begin(plain))
@@ -144,8 +145,8 @@ class Room:
         met, most = call.met, ROOM_OF_PROGRAM if call.is_program else ROOM_OF_SCRIPTS
 
         def ready() -> None:
-            for number in SIGNALS:
-                signal.signal(number, signal.SIG_DFL)
+            for it in SIGNALS:
+                signal.signal(it, signal.SIG_DFL)
             for number in met.closed:
                 os.close(number)
             for number, limit in {resource.RLIMIT_CORE: 0, resource.RLIMIT_AS: most, **met.limits}.items():

@@ -96,15 +96,15 @@ def module_call(draw: random.Random) -> Call:
     code = [it for it in program.code if it[0] + len(it[1]) // 2 <= len(text)]
     lines = listing_of(code, draw.random() < 0.2) if code else [HEADING]
     source = ("\n".join([*lines, ""])).encode("cp037" if draw.random() < 0.1 else "ascii")
-    files: dict[str, bytes | str] = {"object": deck(draw, text) if draw.random() < 0.7 else text, "listing": source}
+    files = {"object": deck(draw, text) if draw.random() < 0.7 else text, "listing": source}
     if draw.random() < 0.5:
-        name, data = draw.choice((("object", files["object"]), ("listing", source)))
-        files[name] = endurance_inputs.damaged(draw, bytes(data))
+        name = draw.choice(list(files))
+        files[name] = endurance_inputs.damaged(draw, files[name])
     base = draw.choice((f"{BASE:06X}", "180000", "FFE000", "100004", "FFEFF8", "0FFFF8", "1000"))
     words = ["module", *(["--strict"] if draw.random() < 0.2 else []), draw.choice(("M", "M", "ORDERS", "9X")), base, "object"]
     words += [*(["listing"] if draw.random() < 0.8 else []), *(["S2=180000"] if draw.random() < 0.2 else [])]
     words += ["--services"] if draw.random() < 0.2 else []
-    return Call(words, files, check=is_job(b"COVERJOB 1\n", b"ENDJOB\n"))
+    return Call(words, {**files}, check=is_job(b"COVERJOB 1\n", b"ENDJOB\n"))
 
 
 def job_call(draw: random.Random) -> Call:
@@ -117,7 +117,7 @@ def job_call(draw: random.Random) -> Call:
     files = {"one": b"\n".join([*own[:cut], b""]), "two": b"\n".join([*own[cut:], b""])}
     if draw.random() < 0.4:
         files["two"] = endurance_inputs.damaged(draw, files["two"])
-    return Call(["job", "one", "two"], files, check=is_job(b"", b""))
+    return Call(["job", "one", "two"], {**files}, check=is_job(b"", b""))
 
 
 def check_call(draw: random.Random) -> Call:
@@ -163,9 +163,9 @@ def union_call(draw: random.Random) -> Call:
     given: dict[str, bytes | str] = dict(files)
     words = [*files]
     if draw.random() < 0.3:
-        end = draw.choice(("\n", "\0"))
-        given["list"] = "".join(f"{it}{end}" for it in files).encode()
-        words = [*(["-0"] if end == "\0" else []), "--files-from", "list"]
+        last = draw.choice(("\n", "\0"))
+        given["list"] = "".join(f"{it}{last}" for it in files).encode()
+        words = [*(["-0"] if last == "\0" else []), "--files-from", "list"]
     words = ["union", *(["--processes", processes] if processes else []), *words]
     if processes not in ("", "1", "2"):
         return Call(words, given)
@@ -303,8 +303,8 @@ def explained_call(draw: random.Random) -> Call:
     count = min(draw.choice((3, 500, 8192, 8192)), size // length - 1)
     rows = [(at * length, code, "LR") for at in range(count)]
     at = draw.choice((0, count // 2, count - 1, count - 1))
-    other = draw.choice(("1822 LR", "1822 LR", "47F0C000 B", "18 LR", "0AFF SVC", "D2000000000000 MVC"))
-    rows[at] = (at * length, *other.split())
+    digits, name = draw.choice(("1822 LR", "1822 LR", "47F0C000 B", "18 LR", "0AFF SVC", "D2000000000000 MVC")).split()
+    rows[at] = (at * length, digits, name)
     lines = ["COVERJOB 1", f"MODULE M 100000 {size}", *[f"TEXT {64 // length * code}"] * (size // 64)]
     lines += [f"LISTING {count + 1}", *listing_of(rows), "PHASE P", "SESSION S M", "TASK A 100000 16 9 0", "ENDJOB", ""]
     data = "\n".join(lines).encode()
