@@ -509,6 +509,22 @@ def bounded_reasons() -> None:
                 equal(left_by(it), [])
 
 
+def posix_mode() -> None:
+    """coverage: a shell that is to keep to POSIX changes nothing"""
+    spent = FIRST.report([replace(FIRST_RESULT, ending="SPENT", count=2)], "::^", 3, "000006-000007")
+    short = FIRST.job("TASK A 100000 16 2 0\n")
+    for mode in ("export POSIXLY_CORRECT=1", "set -o posix; export SHELLOPTS"):
+        for words, data, status, output, said in (
+            (["run"], FIRST.job(), 0, FIRST_REPORT, ""), (["run", "--seconds", "99"], FIRST.job(), 0, FIRST_REPORT, ""),
+            (["run", "--must-return"], FIRST.job(), 0, FIRST_REPORT, ""),
+            (["run", "--must-return"], short, NOT_RETURNED, spent,
+             "coverage: not returned: A SPENT: docs/TROUBLE.md says what each ending is\n"),
+            (["run"], b"", 2, b"BAD JOB LINE 1\n", f"coverage: status 2: {NO_JOB}\n"),
+        ):
+            ran = run([COVERAGE, *words], data, before=mode)
+            equal((mode, words, ran.status, ran.output, ran.error), (mode, words, status, output, said))
+
+
 def script_words() -> None:
     """coverage: a report that is named where the scripts want it on standard input"""
     with folder() as at:
@@ -780,7 +796,7 @@ def unbuilt_words() -> None:
 
 ROWS = [*words_meant(), *cards_refused(), *listings_refused(), *marks_refused()]
 CHECKS = [
-    *map(of_row, ROWS), into_pipe, appended, streams, explains_in_time, must_return, must_return_streams, script_words, seconds,
+    *map(of_row, ROWS), into_pipe, appended, streams, explains_in_time, must_return, must_return_streams, posix_mode, script_words, seconds,
     seconds_words, few_files, signals_before_the_program, bounded_reasons, help_of_commands, statuses_and_signals,
     ignored_signal, no_python, progress, no_progress, keys_and_background, typed,
     refused_on_terminal, unbuilt_words,
