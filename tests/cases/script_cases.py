@@ -44,8 +44,11 @@ def words_and_streams() -> None:
         with open(f"{at}/report", "wb") as file:
             file.write(FIRST_REPORT)
         for words in (["page"], ["summary"], ["summary", "--json"], ["cobertura"], ["diff", "report", "report"]):
-            for redirect in (">/dev/full", ">&-"):
-                refused(coverage(*words, data=FIRST_REPORT, redirect=redirect, cwd=at), 6, "standard output")
+            for redirect in (">/dev/full", ">&-", "1</"):
+                refused(coverage(*words, data=FIRST_REPORT, redirect=redirect, cwd=at), 6, "coverage: standard output: ")
+            # Where nothing can be said.
+            for redirect in ("2>&-", "2</"):
+                assert well(coverage(*words, data=FIRST_REPORT, redirect=redirect, cwd=at)).output
     refused(coverage("module", "M", "100000", f"{EXAMPLES}/orders.object", redirect=">/dev/full"), 6, "standard output")
     refused(coverage("job", "-", data=b"PHASE P\n", redirect=">/dev/full"), 6, "standard output")
     refused(coverage("lcov", "/dev/null/x", data=FIRST_REPORT), 6, "/dev/null/x")
