@@ -8,13 +8,15 @@ import subprocess
 from fixtures.harness import TOP, equal, folder
 
 
-def meaning(top: str) -> subprocess.CompletedProcess[str]:
-    return subprocess.run([f"{top}/tests/meaning"], capture_output=True, text=True, check=False)
+def meaning(top: str, *words: str) -> subprocess.CompletedProcess[str]:
+    return subprocess.run([f"{top}/tests/meaning", *words], capture_output=True, text=True, check=False)
 
 
 def copy(at: str) -> None:
     """The script and what it reads."""
-    os.mkdir(f"{at}/tests")
+    for part in ("tests", "docs"):
+        os.mkdir(f"{at}/{part}")
+    shutil.copy2(f"{TOP}/docs/MEANING.md", f"{at}/docs/MEANING.md")
     shutil.copy2(f"{TOP}/tests/meaning", f"{at}/tests/meaning")
     for crate in os.listdir(f"{TOP}/crates"):
         for part in ("src", "specs"):
@@ -52,6 +54,32 @@ def elsewhere() -> None:
                      f"not reached: never_read crates/cov_base/specs/Meaning.antt:{last}"])
 
 
+def counts() -> None:
+    """docs/MEANING.md: the counts of its rows are those of the definitions, those of the first table are what `run` has"""
+    ran = meaning(TOP, "--commands")
+    equal((ran.returncode, ran.stderr), (0, ""))
+    had = dict(re.findall(r"^([\w, ]+): (\d+, \d+)", ran.stdout, re.M))
+    rows = [[int(number) for number in had[f"{row}"].split(", ")] for row in range(1, 11)]
+    equal(", ".join(str(sum(column)) for column in zip(*rows)), had["run"])
+    with folder() as at:
+        copy(at)
+        claim, page = pathlib.Path(at, "crates/coverage_commands/specs/Meaning.antt"), pathlib.Path(at, "docs/MEANING.md")
+        # a line and a definition more for `table` alone, and a command whose row is gone
+        case = "IsAnswerOf (Table g) r status text = "
+        text = claim.read_text("utf-8")
+        assert text.count(case) == 1
+        claim.write_text(text.replace(case, case + "Added × ") + "\nabbrev pub Added : Type 0\nAdded = Unit {0}\n", "utf-8")
+        page.write_text(re.sub(r"^\| `trial`.*\n", "", page.read_text("utf-8"), flags=re.M), "utf-8")
+        ran = meaning(at, "--commands")
+        equal(ran.returncode, 1)
+        old = had["table, ends"]
+        definitions, lines = (int(number) for number in old.split(", "))
+        wrong = [line for line in ran.stdout.split("\n") if "the page has" in line]
+        equal([re.sub(", alone [0-9, ]+", "", line) for line in wrong],
+              [f"table, ends: {definitions + 1}, {lines + 2}; the page has {old}"])
+        assert "in no row: trial_job crates/job_gen/" in ran.stdout, ran.stdout
+
+
 def widths() -> None:
     """crates: a clause has at most 120 characters, and a line of specs/Meaning*.antt 132, but for imports and texts"""
     crates = pathlib.Path(TOP, "crates")
@@ -67,4 +95,4 @@ def widths() -> None:
     assert clauses > 3000, clauses
 
 
-CHECKS = [in_place, elsewhere, widths]
+CHECKS = [in_place, elsewhere, counts, widths]
