@@ -18,11 +18,16 @@ CALLED = "./coverage" if os.path.exists(f"{TOP}/crates.txt") else "coverage"
 
 
 class Fault(Exception):
-    """Why a command ends: a place (a file and what of it), what is wrong there, and the exit status."""
+    """Why a command ends: a place (a file and what of it), what is wrong there, the exit status, and lines that tell more."""
 
-    def __init__(self, place: str, what: str, status: int = BAD_INPUT) -> None:
-        super().__init__(f"{place}: {what}")
+    def __init__(self, place: str, what: str, status: int = BAD_INPUT, lines: str = "") -> None:
+        super().__init__(one_line(f"{place}: {what}") + (lines and f"\n{lines}"))
         self.status = status
+
+
+def one_line(text: str) -> str:
+    """A text as one line: what isn't printable, as a file's name may have it, is escaped."""
+    return "".join(it if it.isprintable() else it.encode("unicode_escape").decode("ascii") for it in text)
 
 
 def read_file(path: str) -> bytes:
@@ -133,8 +138,8 @@ def run(name: str, load: Callable[[], ModuleType], words: list[str]) -> int:
         return INTERRUPTED
     except UsageError as error:
         more = f"{CALLED} {name} --help says which words it has"
-        said = [f"coverage: {error}: {more}"] if error.args else [f"{usage_of(name)}\n{told}".rstrip("\n")]
-        complain("\n".join([*said, *call_meant(name, words)]))
+        said = [one_line(f"coverage: {error}: {more}")] if error.args else [f"{usage_of(name)}\n{told}".rstrip("\n")]
+        complain("\n".join([*said, *map(one_line, call_meant(name, words))]))
         return USAGE
     except Fault as fault:
         complain(f"coverage: {fault}")

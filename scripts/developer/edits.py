@@ -136,7 +136,7 @@ def prove(at: str) -> None:
         call.end()
     if call.process.returncode:
         last = "\n".join(said[-LAST:])
-        raise Fault("the crates themselves", f"are not proved; the last lines of what the toolchain said:\n{last}", 1)
+        raise Fault("the crates themselves", "are not proved; the last lines of what the toolchain said:", 1, last)
 
 
 def attempt_all(edits: Sequence[Edit], here: bool, makes: Making) -> int:

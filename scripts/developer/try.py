@@ -62,8 +62,8 @@ def status_of(said: str) -> int:
     if came == "no-answer" and checked:
         raise Fault("no answer", checked[1], NO_ANSWER)
     if came in ("fault", "differs"):
-        raise Fault("a fault in the program", checked[1] if checked else said, FAULTY)
-    raise Fault("the toolchain gave no answer", f"its last lines:\n{said[-2000:]}", FAILED)
+        raise Fault("a fault in the program", checked[1] if checked else "the toolchain said:", FAULTY, "" if checked else said)
+    raise Fault("the toolchain gave no answer", "its last lines:", FAILED, said[-2000:])
 
 
 def is_text(words: list[str]) -> bool:

@@ -5,7 +5,7 @@ import re
 from dataclasses import dataclass
 from typing import Callable, Optional, TypeVar
 
-from common.command import BAD_INPUT, Fault, UsageError, complain, read_file, write_output
+from common.command import BAD_INPUT, Fault, UsageError, complain, one_line, read_file, write_output
 from makers.listing_warnings import Ranges, warnings_of
 from readers.cards import Broken, base_of, check_module, check_service, module_cards, name_of, service_cards
 from readers.listing import is_listing, read_listing
@@ -137,7 +137,7 @@ def exchanged(read: Callable[[str], Value], other: str) -> str:
 def warn(path: str, warnings: list[str], is_strict: bool) -> None:
     """Says what the listing seems to lack, and refuses it where that is asked for."""
     for it in warnings:
-        complain(f"coverage: warning: {it}")
+        complain(one_line(f"coverage: warning: {it}"))
     if warnings and is_strict:
         raise Fault(path, "--strict refuses what is warned of", BAD_INPUT)
 

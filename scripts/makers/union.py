@@ -288,13 +288,13 @@ class Uniting:
         front, _, offset = line.rpartition(" ")
         why = bad_marks(line, marks.data, ["combine"]) if marks.data else ["the file is empty"]
         said = "the bytes there are no marks file, or one that is cut short or damaged: docs/MARKS.md"
-        return Fault(marks.name, in_lines([f"{front} {marks.at + int(offset)}: {said}", *why]), BAD_MARKS)
+        return Fault(marks.name, f"{front} {marks.at + int(offset)}: {said}", BAD_MARKS, in_lines(why))
 
     def told_other(self, marks: Marks) -> Fault:
         """In what the table of marks is another than that of the first."""
         line = combine([self.first, marks.data]).line
         said = f"the marks are of other modules than those of {self.name}, or of another assembly of them: docs/MARKS.md"
-        return Fault(marks.name, in_lines([f"{line}: {said}", *other_table(line, ["combine"])]), OTHER_TABLE)
+        return Fault(marks.name, f"{line}: {said}", OTHER_TABLE, in_lines(other_table(line, ["combine"])))
 
     def end(self, unions: Sequence[bytes]) -> bytes:
         """The union of the first marks and of all threads' unions; or the first fault is raised."""
@@ -310,8 +310,8 @@ class Uniting:
 
 
 def in_lines(said: Sequence[str]) -> str:
-    """What is said, in lines of standard error."""
-    return "\ncoverage: ".join(said)
+    """What is said, each in a line of standard error."""
+    return "\n".join(f"coverage: {it}" for it in said)
 
 
 # On the terminal

@@ -9,7 +9,7 @@ import signal
 from dataclasses import dataclass, field
 from typing import Callable, NoReturn, Optional
 
-from common.command import CALLED
+from common.command import CALLED, one_line
 from common.commands import COMMANDS, OF_PROGRAM, calls_of
 from readers.cards import LIMITS, Broken
 from readers.job_rules import NO_SERVICES, Place, Reader
@@ -412,4 +412,4 @@ def main(words: list[str]) -> None:
         # An input that can't be read so, or in that time, has no further reason.
         return
     for it in said:
-        print(f"coverage: {it}")
+        print(one_line(f"coverage: {it}"))

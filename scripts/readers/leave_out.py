@@ -6,7 +6,7 @@ from bisect import bisect_left, bisect_right
 from dataclasses import dataclass
 from typing import Any, Iterable, Iterator, Optional
 
-from common.command import Fault, complain, read_file
+from common.command import Fault, complain, one_line, read_file
 from readers.labels import Spot, spots_of
 from readers.report import Line, Module, Report, counts_of, modules_of, places_of, ranges_of, shown
 
@@ -99,7 +99,7 @@ def leave_out(report: Report, rules: list[Rule]) -> list[Rule]:
 def tell_idle(rules: list[Rule]) -> None:
     """Says which rules name no place, as what they were written for may have moved."""
     for rule in rules:
-        complain(f"coverage: {rule.place}: no place of the report is there: {rule.text}")
+        complain(one_line(f"coverage: {rule.place}: no place of the report is there: {rule.text}"))
 
 
 def recount(module: Module) -> None:

@@ -54,6 +54,27 @@ def words_and_streams() -> None:
     refused(coverage("lcov", "/dev/null/x", data=FIRST_REPORT), 6, "/dev/null/x")
 
 
+def names_of_any_bytes() -> None:
+    """scripts: what isn't printable in a word or a file's name is escaped, so that each thing said is one line"""
+    for words, status, said in (
+        (["summary", "--leave-out", "a\nb"], 2, "a\\nb: No such file or directory"),
+        (["summary", "--leave-out", "a\x1b[31mb\u00e9"], 2, "a\\x1b[31mb\u00e9: No such file or directory"),
+        (["summary", "a\nb"], 1, "a\\nb is a word too many: ./coverage summary --help says which words it has"),
+    ):
+        ran = coverage(*words, data=FIRST_REPORT)
+        equal((ran.status, ran.output, ran.error), (status, b"", f"coverage: {said}\n"))
+    with folder() as at:
+        for name in ("a\nb", "c\rd"):
+            with open(f"{at}/{name}", "wb") as file:
+                file.write(b"* NONE\n")
+            said = name.encode("unicode_escape").decode()
+            ran = coverage("summary", "--leave-out", name, data=FIRST_REPORT, cwd=at)
+            equal(ran.error, f"coverage: {said}: line 1: no place of the report is there: '* NONE'\n")
+            ran = coverage("summary", name, data=FIRST_REPORT, cwd=at)
+            equal(ran.error.splitlines()[1:], [f"coverage: did you mean ./coverage summary < {said} ?"])
+            equal(coverage("run", name, cwd=at).error.splitlines()[1:], [f"coverage: did you mean ./coverage run < {said} ?"])
+
+
 def values_behind_equals() -> None:
     """scripts: an option's value may stand behind = too"""
     left = f"{EXAMPLES}/orders.left"
@@ -238,4 +259,7 @@ def tariff() -> None:
     assert b"\nNOT EXECUTED 0000AE-0000B7\n" in report
 
 
-CHECKS = [words_and_streams, values_behind_equals, isolated, reads_a_terminal, interrupted, interrupted_at_once, want_of_memory, examples_are_made, example_jobs, orders, palindromes, tariff]
+CHECKS = [
+    words_and_streams, names_of_any_bytes, values_behind_equals, isolated, reads_a_terminal, interrupted, interrupted_at_once,
+    want_of_memory, examples_are_made, example_jobs, orders, palindromes, tariff,
+]
