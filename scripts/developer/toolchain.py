@@ -41,11 +41,12 @@ class Call:
             if os.getppid() != parent:
                 os._exit(1)
 
-        pipe = subprocess.PIPE
-        how = {"stdin": subprocess.DEVNULL, "stdout": pipe, "stderr": subprocess.STDOUT, "start_new_session": True}
         # It is to write its lines as they come, and not a block at a time.
         env = {**os.environ, "PYTHONUNBUFFERED": "1"}
-        self.process = subprocess.Popen(words, cwd=folder, env=env, preexec_fn=begin, **how)
+        self.process = subprocess.Popen(
+            words, stdin=subprocess.DEVNULL, stdout=subprocess.PIPE, stderr=subprocess.STDOUT,
+            start_new_session=True, cwd=folder, env=env, preexec_fn=begin,
+        )
         if signal.getsignal(signal.SIGTSTP) is signal.SIG_DFL:
             signal.signal(signal.SIGTSTP, self.pause)
         self.alive.append(self)

@@ -43,7 +43,7 @@ LISTED = re.compile(rb"^SF:([A-Zand0-9]{1,8}/[A-Zand0-9]{1,8}\.lst)$", re.M)
 
 def branches(number: int, line: Line) -> list[str]:
     """The two branches of a conditional line: taken, and not taken."""
-    counts = branch_hits(line) if line.mark != "^" else ["-", "-"]
+    counts = [str(it) for it in branch_hits(line)] if line.mark != "^" else ["-", "-"]
     return [f"BRDA:{number},0,{branch},{count}" for branch, count in enumerate(counts)]
 
 

@@ -154,10 +154,10 @@ def main(words: list[str]) -> None:
     has_listing = len(words) > 3 and not GIVEN.fullmatch(words[3])
     given = addresses(words[4:] if has_listing else words[3:])
     name, base = value_of(name_of, words[0], "NAME", words[1]), value_of(base_of, words[1], "BASE", words[0])
-    it = object_from(words[2], read_file(words[2]), base, given, wants_services)
-    services = services_of(words[2], it.exports) if wants_services else {}
+    found = object_from(words[2], read_file(words[2]), base, given, wants_services)
+    services = services_of(words[2], found.exports) if wants_services else {}
     listing: Optional[list[bytes]] = None
     if has_listing:
         listing = listing_from(words[3], read_file(words[3]))
-        warn(words[3], warnings_of(words[3], listing, it.text, it.ranges), is_strict)
-    write_output(module_cards(name, base, it.text, listing) + service_cards(services))
+        warn(words[3], warnings_of(words[3], listing, found.text, found.ranges), is_strict)
+    write_output(module_cards(name, base, found.text, listing) + service_cards(services))

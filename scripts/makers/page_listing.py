@@ -50,7 +50,7 @@ class Shown:
     def kind_of(self, at: int) -> str:
         """How a line is drawn; empty where it needs no colour."""
         line = self.module.lines[at]
-        return LEFT_OUT if line.is_left_out else self.changed.get(at) or KINDS.get(line.mark, "")
+        return LEFT_OUT if line.is_left_out else self.changed.get(at, "") or KINDS.get(line.mark, "")
 
     def link(self, at: int, text: str) -> str:
         """A link to a line."""

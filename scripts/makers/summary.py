@@ -88,7 +88,7 @@ def totals_in_json(it: Totals) -> dict[str, object]:
 
 def module_in_json(report: Report, module: Module) -> dict[str, object]:
     """A module. What the report doesn't tell is left out."""
-    found = {"name": module.name, **totals_in_json(totals_of([module]))}
+    found: dict[str, object] = {"name": module.name, **totals_in_json(totals_of([module]))}
     if report.title != "COVERAGE COUNT":
         found["not_executed"] = [{"first": f"{first:06X}", "last": f"{last:06X}"} for first, last in module.ranges]
     if module.name in report.unlisted:
@@ -104,7 +104,8 @@ def in_json(report: Report, asked: Optional[Fraction], is_below: bool) -> str:
         {"name": it.name, "phase": it.phase, "modules": [module_in_json(report, module) for module in it.modules]}
         for it in report.sessions
     ]
-    found = {"form": FORM, "of": report.title, "sessions": sessions, **totals_in_json(totals_of(modules_of(report)))}
+    found: dict[str, object] = {"form": FORM, "of": report.title, "sessions": sessions}
+    found.update(totals_in_json(totals_of(modules_of(report))))
     if asked is not None:
         found["fail_under"] = {"asked": float(asked), "is_below": is_below}
     return json.dumps(found, indent=2) + "\n"

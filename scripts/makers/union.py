@@ -134,7 +134,8 @@ def opened(name: str) -> Iterator[BinaryIO]:
     try:
         if is_input and sys.stdin is None:
             raise OSError("is closed")
-        with contextlib.nullcontext(sys.stdin.buffer) if is_input else open(name, "rb") as file:
+        with contextlib.ExitStack() as ends:
+            file: BinaryIO = sys.stdin.buffer if is_input else ends.enter_context(open(name, "rb"))
             if is_output(file):
                 emptied = "" if os.fstat(1).st_size else ", which has so been emptied"
                 raise OSError(f"is the file that standard output goes to{emptied}")

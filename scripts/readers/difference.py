@@ -155,7 +155,8 @@ def shows(line: Line) -> list[str]:
     """The facts at a place, in words."""
     if line.mark in WAYS:
         return [WAYS[line.mark]]
-    return {"^": [], ":": ["executed"]}.get(line.mark, list(WAYS.values()))
+    others: dict[str, list[str]] = {"^": [], ":": ["executed"]}
+    return others.get(line.mark, list(WAYS.values()))
 
 
 def changes_at(line: Line, was: Optional[Line]) -> list[tuple[str, str, int]]:

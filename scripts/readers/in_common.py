@@ -44,8 +44,8 @@ def by_rows(one: Sequence[Hashable], other: Sequence[Hashable]) -> Pairs:
     if len(one) < 2 or len(one) * len(other) <= MOST_BITS:
         return traced(list(steps(one, other)), len(other))
     half = len(one) // 2
-    before = lengths(*list(steps(one[:half], other))[-1:], len(other))
-    behind = lengths(*list(steps(one[:half - 1:-1], other[::-1]))[-1:], len(other))
+    before = lengths(list(steps(one[:half], other))[-1], len(other))
+    behind = lengths(list(steps(one[:half - 1:-1], other[::-1]))[-1], len(other))
     cut = max(range(len(other) + 1), key=lambda at: before[at] + behind[len(other) - at])
     second = by_rows(one[half:], other[cut:])
     return by_rows(one[:half], other[:cut]) + [(half + was, cut + at) for was, at in second]

@@ -323,7 +323,7 @@ class Reader:
     def counted(self) -> Module:
         """A module's counts. In place of its listing it has a line for each place, with the location."""
         head, at = self.next(COUNTED, "line of a module's counts"), self.at - 1
-        lines = []
+        lines: list[Line] = []
         while (found := self.next_if(COUNT)) is not None:
             counts = tuple(int(it) for it in found.groups()[1:] if it is not None)
             location = int(found[1], 16)

@@ -1,4 +1,4 @@
-"""Scripts and tests as pyflakes and shellcheck (Debian's packages) read them, and tests as mypy does, for README's lowest Python."""
+"""Scripts and tests as mypy, for README's lowest Python, pyflakes and shellcheck (Debian's packages) read them."""
 from __future__ import annotations
 
 import ast
@@ -9,7 +9,7 @@ import shutil
 from fixtures.harness import TOP, Tally, folder, run, run_checks
 
 TYPES = (
-    "mypy", "--disallow-untyped-defs", "--warn-unused-ignores", "--follow-imports=silent", "--scripts-are-modules",
+    "mypy", "--disallow-untyped-defs", "--warn-unused-ignores", "--scripts-are-modules",
     "--namespace-packages", "--explicit-package-bases", "--no-error-summary",
 )
 
@@ -52,10 +52,9 @@ def syntax() -> None:
 
 
 def types() -> None:
-    """mypy: types of tests, and what the library of the lowest version has"""
-    found = [it for it in files("python3", ".py") if it.startswith("tests/")]
+    """mypy: types of scripts and tests, and what the library of the lowest version has"""
     with folder() as at:
-        says_nothing(*TYPES, "--python-version", lowest(), "--cache-dir", at, *found)
+        says_nothing(*TYPES, "--python-version", lowest(), "--cache-dir", at, *files("python3", ".py"))
 
 
 def names() -> None:
