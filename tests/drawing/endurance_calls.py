@@ -29,7 +29,9 @@ SECONDS, EXPLAINING, WALL = 10.0, 2.0, 30.0
 MOMENT = 2.0
 # The statuses of all scripts and those of single ones; and of the program and what calls it.
 STATUSES, OWN = {0, 1, 2, 5, 6, 7}, {"union": {10, 11}, "summary": {81}}
-OF_PROGRAM, FEW_FILES, NOT_RETURNED, INTERRUPTED = {*range(17), 80}, 73, 80, 130
+OF_PROGRAM, NO_FILES, NOT_RETURNED, NOT_ENDED, INTERRUPTED = {*range(17), 80}, 73, 80, 83, 130
+# What may end a command of the program before it has ended; none takes as long as the other.
+SHORT, LONG = ["--seconds", "1"], ["--seconds", "99"]
 # Statuses behind which standard output may have something: the whole, or a first part.
 WRITTEN = {0, 6, 81}
 # The bytes of address space that no call passes, so that one that reads without end doesn't take the machine's.
@@ -102,7 +104,10 @@ class Call:
     def statuses(self) -> set[int]:
         """Those that it may end with."""
         found = OF_PROGRAM if self.is_program else STATUSES | OWN.get(self.words[0], set())
-        found = found | ({FEW_FILES} if resource.RLIMIT_NOFILE in self.met.limits else set())
+        if resource.RLIMIT_NOFILE in self.met.limits:
+            found = found | {NO_FILES}
+        if self.words[-2:] == SHORT:
+            found = found | {NOT_ENDED}
         at = self.met.signal
         return found | ({-at, 128 + at} | ({INTERRUPTED} if at == signal.SIGINT else set()) if at else set())
 
@@ -307,6 +312,8 @@ def is_told(error: str) -> bool:
 def fault_in_answer(call: Call, ran: Ran) -> str | None:
     """What is wrong with the answer of a command of the program."""
     assert call.answer
+    if ran.status == NOT_ENDED:
+        return f"status {ran.status}, with an output" if ran.output else None
     is_late = any(re.match(rb"TASK \S+ (?!RETURNED )", it) for it in ran.output.split(b"\n"))
     if "--must-return" in call.words and ran.status in (0, NOT_RETURNED):
         if (ran.status == NOT_RETURNED) != is_late:

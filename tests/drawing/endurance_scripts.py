@@ -15,7 +15,7 @@ import xml.etree.ElementTree as tree
 from typing import Callable
 
 from drawing import endurance_inputs, services_inputs
-from drawing.endurance_calls import EXPLAINING, FOLDER, PIPE, Call, Met, Ran, fault_of, nothing
+from drawing.endurance_calls import EXPLAINING, FOLDER, LONG, PIPE, SHORT, Call, Met, Ran, fault_of, nothing
 from drawing.operands import BASE
 from drawing.programs import Writer
 from fixtures import decks
@@ -293,6 +293,8 @@ def program_call(draw: random.Random) -> Call:
         it = endurance_inputs.drawn(draw)
     is_late = it.words in (["run"], ["exits"], ["early"], ["services", "run"]) and draw.random() < 0.3
     words, source = [*it.words, *(["--must-return"] if is_late else [])], draw.choice(("pipe", "file"))
+    if it.answer.status != 1 and draw.random() < 0.2:
+        words += draw.choice((SHORT, LONG, LONG))
     return Call(words, data=it.data, answer=it.answer, is_program=True, met=Met(source=source))
 
 
