@@ -147,7 +147,7 @@ def put_list(at: str, places: set[str]) -> None:
 def take_away(at: str, places: set[str]) -> None:
     """Removes files, and then the program's own folders where they are empty."""
     for place in places:
-        with writing(f"{at}/{place}"), contextlib.suppress(FileNotFoundError):
+        with writing(f"{at}/{place}"), contextlib.suppress(FileNotFoundError, NotADirectoryError):
             os.remove(f"{at}/{place}")
     folders = {place[:cut] for place in places for cut, it in enumerate(place) if it == "/"}
     for folder in sorted(folders, reverse=True):

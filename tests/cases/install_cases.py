@@ -226,6 +226,12 @@ def is_cut_off() -> None:
         assert not os.path.exists(f"{it.at}/b/bin/coverage")
         well(it.call("install", "b"))
         equal(bytes_below(f"{it.at}/b"), had)
+        # What stands where a folder is wanted is another's, and is in the way of no --uninstall.
+        os.makedirs(f"{it.at}/c/share")
+        it.write("c/share/man", "another's")
+        refused(it.call("install", "c"), 6, "/c/share/man/man1/coverage.1: File exists\n")
+        well(it.call("install", "--uninstall", "c"))
+        equal(bytes_below(f"{it.at}/c"), {"share/man": b"another's"})
 
 
 # The manual page
